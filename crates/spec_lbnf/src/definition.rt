@@ -1,0 +1,32 @@
+//! The definitions of a grammar file, as they are written.
+use spec_grammar::Label;
+use spec_text::Name;
+use sqlite_items::Items;
+
+/// A category: a name inside so many list brackets.
+#[derive(Debug, Drop)]
+pub struct CatName {
+    pub name: Name,
+    pub depth: u8,
+}
+
+/// An item of a right side: a category, or a word of one byte or more.
+#[derive(Debug, Drop)]
+pub enum RawItem {
+    Cat(CatName),
+    Word(Name),
+}
+
+/// A rule as it is written: `label . cat ::= items`.
+#[derive(Debug, Drop)]
+pub struct RawRule {
+    pub label: Label,
+    pub cat: CatName,
+    pub items: Items<RawItem>,
+}
+
+/// A definition of a grammar file.
+#[derive(Debug, Drop)]
+pub enum Def {
+    Rule(RawRule),
+}

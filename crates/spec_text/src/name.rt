@@ -1,0 +1,38 @@
+//! Names and words of a grammar. Each is UTF-8, since automata over bytes rest on it.
+ghost use Rattle.std.specs.Prelude.{◌≡◌, IsUtf8};
+
+use std::marker::Model;
+
+/// A name or a word, seen as its list of bytes, which are UTF-8.
+#[derive(Debug, Drop)]
+pub struct Name {
+    bytes: Vec<u8>,
+}
+
+impl Model for Name {
+    ghost use Rattle.std.specs.Prelude.{List, ℕ, IsUtf8};
+
+    ghost Value = { List ℕ };
+
+    ghost view = { λ n. n.bytes.items };
+
+    ghost invariant = { λ n. ∥ IsUtf8 n.bytes.items ∥₁ };
+}
+
+impl Name {
+    /// The name of these bytes. It takes no memory: the vector is kept.
+    pub fn of(bytes: Vec<u8>) -> Name
+        requires { IsUtf8 bytes.items }
+        ensures { result ≡ bytes.items }
+    {
+        Name { bytes }
+    }
+
+    /// The bytes of the name.
+    pub fn as_slice(&self) -> &[u8]
+        ensures bytes { result.now ≡ self.now }
+        ensures utf8 { ∥ IsUtf8 self.now ∥₁ }
+    {
+        self.bytes.as_slice()
+    }
+}
