@@ -1,0 +1,35 @@
+-- The session of an input: the replies to its commands in order, and its last line. It knows a grammar and texts alone.
+use Rattle.std.specs.Prelude.{◌≡◌, ℕ, List, [], ◌∷◌, ◌++◌, codes, decimal}
+use Rattle.spec_lbnf.specs.Expansion.{Expansion}
+use Rattle.spec_session.specs.Script.{Command, header, grammar, Ending, ended, broken, Begins, IsScript}
+use Rattle.spec_session.specs.Replies.{as_line, IsAccepted, IsRefused, grammar_reply, IsReply, texts_after}
+
+-- the bytes are the replies to the commands, in order
+abbrev pub AreReplies : Expansion → List (List ℕ) → List Command → List ℕ → Type 0
+AreReplies g texts [] out = out ≡ []
+AreReplies g texts (command ∷ commands) out =
+    (line : List ℕ) × (rest : List ℕ) × IsReply g texts command line × (out ≡ line ++ rest)
+    × AreReplies g (texts_after texts command) commands rest
+
+-- the last line of a session
+abbrev pub last_line : Ending → List ℕ
+last_line ended = as_line (codes "end")
+last_line (broken at) = as_line (codes "script refused " ++ decimal at)
+
+-- the status of a session that goes to the script's end: 0, or 3 where the script is broken
+abbrev pub last_status : Ending → ℕ
+last_status ended = 0
+last_status (broken at) = 3
+
+-- the bytes are the replies to all the commands, where the grammar, if there is one, is accepted; the header has none
+abbrev pub AreAllReplies : List Command → List ℕ → Type 0
+AreAllReplies (header ∷ grammar block ∷ commands) out =
+    (g : Expansion) × (replies : List ℕ) × IsAccepted block g × AreReplies g [] commands replies
+    × (out ≡ grammar_reply g ++ replies)
+AreAllReplies commands out = out ≡ []
+
+-- the session of the input writes these bytes and ends with this status: it ends at a grammar that is refused,
+-- with its line alone and status 2; else it goes to the script's end
+pub data IsSession (input out : List ℕ) (status : ℕ) : Type 0 where
+  refused : (block rest : List ℕ) (at : ℕ) → Begins 0 input (header ∷ grammar block ∷ []) at rest → IsRefused block out → status ≡ 2 → IsSession input out status
+  whole : (commands : List Command) (ending : Ending) (replies : List ℕ) → IsScript input commands ending → AreAllReplies commands replies → out ≡ replies ++ last_line ending → status ≡ last_status ending → IsSession input out status
