@@ -4,7 +4,6 @@ ghost use Rattle.std.specs.Prelude.{◌≡◌, ℕ, ◌+◌, ◌-◌, ◌<◌, �
 ghost use Rattle.cyk_io.specs.Causes.{HasCause};
 ghost use Rattle.cyk_io.specs.NextByte.{TakesNext};
 ghost use Rattle.cyk_io.specs.Streams.{IsAtEnd, Stays, coming};
-ghost use Rattle.cyk_io.specs.declared.ahead.TheConstants.{MAX_AHEAD};
 
 use crate::{Failed, Source};
 use std::marker::Model;
@@ -54,7 +53,7 @@ impl Ahead {
     /// How many bytes of the input were taken: the offset of the next byte. At most 4,096 bytes are held from there on.
     pub fn offset(&self) -> u64
         ensures offset { result ≡ self.now.offset }
-        ensures fits { length self.now.held ≤ 4096 }
+        ensures fits { length self.now.held ≤ MAX_AHEAD }
     {
         self.offset
     }
