@@ -1,0 +1,5 @@
+pub mod ListLemmas
+pub mod StreamLemmas
+pub mod AheadLemmas
+pub mod BlockLemmas
+pub mod MemoryLemmas

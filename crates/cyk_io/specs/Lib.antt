@@ -1,0 +1,7 @@
+pub mod Streams
+pub mod Causes
+pub mod Lines
+pub mod Blocks
+pub mod Pieces
+pub mod NextByte
+pub mod KeptBytes
