@@ -11,6 +11,8 @@ mod pieces;
 mod sink;
 mod source;
 mod standard;
+#[cfg(test)]
+mod tests;
 
 pub use ahead::Ahead;
 pub use block::{ReadBlock, read_exact_n};
