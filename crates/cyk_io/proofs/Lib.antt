@@ -3,3 +3,4 @@ pub mod StreamLemmas
 pub mod AheadLemmas
 pub mod BlockLemmas
 pub mod MemoryLemmas
+pub mod AnswerLaws
