@@ -26,6 +26,13 @@ BlockFails count keep from ahead old new left Read =
 BlockFails count keep from ahead old new left Write = ⊥
 BlockFails count keep from ahead old new left Memory = Stays old new × (count ≤ keep) × (ahead.offset ≡ from)
 
+-- where the bytes that come are told, some answer describes a read of a block
+abbrev pub EachBlockHasAnAnswer : Type 0
+EachBlockHasAnAnswer =
+    (count keep from : ℕ) (told : List ℕ)
+    → (answer : ReadBlock) × (to : ℕ) × (new : Option (List ℕ)) × (into : List ℕ)
+    × BlockReads count keep from to (Some told) new into answer
+
 -- where the bytes that come are told, two reads of a block give the same answer, and the same rest and offset
 abbrev pub EachBlockHasOneAnswer : Type 0
 EachBlockHasOneAnswer =

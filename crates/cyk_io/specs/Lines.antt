@@ -39,7 +39,7 @@ abbrev pub EachLineHasAnAnswer : Type 0
 EachLineHasAnAnswer =
     (most from : ℕ) (told : List ℕ)
     → (answer : ReadLine) × (to : ℕ) × (new : Option (List ℕ)) × (line : List ℕ)
-      × LineReads most from to (Some told) new line answer
+    × LineReads most from to (Some told) new line answer
 
 -- where the bytes that come are told, two reads of a line give the same answer, and the same line, rest and offset
 abbrev pub EachLineHasOneAnswer : Type 0

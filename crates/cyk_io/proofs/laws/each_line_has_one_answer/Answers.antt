@@ -1,4 +1,4 @@
-use Rattle.cyk_io.proofs.AnswerLaws.{each_line_has_an_answer, each_line_has_one_answer}
+use Rattle.cyk_io.proofs.LinesLemmas.{each_line_has_an_answer, each_line_has_one_answer}
 use Rattle.cyk_io.proofs.laws.each_line_has_one_answer.Goals as goal
 
 pub returns-clause-some : goal.returns-clause-some
