@@ -45,25 +45,25 @@ module _ (count keep from : ℕ) (told : List ℕ) where
       (refl, same.1, moved ∙ sym moved_other)
   one_block Kept Skipped to to_other new new_other into other (takes, whole, fits, moved) (block, long, empty, moved_other) =
       absurd (omega arith)
-  one_block Kept (Ended at) to to_other new new_other into other (takes, whole, fits, moved) (bytes, takes_other, at_end, fewer, place, moved_other) =
+  one_block Kept (Ended at) to to_other new new_other into other (takes, whole, fits, moved) (bytes, takes_other, at_end, fewer, found, moved_other) =
       absurd (not_block_and_ended new new_other into bytes takes whole takes_other at_end fewer)
   one_block Skipped Kept to to_other new new_other into other (block, long, empty, moved) (takes, whole, fits, moved_other) =
       absurd (omega arith)
   one_block Skipped Skipped to to_other new new_other into other (block, long, empty, moved) (block_other, long_other, empty_other, moved_other) =
       let same = same_taken told block.0 block_other.0 new new_other block.1 block_other.1 (block.2 ∙ sym block_other.2) in
       (refl, same.1, moved ∙ sym moved_other)
-  one_block Skipped (Ended at) to to_other new new_other into other (block, long, empty, moved) (bytes, takes_other, at_end, fewer, place, moved_other) =
+  one_block Skipped (Ended at) to to_other new new_other into other (block, long, empty, moved) (bytes, takes_other, at_end, fewer, found, moved_other) =
       absurd (not_block_and_ended new new_other block.0 bytes block.1 block.2 takes_other at_end fewer)
-  one_block (Ended at) Kept to to_other new new_other into other (bytes, takes, at_end, fewer, place, moved) (takes_other, whole, fits, moved_other) =
+  one_block (Ended at) Kept to to_other new new_other into other (bytes, takes, at_end, fewer, found, moved) (takes_other, whole, fits, moved_other) =
       absurd (not_block_and_ended new_other new other bytes takes_other whole takes at_end fewer)
-  one_block (Ended at) Skipped to to_other new new_other into other (bytes, takes, at_end, fewer, place, moved) (block, long, empty, moved_other) =
+  one_block (Ended at) Skipped to to_other new new_other into other (bytes, takes, at_end, fewer, found, moved) (block, long, empty, moved_other) =
       absurd (not_block_and_ended new_other new block.0 bytes block.1 block.2 takes at_end fewer)
-  one_block (Ended at) (Ended at_other) to to_other new new_other into other (bytes, takes, at_end, fewer, place, moved) (bytes_other, takes_other, at_end_other, fewer_other, place_other, moved_other) =
+  one_block (Ended at) (Ended at_other) to to_other new new_other into other (bytes, takes, at_end, fewer, found, moved) (bytes_other, takes_other, at_end_other, fewer_other, found_other, moved_other) =
       let lengths : length bytes ≡ length bytes_other =
       sym (length-at_end told bytes new takes at_end) ∙ length-at_end told bytes_other new_other takes_other at_end_other in
       let same = same_taken told bytes bytes_other new new_other takes takes_other lengths in
-      let places : at ≡ at_other = omega arith in
-      (ap Ended places, same.1, omega arith)
+      let offsets : at ≡ at_other = omega arith in
+      (ap Ended offsets, same.1, omega arith)
 
 pub each_block_has_one_answer : EachBlockHasOneAnswer
 each_block_has_one_answer count keep from told = one_block count keep from told

@@ -61,7 +61,7 @@ module _ (most from : ℕ) (told : List ℕ) where
       (to to_other at : ℕ) (new new_other : Option (List ℕ)) (line other : List ℕ)
       → LineReads most from to (Some told) new line Line
       → LineReads most from to_other (Some told) new_other other (LongLine at) → ⊥
-  not_line_and_long to to_other at new new_other line other (takes, is_line, moved) (last, takes_other, no_lf, full, place, moved_other) =
+  not_line_and_long to to_other at new new_other line other (takes, is_line, moved) (last, takes_other, no_lf, full, found, moved_other) =
       let behind = behind_lf told line new takes in
       let behind_other = takes_other told refl in
       let within : length line ≤ most = is_line.1 in
@@ -73,7 +73,7 @@ module _ (most from : ℕ) (told : List ℕ) where
       (to to_other at : ℕ) (new new_other : Option (List ℕ)) (line other : List ℕ)
       → LineReads most from to (Some told) new line Line
       → LineReads most from to_other (Some told) new_other other (Ended at) → ⊥
-  not_line_and_ended to to_other at new new_other line other (takes, is_line, moved) (takes_other, at_end, is_other, place, moved_other) =
+  not_line_and_ended to to_other at new new_other line other (takes, is_line, moved) (takes_other, at_end, is_other, found, moved_other) =
       let behind = behind_lf told line new takes in
       let behind_other = takes_other told refl in
       let all : length told ≡ length other = length-at_end told other new_other takes_other at_end in
@@ -86,7 +86,7 @@ module _ (most from : ℕ) (told : List ℕ) where
       (to to_other at at_other : ℕ) (new new_other : Option (List ℕ)) (line other : List ℕ)
       → LineReads most from to (Some told) new line (LongLine at)
       → LineReads most from to_other (Some told) new_other other (Ended at_other) → ⊥
-  not_long_and_ended to to_other at at_other new new_other line other (last, takes, no_lf, full, place, moved) (takes_other, at_end, is_other, place_other, moved_other) =
+  not_long_and_ended to to_other at at_other new new_other line other (last, takes, no_lf, full, found, moved) (takes_other, at_end, is_other, found_other, moved_other) =
       let behind = takes told refl in
       let all : length told ≡ length other = length-at_end told other new_other takes_other at_end in
       let within : length other ≤ most = is_other.1 in
@@ -111,25 +111,25 @@ module _ (most from : ℕ) (told : List ℕ) where
       absurd (not_line_and_ended to to_other at new new_other line other reads reads_other)
   one_line (LongLine at) Line to to_other new new_other line other reads reads_other =
       absurd (not_line_and_long to_other to at new_other new other line reads_other reads)
-  one_line (LongLine at) (LongLine at_other) to to_other new new_other line other (last, takes, no_lf, full, place, moved) (last_other, takes_other, no_lf_other, full_other, place_other, moved_other) =
+  one_line (LongLine at) (LongLine at_other) to to_other new new_other line other (last, takes, no_lf, full, found, moved) (last_other, takes_other, no_lf_other, full_other, found_other, moved_other) =
       let lengths : length line ≡ length other = omega arith in
       let lengths_with_last : length (line ++ last ∷ []) ≡ length (other ++ last_other ∷ []) =
       omega (arith, length-append line (last ∷ []), length-append other (last_other ∷ [])) in
       let same = same_taken told (line ++ last ∷ []) (other ++ last_other ∷ []) new new_other takes takes_other lengths_with_last in
       let lines = same_fronts line other (last ∷ []) (last_other ∷ []) lengths same.0 in
-      (ap LongLine (place ∙ sym place_other), lines.0, same.1, omega arith)
+      (ap LongLine (found ∙ sym found_other), lines.0, same.1, omega arith)
   one_line (LongLine at) (Ended at_other) to to_other new new_other line other reads reads_other =
       absurd (not_long_and_ended to to_other at at_other new new_other line other reads reads_other)
   one_line (Ended at) Line to to_other new new_other line other reads reads_other =
       absurd (not_line_and_ended to_other to at new_other new other line reads_other reads)
   one_line (Ended at) (LongLine at_other) to to_other new new_other line other reads reads_other =
       absurd (not_long_and_ended to_other to at_other at new_other new other line reads_other reads)
-  one_line (Ended at) (Ended at_other) to to_other new new_other line other (takes, at_end, is_line, place, moved) (takes_other, at_end_other, is_other, place_other, moved_other) =
+  one_line (Ended at) (Ended at_other) to to_other new new_other line other (takes, at_end, is_line, found, moved) (takes_other, at_end_other, is_other, found_other, moved_other) =
       let lengths : length line ≡ length other =
       sym (length-at_end told line new takes at_end) ∙ length-at_end told other new_other takes_other at_end_other in
       let same = same_taken told line other new new_other takes takes_other lengths in
-      let places : at ≡ at_other = omega arith in
-      (ap Ended places, same.0, same.1, omega arith)
+      let offsets : at ≡ at_other = omega arith in
+      (ap Ended offsets, same.0, same.1, omega arith)
 
 pub each_line_has_one_answer : EachLineHasOneAnswer
 each_line_has_one_answer most from told = one_line most from told

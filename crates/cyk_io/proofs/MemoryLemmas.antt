@@ -24,9 +24,9 @@ pub at_end_copied :
 at_end_copied bytes at n none len told is =
     let rest : List ℕ = take (length bytes - at) (drop at bytes) in
     let empty : drop at bytes ≡ [] = sym (take_rest bytes at) ∙ nil_of_length rest len in
-    let place : at + n ≡ at = omega arith in
+    let same_offset : at + n ≡ at = omega arith in
     let same : drop (at + n) bytes ≡ told = cc in
-    sym same ∙ ap (λ k. drop k bytes) place ∙ empty
+    sym same ∙ ap (λ k. drop k bytes) same_offset ∙ empty
 
 -- a piece of a slice has room if the slice has
 pub room_of_piece :

@@ -63,7 +63,7 @@ Reads-append old new (Ok n) front rest room (within, takes, end) =
     let same : take n (front ++ rest) ≡ take n front = take-append-le n front rest within in
     (fits, rw same takes, λ none some. end none (room some))
 
--- a place within the bytes goes on by what was written of the rest
+-- an offset within the bytes goes on by what was written of the rest
 pub within_written :
     (at n : ℕ) (bytes : List ℕ) → at ≤ length bytes → n ≤ length (take (length bytes - at) (drop at bytes))
     → at + n ≤ length bytes

@@ -19,7 +19,8 @@ BlockReads count keep from to old new into (Ended at) =
     × (at ≡ from + length bytes) × (to ≡ at)
 
 -- a read failed within the block, or memory ran out before anything was taken
-abbrev pub BlockFails : ℕ → ℕ → ℕ → ReadAhead → Option (List ℕ) → Option (List ℕ) → Option (List ℕ) → IoFault → Type 0
+abbrev pub BlockFails :
+    ℕ → ℕ → ℕ → ReadAhead → Option (List ℕ) → Option (List ℕ) → Option (List ℕ) → IoFault → Type 0
 BlockFails count keep from ahead old new left Read =
     (bytes : List ℕ) × Takes old left bytes × (length bytes < count) × (ahead.held ≡ [])
     × (ahead.offset ≡ from + length bytes)
