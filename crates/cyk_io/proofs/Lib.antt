@@ -1,5 +1,6 @@
 pub mod ListLemmas
-pub mod StreamLemmas
+pub mod StreamsLemmas
 pub mod AheadLemmas
-pub mod BlockLemmas
+pub mod LinesLemmas
+pub mod BlocksLemmas
 pub mod MemoryLemmas

@@ -1,5 +1,5 @@
 -- What a read of a line finds in the bytes that come. A line ends before its LF, the byte 10.
-use Rattle.std.specs.Prelude.{◌≡◌, ◌≢◌, ℕ, ◌+◌, ◌≤◌, List, [], ◌∷◌, ◌++◌, length, Option}
+use Rattle.std.specs.Prelude.{◌≡◌, ◌≢◌, ℕ, ◌+◌, ◌≤◌, List, [], ◌∷◌, ◌++◌, length, Option, Some}
 use Rattle.std.specs.List.{All}
 use Rattle.cyk_io.specs.declared.fault.IoFault.{IoFault}
 use Rattle.cyk_io.specs.declared.fault.IoFault.TheVariants.{Read, Write, Memory}
@@ -33,3 +33,19 @@ LineFails most from ahead old left line Read =
     × (ahead.offset ≡ from + length line)
 LineFails most from ahead old left line Write = ⊥
 LineFails most from ahead old left line Memory = ⊥
+
+-- where the bytes that come are told, some answer describes a read of a line
+abbrev pub EachLineHasAnAnswer : Type 0
+EachLineHasAnAnswer =
+    (most from : ℕ) (told : List ℕ)
+    → (answer : ReadLine) × (to : ℕ) × (new : Option (List ℕ)) × (line : List ℕ)
+    × LineReads most from to (Some told) new line answer
+
+-- where the bytes that come are told, two reads of a line give the same answer, and the same line, rest and offset
+abbrev pub EachLineHasOneAnswer : Type 0
+EachLineHasOneAnswer =
+    (most from : ℕ) (told : List ℕ) (answer other : ReadLine) (to to_other : ℕ)
+    (new new_other : Option (List ℕ)) (line line_other : List ℕ)
+    → LineReads most from to (Some told) new line answer
+    → LineReads most from to_other (Some told) new_other line_other other
+    → (answer ≡ other) × (line ≡ line_other) × (new ≡ new_other) × (to ≡ to_other)

@@ -29,7 +29,11 @@ impl Model for Ahead {
 
     ghost Value = { ReadAhead };
 
-    ghost view = { λ a. record { held = take (a.end - a.start) (drop a.start a.buffer); offset = a.offset; ended = a.ended } };
+    ghost view = { λ a. record {
+      held = take (a.end - a.start) (drop a.start a.buffer);
+      offset = a.offset;
+      ended = a.ended;
+    } };
 
     ghost invariant = { λ a. (a.start ≤ a.end) × (a.end ≤ MAX_AHEAD) };
 }
@@ -142,7 +146,8 @@ pub(crate) fn next_byte<S: Source>(source: &mut S, ahead: &mut Ahead) -> Result<
         (λ next. TakesNext (coming ahead.old (S.left source.old)) (coming ahead.new (S.left source.new)) next)
         (λ _. Stays (coming ahead.old (S.left source.old)) (coming ahead.new (S.left source.new))) }
     ensures offset { MatchResult result
-        (λ next. MatchOption next (ahead.new.offset ≡ ahead.old.offset) (λ _. ahead.new.offset ≡ ahead.old.offset + 1))
+        (λ next. MatchOption next (ahead.new.offset ≡ ahead.old.offset)
+        (λ _. ahead.new.offset ≡ ahead.old.offset + 1))
         (λ _. ahead.new.offset ≡ ahead.old.offset) }
     ensures err { OnErr result (ahead.new.held ≡ []) }
 {

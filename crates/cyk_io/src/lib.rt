@@ -5,16 +5,20 @@
 mod ahead;
 mod block;
 mod fault;
+mod laws;
 mod line;
 mod memory;
 mod pieces;
 mod sink;
 mod source;
 mod standard;
+#[cfg(test)]
+mod tests;
 
 pub use ahead::Ahead;
 pub use block::{ReadBlock, read_exact_n};
 pub use fault::IoFault;
+pub use laws::{each_block_has_one_answer, each_line_has_one_answer};
 pub use line::{Line, ReadLine, read_line};
 pub use memory::{CleanSink, CleanSource};
 pub use pieces::{ByteSink, ByteSource};

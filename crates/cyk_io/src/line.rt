@@ -59,12 +59,12 @@ impl<const N: usize> Line<N> {
     }
 }
 
-/// What a read of a line found. Places are offsets in bytes from the start of the input.
+/// What a read of a line found. Offsets are in bytes from the start of the input.
 #[derive(Clone, Copy, Debug, PartialEq, Eq)]
 pub enum ReadLine {
     /// A line, which is taken with its LF.
     Line,
-    /// More bytes with no LF than a line may have. It names the place of the first of them.
+    /// More bytes with no LF than a line may have. It names the offset of the first of them.
     LongLine(u64),
     /// The input ends with no LF. It names the input's length.
     Ended(u64),

@@ -56,7 +56,13 @@ impl Model for ByteSource {
 
     ghost Value = { InPieces };
 
-    ghost view = { λ s. record { bytes = s.bytes; piece = s.piece; fail_at = s.plan.fail_at.items; calls = s.plan.calls; faults = s.plan.faults } };
+    ghost view = { λ s. record {
+      bytes = s.bytes;
+      piece = s.piece;
+      fail_at = s.plan.fail_at.items;
+      calls = s.plan.calls;
+      faults = s.plan.faults;
+    } };
 
     ghost invariant = { λ s. 0 < s.piece };
 }
@@ -111,7 +117,13 @@ impl Model for ByteSink {
 
     ghost Value = { InPieces };
 
-    ghost view = { λ s. record { bytes = s.bytes; piece = s.piece; fail_at = s.plan.fail_at.items; calls = s.plan.calls; faults = s.plan.faults } };
+    ghost view = { λ s. record {
+      bytes = s.bytes;
+      piece = s.piece;
+      fail_at = s.plan.fail_at.items;
+      calls = s.plan.calls;
+      faults = s.plan.faults;
+    } };
 
     ghost invariant = { λ s. 0 < s.piece };
 }

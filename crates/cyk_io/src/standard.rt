@@ -1,7 +1,8 @@
 //! A source over any reader of std and a sink over any writer. They tell no bytes, since no contract can say what a
 //! file or a terminal gives or takes, and count the faults that std reports.
-ghost use Rattle.std.specs.Prelude.{◌≡◌, ℕ, ◌≤◌};
-ghost use Rattle.cyk_io.specs.Causes.{HasRisen};
+ghost use Rattle.std.specs.Prelude.{◌≡◌, ℕ, ◌≤◌, IfErr, IsErrOf};
+ghost use Rattle.cyk_io.specs.Causes.{HasCause, HasRisen};
+ghost use Rattle.cyk_io.specs.Streams.{Writes};
 
 use crate::{Failed, Sink, SinkFault, Source};
 use std::io::{Read, Write};
@@ -76,6 +77,7 @@ impl<W: Write + Drop> StdSink<W> {
     fn fail(&mut self) -> SinkFault
         ensures later { self.old ≤ self.new }
         ensures cause { HasRisen self.old self.new }
+        ensures err { result ≡ SinkFault.Failed }
     {
         self.faults = self.faults.saturating_add(1);
         SinkFault::Failed
@@ -89,7 +91,11 @@ impl<W: Write + Drop> Sink for StdSink<W> {
 
     ghost faults = { λ faults. faults };
 
-    fn write(&mut self, from: &[u8]) -> Result<usize, SinkFault> {
+    fn write(&mut self, from: &[u8]) -> Result<usize, SinkFault>
+        ensures bytes { Writes None None result from.now }
+        ensures cause { HasCause self.old self.new (IsErrOf result SinkFault.Failed) }
+        ensures err { IfErr result (λ fault. fault ≡ SinkFault.Failed) }
+    {
         let Ok(count) = self.writer.write(from) else {
             return Err(self.fail());
         };

@@ -1,8 +1,8 @@
 use Rattle.std.proofs.Common.{arith, take, ◌++◌}
 use Rattle.cyk_io.specs.Streams.{coming}
 use Rattle.cyk_io.proofs.AheadLemmas.{takes_held}
-use Rattle.cyk_io.proofs.BlockLemmas.{kept_more-append, rest_of_block}
-use Rattle.cyk_io.proofs.StreamLemmas.{Takes-append, Takes-stays}
+use Rattle.cyk_io.proofs.BlocksLemmas.{kept_more-append, rest_of_block}
+use Rattle.cyk_io.proofs.StreamsLemmas.{Takes-append, Takes-stays}
 use Rattle.cyk_io.proofs.block.read_exact_n.Goals as goal
 
 pub loop-rest-preserved : goal.loop-rest-preserved

@@ -1,5 +1,5 @@
 use Rattle.std.proofs.Common.{arith}
-use Rattle.cyk_io.proofs.StreamLemmas.{Grows-rest, within_written}
+use Rattle.cyk_io.proofs.StreamsLemmas.{Grows-rest, within_written}
 use Rattle.cyk_io.proofs.sink.write_all_counted.Goals as goal
 
 pub loop-at-preserved : goal.loop-at-preserved

@@ -2,7 +2,7 @@ use Rattle.std.proofs.Common.{◌-◌, ◌≤◌, length, take}
 use Rattle.cyk_io.specs.Streams.{Grows}
 use Rattle.cyk_io.proofs.sink.write_all_counted.Given as goal
 
--- the bytes before the place are written
+-- the bytes before the offset are written
 abbrev pub invariant-loop-at : goal.invariant-loop-at
 invariant-loop-at g l = record {
   within : l.at ≤ length l.bytes;

@@ -1,5 +1,6 @@
 use Rattle.std.proofs.Common.{Some, ap, drop}
-use Rattle.cyk_io.proofs.MemoryLemmas.{Reads-append, room_of_piece}
+use Rattle.cyk_io.proofs.MemoryLemmas.{room_of_piece}
+use Rattle.cyk_io.proofs.StreamsLemmas.{Reads-append}
 use Rattle.cyk_io.proofs.pieces.ByteSourceSource.read.Goals as goal
 
 pub returns-clause-bytes : goal.returns-clause-bytes
