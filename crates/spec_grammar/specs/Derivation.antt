@@ -11,7 +11,8 @@ module _ (rules : List Rule) (kinds : List (Option ℕ)) where
     -- the tree is a parse tree of the symbol over the tokens from i up to j
     pub IsParseTree : Tree → Symbol → ℕ → ℕ → Type 0
     IsParseTree (leaf kind first end) s i j =
-        (s ≡ Kind kind) × (slice_get kinds i ≡ Some (Some kind)) × (j ≡ i + 1) × (first ≡ i) × (end ≡ j)
+        (s ≡ Kind kind) × (slice_get kinds i ≡ Some (Some kind)) × (j ≡ i + 1) × (first ≡ i)
+        × (end ≡ j)
     IsParseTree (node r first end subtrees) s i j =
         (rule : Rule) × (slice_get rules r ≡ Some rule) × (s ≡ Category rule.category)
         × AreParseTrees subtrees rule.items i j × (first ≡ i) × (end ≡ j)

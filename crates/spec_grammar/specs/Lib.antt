@@ -1,2 +1,4 @@
 pub mod Trees
 pub mod Derivation
+pub mod Laws
+pub mod Examples

@@ -1,0 +1,7 @@
+pub mod RunLemmas
+pub mod TokenLemmas
+pub mod FrontLemmas
+pub mod ReadingLemmas
+pub mod FileLemmas
+pub mod CheckLemmas
+pub mod NameLemmas

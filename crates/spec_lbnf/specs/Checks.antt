@@ -17,7 +17,7 @@ NamesKnown defs (RuleDef rule) = All (IsKnown defs) (item_categories rule.items)
 abbrev pub AreAllKnown : List Def → Type 0
 AreAllKnown defs = All (NamesKnown defs) defs
 
--- the first unknown category is this one, named in this definition: no earlier definition names one, nor do the items before it
+-- the first unknown category is this one, in this definition: no earlier definition and no item before names one
 pub record IsFirstUnknown (defs : List Def) (name : List ℕ) (number : ℕ) : Type 0 where
   pub rule : RawRule
   pub is_def : slice_get defs number ≡ Some (RuleDef rule)

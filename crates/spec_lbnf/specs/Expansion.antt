@@ -46,11 +46,13 @@ item_words (Word word ∷ items) = word ∷ item_words items
 -- the list without repetitions, in the order of first meeting
 abbrev pub distinct : List (List ℕ) → List (List ℕ)
 distinct [] = []
-distinct (x ∷ xs) = x ∷ filter (λ y. not (bytes_eq y x)) (distinct xs)
+distinct (x ∷ xs) = x ∷ filter (λ y. not (bytes_eq x y)) (distinct xs)
 
 -- the categories in the order in which the rules meet them, in each rule its own category first
 abbrev pub categories_of : List RawRule → List (List ℕ)
-categories_of rules = distinct (flat_map (λ (rule : RawRule). category_text rule.cat ∷ item_categories rule.items) rules)
+categories_of rules =
+    distinct
+    (flat_map (λ (rule : RawRule). category_text rule.cat ∷ item_categories rule.items) rules)
 
 -- the words in the order in which the rules meet them
 abbrev pub words_of : List RawRule → List (List ℕ)
@@ -58,7 +60,7 @@ words_of rules = distinct (flat_map (λ (rule : RawRule). item_words rule.items)
 
 -- the place of the name in the list, which is its number
 abbrev pub number_of : List (List ℕ) → List ℕ → ℕ
-number_of names name = position_or_len (λ other. bytes_eq other name) names
+number_of names name = position_or_len (bytes_eq name) names
 
 -- the symbol of an item, by the lists of categories and of words
 abbrev pub symbol_of : List (List ℕ) → List (List ℕ) → RawItem → Symbol

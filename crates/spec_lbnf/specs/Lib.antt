@@ -1,3 +1,5 @@
 pub mod FirstForm
 pub mod Expansion
 pub mod Checks
+pub mod Laws
+pub mod Reading

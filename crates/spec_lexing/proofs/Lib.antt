@@ -1,0 +1,4 @@
+pub mod LongestMatchLemmas
+pub mod TokensLemmas
+pub mod LexerByTests
+pub mod KindsLemmas

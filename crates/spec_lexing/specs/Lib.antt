@@ -1,3 +1,5 @@
 pub mod Tokens
 pub mod LongestMatch
 pub mod Kinds
+pub mod Laws
+pub mod Examples

@@ -1,0 +1,8 @@
+pub mod ScriptLemmas
+pub mod BeginningLemmas
+pub mod RepliesLemmas
+pub mod SessionsLemmas
+pub mod FrontLemmas
+pub mod DenialLemmas
+pub mod VerdictLemmas
+pub mod ExistenceLemmas

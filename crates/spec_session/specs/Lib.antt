@@ -1,3 +1,5 @@
 pub mod Sessions
 pub mod Script
 pub mod Replies
+pub mod Laws
+pub mod Existence

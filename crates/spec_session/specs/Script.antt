@@ -1,5 +1,6 @@
 -- The commands of a script, and how an input spells them: a command is one line and, where it has one, a block.
-use Rattle.std.specs.Prelude.{◌≡◌, ℕ, ◌+◌, ◌^◌, ◌<◌, ◌≤◌, List, [], ◌∷◌, ◌++◌, length, codes, decimal, All}
+use Rattle.std.specs.Prelude.{◌≡◌, ℕ, ◌+◌, ◌^◌, ◌<◌, ◌≤◌, List, [], ◌∷◌, ◌++◌, length, codes}
+use Rattle.std.specs.Prelude.{decimal, All, IsAscii}
 
 -- the commands that are built so far; a question names a category and a span of tokens
 pub data Command : Type 0 where
@@ -13,7 +14,8 @@ abbrev pub line_of : Command → List ℕ
 line_of header = codes "script 1"
 line_of (grammar block) = codes "grammar " ++ decimal (length block)
 line_of (opens text) = codes "open " ++ decimal (length text)
-line_of (has category first end) = codes "has " ++ (category ++ (32 ∷ (decimal first ++ (32 ∷ decimal end))))
+line_of (has category first end) =
+    codes "has " ++ (category ++ (32 ∷ (decimal first ++ (32 ∷ decimal end))))
 
 -- what stands behind the line's LF: a block and its LF, or nothing
 abbrev pub block_of : Command → List ℕ
@@ -36,9 +38,10 @@ pub record IsWord (bytes : List ℕ) : Type 0 where
 abbrev pub IsWithinLimits : Command → Type 0
 IsWithinLimits header = Unit {0}
 IsWithinLimits (grammar block) = length block ≤ 65536
-IsWithinLimits (opens text) = (length text ≤ 4096) × All (λ byte. byte < 128) text
+IsWithinLimits (opens text) = (length text ≤ 4096) × IsAscii text
 IsWithinLimits (has category first end) =
-    IsWord category × (first < 10 ^ 9) × (end < 10 ^ 9) × (length (line_of (has category first end)) ≤ 256)
+    IsWord category × (first < 10 ^ 9) × (end < 10 ^ 9)
+    × (length (line_of (has category first end)) ≤ 256)
 
 -- the commands are questions
 abbrev pub AreQuestions : List Command → Type 0

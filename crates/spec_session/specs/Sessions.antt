@@ -14,7 +14,7 @@ AreReplies g texts (command ∷ commands) out =
 -- the last line of a session
 abbrev pub last_line : Ending → List ℕ
 last_line ended = as_line (codes "end")
-last_line (broken at) = as_line (codes "script refused " ++ decimal at)
+last_line (broken at) = codes "script refused " ++ as_line (decimal at)
 
 -- the status of a session that goes to the script's end: 0, or 3 where the script is broken
 abbrev pub last_status : Ending → ℕ
@@ -31,5 +31,8 @@ AreAllReplies commands out = out ≡ []
 -- the session of the input writes these bytes and ends with this status: it ends at a grammar that is refused,
 -- with its line alone and status 2; else it goes to the script's end
 pub data IsSession (input out : List ℕ) (status : ℕ) : Type 0 where
-  refused : (block rest : List ℕ) (at : ℕ) → Begins 0 input (header ∷ grammar block ∷ []) at rest → IsRefused block out → status ≡ 2 → IsSession input out status
-  whole : (commands : List Command) (ending : Ending) (replies : List ℕ) → IsScript input commands ending → AreAllReplies commands replies → out ≡ replies ++ last_line ending → status ≡ last_status ending → IsSession input out status
+  refused : (block rest : List ℕ) (at : ℕ) → Begins 0 input (header ∷ grammar block ∷ []) at rest
+      → IsRefused block out → status ≡ 2 → IsSession input out status
+  whole : (commands : List Command) (ending : Ending) (replies : List ℕ)
+      → IsScript input commands ending → AreAllReplies commands replies
+      → out ≡ replies ++ last_line ending → status ≡ last_status ending → IsSession input out status

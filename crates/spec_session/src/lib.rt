@@ -1,12 +1,11 @@
-//! Scripts and sessions: the commands that an input spells, the reply to each, and what a session writes.
+//! Scripts and sessions: the commands that an input spells, the reply to each, and what a session
+//! writes. There is no other code here than laws of these.
 #![tactic(auto)]
 
-ghost use Rattle.std.specs.Prelude.{◌≡◌, ℕ, List, [], ◌∷◌, ◌++◌, codes};
-ghost use Rattle.spec_session.specs.Sessions.{IsSession};
-ghost use Rattle.spec_session.specs.Sessions.{last_line};
-ghost use Rattle.spec_session.specs.Script.{broken};
+mod existence;
+mod laws;
 
-/// A law: try.
-pub fn law()
-    ensures { (out : List ℕ) → IsSession [] out 0 → last_line (broken 0) ≡ codes "script refused 0" ++ 10 ∷ [] }
-{}
+pub use existence::some_session;
+pub use laws::{
+    one_script, one_session, refusal_is_all, replies_come_first, replies_then_last_line,
+};

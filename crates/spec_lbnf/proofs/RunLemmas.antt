@@ -1,0 +1,76 @@
+-- Runs: the longest front of a list of bytes that passes a test, and what stops it.
+use Rattle.std.proofs.Common.{◌≡◌, ℕ, List, [], ◌∷◌, ◌++◌, length, take, drop, Bool, true, false, refl, sym, inl, inr, arith, take-append-drop, one-add}
+use Rattle.std.proofs.lemmas.Bool.{cases_Bool}
+use Rattle.std.specs.List.{prefix_len, AllByRecursion}
+use Rattle.std.proofs.lemmas.List.{take_at, drop_at}
+use Rattle.std.proofs.lemmas.List.Elements.{All-from_recursion, recursion_from_All, All-cons, All-nil, All-append}
+use Rattle.spec_lbnf.specs.FirstForm.{is_white, AreWhite}
+use Rattle.spec_lbnf.specs.Reading.{skip_white}
+
+-- the bytes do not begin with one that passes
+abbrev pub Stops : (ℕ → Bool) → List ℕ → Type 0
+Stops passes [] = Unit {0}
+Stops passes (byte ∷ bytes) = passes byte ≡ false
+
+module _ (passes : ℕ → Bool) where
+  -- a run that is stopped is the longest front that passes
+  pub run_len : (run rest : List ℕ) → AllByRecursion (λ b. passes b ≡ true) run → Stops passes rest
+      → prefix_len passes (run ++ rest) ≡ length run
+  run_len [] [] all stops = refl
+  run_len [] (b ∷ rest) all stops = rw stops refl
+  run_len (b ∷ run) rest all stops = rw (all.0, run_len run rest all.1 stops) (omega arith)
+
+  -- the longest front passes
+  pub run_passes : (bytes : List ℕ)
+      → AllByRecursion (λ b. passes b ≡ true) (take (prefix_len passes bytes) bytes)
+  run_passes [] = tt
+  run_passes (b ∷ bytes) = elim (cases_Bool (passes b)) [
+    | inl e ↦ rw (e, one-add) (e, run_passes bytes)
+    | inr e ↦ rw e tt
+  ]
+
+  -- it is stopped
+  pub run_stops : (bytes : List ℕ) → Stops passes (drop (prefix_len passes bytes) bytes)
+  run_stops [] = tt
+  run_stops (b ∷ bytes) = elim (cases_Bool (passes b)) [
+    | inl e ↦ rw (e, one-add) (run_stops bytes)
+    | inr e ↦ rw e e
+  ]
+
+  -- the longest front and what is behind it are the bytes
+  pub run_whole : (bytes : List ℕ)
+      → take (prefix_len passes bytes) bytes ++ drop (prefix_len passes bytes) bytes ≡ bytes
+  run_whole bytes = take-append-drop (prefix_len passes bytes) bytes
+
+  -- a run that is stopped is what the longest front takes
+  pub run_take : (run rest : List ℕ) → AllByRecursion (λ b. passes b ≡ true) run → Stops passes rest
+      → take (prefix_len passes (run ++ rest)) (run ++ rest) ≡ run
+  run_take run rest all stops = rw (run_len run rest all stops) (take_at run rest (length run) refl)
+
+  -- and what stops it is what is behind
+  pub run_drop : (run rest : List ℕ) → AllByRecursion (λ b. passes b ≡ true) run → Stops passes rest
+      → drop (prefix_len passes (run ++ rest)) (run ++ rest) ≡ rest
+  run_drop run rest all stops = rw (run_len run rest all stops) (drop_at run rest (length run) refl)
+
+-- white bytes are skipped, up to one that is not white
+pub skip_white_run : (space rest : List ℕ) → AreWhite space → Stops is_white rest
+    → skip_white (space ++ rest) ≡ rest
+skip_white_run space rest white stops = run_drop is_white space rest (recursion_from_All (λ b. is_white b ≡ true) space white) stops
+
+-- what is skipped is white
+pub skipped_white : (bytes : List ℕ) → (space : List ℕ) × AreWhite space × (bytes ≡ space ++ skip_white bytes)
+skipped_white bytes =
+    (take (prefix_len is_white bytes) bytes, All-from_recursion (λ b. is_white b ≡ true) _ (run_passes is_white bytes), sym (run_whole is_white bytes))
+
+-- no white byte is white
+pub AreWhite-nil : AreWhite []
+AreWhite-nil = All-nil (λ b. is_white b ≡ true)
+
+-- white bytes behind white bytes are white
+pub AreWhite-append : (front back : List ℕ) → AreWhite front → AreWhite back → AreWhite (front ++ back)
+AreWhite-append front back white other = All-append (λ b. is_white b ≡ true) front back white other
+
+-- a white byte in front of white bytes
+pub AreWhite-cons : (space : ℕ) (bytes : List ℕ) → is_white space ≡ true → AreWhite bytes
+    → AreWhite (space ∷ bytes)
+AreWhite-cons space bytes is_space white = All-cons (λ b. is_white b ≡ true) space bytes is_space white

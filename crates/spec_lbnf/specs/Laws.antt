@@ -1,0 +1,63 @@
+-- What is true of these definitions, for every file and every list of definitions.
+use Rattle.std.specs.Prelude.{◌≡◌, ℕ, ◌⊎◌, ◌↔◌, List, [], ◌∷◌, Some, slice_get, All, Contains}
+use Rattle.spec_grammar.specs.declared.rule.Symbol.{Symbol}
+use Rattle.spec_grammar.specs.declared.rule.Symbol.TheVariants.{Category, Kind}
+use Rattle.spec_grammar.specs.declared.rule.Rule.{Rule}
+use Rattle.spec_lbnf.specs.declared.definition.Def.{Def}
+use Rattle.spec_lbnf.specs.FirstForm.{Spells, IsFirstUnbuilt}
+use Rattle.spec_lbnf.specs.Expansion.{distinct, number_of, expansion_of}
+use Rattle.spec_lbnf.specs.Checks.{AreAllKnown, IsFirstUnknown}
+
+-- no file both spells definitions and has a first piece that is not built
+abbrev pub SpelledOrUnbuilt : Type 0
+SpelledOrUnbuilt =
+    (bytes : List ℕ) (defs : List Def) (number : ℕ) → Spells bytes defs
+    → IsFirstUnbuilt bytes number → ⊥
+
+-- a file spells at most one list of definitions
+abbrev pub OneSpelling : Type 0
+OneSpelling = (bytes : List ℕ) (a b : List Def) → Spells bytes a → Spells bytes b → a ≡ b
+
+-- at most one number is that of the first piece that is not built
+abbrev pub OneUnbuilt : Type 0
+OneUnbuilt = (bytes : List ℕ) (a b : ℕ) → IsFirstUnbuilt bytes a → IsFirstUnbuilt bytes b → a ≡ b
+
+-- the items are one kind or two categories
+abbrev pub IsSimpleSide : List Symbol → Type 0
+IsSimpleSide items =
+    ((k : ℕ) × (items ≡ Kind k ∷ []))
+    ⊎ ((a : ℕ) × (b : ℕ) × (items ≡ Category a ∷ Category b ∷ []))
+
+-- each rule of what a file spells has one kind or two categories as its items
+abbrev pub SimpleSides : Type 0
+SimpleSides =
+    (bytes : List ℕ) (defs : List Def) → Spells bytes defs
+    → All (λ (rule : Rule). IsSimpleSide rule.items) (expansion_of defs).rules
+
+-- no definitions both name known categories alone and have a first unknown one
+abbrev pub FitOrUnknown : Type 0
+FitOrUnknown =
+    (defs : List Def) (name : List ℕ) (number : ℕ) → AreAllKnown defs
+    → IsFirstUnknown defs name number → ⊥
+
+-- at most one category, named in one definition, is the first unknown one
+abbrev pub OneUnknown : Type 0
+OneUnknown =
+    (defs : List Def) (a b : List ℕ) (i j : ℕ) → IsFirstUnknown defs a i → IsFirstUnknown defs b j
+    → (a ≡ b) × (i ≡ j)
+
+-- the number of a listed name is a place where that name stands
+abbrev pub NumbersNameBack : Type 0
+NumbersNameBack =
+    (names : List (List ℕ)) (name : List ℕ) → Contains names name
+    → slice_get names (number_of names name) ≡ Some name
+
+-- a list without repetitions has each name of the list, no other, and none at two places
+pub record IsDistinctOf (names xs : List (List ℕ)) : Type 0 where
+  pub same : (name : List ℕ) → Contains xs name ↔ Contains names name
+  pub once : (i j : ℕ) (name : List ℕ)
+      → slice_get xs i ≡ Some name → slice_get xs j ≡ Some name → i ≡ j
+
+-- the list that `distinct` gives has each name of the list once
+abbrev pub DistinctNames : Type 0
+DistinctNames = (names : List (List ℕ)) → IsDistinctOf names (distinct names)

@@ -1,0 +1,38 @@
+//! Laws of the definitions: each function here does nothing, and its clause is a theorem.
+ghost use Rattle.spec_lbnf.specs.Laws.{SpelledOrUnbuilt, OneSpelling, OneUnbuilt, SimpleSides};
+ghost use Rattle.spec_lbnf.specs.Laws.{FitOrUnknown, OneUnknown, NumbersNameBack, DistinctNames};
+
+/// No file both spells definitions and has a piece that is not built.
+pub fn spelled_or_unbuilt()
+    ensures { SpelledOrUnbuilt }
+{}
+
+/// A file spells at most one list of definitions, and at most one piece is its first that is not
+/// built.
+pub fn one_spelling()
+    ensures defs { OneSpelling }
+    ensures piece { OneUnbuilt }
+{}
+
+/// The rules of a file in this form have one kind or two categories as their items.
+pub fn simple_sides()
+    ensures { SimpleSides }
+{}
+
+/// No definitions both name known categories alone and have a first unknown category, and at most
+/// one category, named in one definition, is the first.
+pub fn fit_or_unknown()
+    ensures either { FitOrUnknown }
+    ensures one { OneUnknown }
+{}
+
+/// The number of a listed name is a place where that name stands.
+pub fn numbers_name_back()
+    ensures { NumbersNameBack }
+{}
+
+/// No name stands at two places of a list without repetitions, and what stands there are the names
+/// of the list.
+pub fn distinct_names()
+    ensures { DistinctNames }
+{}

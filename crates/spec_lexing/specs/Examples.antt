@@ -1,0 +1,56 @@
+-- The tokens of small texts, by hand.
+use Rattle.std.specs.Prelude.{ℕ, List, [], ◌∷◌, map, Some, None, codes}
+use Prim.Native.String.{String}
+use Rattle.spec_lexing.specs.declared.kind_def.KindDef.{KindDef}
+use Rattle.spec_lexing.specs.declared.kind_def.KindDef.TheVariants.{Word}
+use Rattle.spec_lexing.specs.declared.token.Token.{Token}
+use Rattle.spec_lexing.specs.Tokens.{AreTokensOf}
+
+-- the kinds of these words, numbered from 0
+abbrev pub words : List String → List KindDef
+words texts = map (λ (text : String). Word (codes text)) texts
+
+-- the token of this kind from start up to end
+abbrev pub token : ℕ → ℕ → ℕ → Token
+token kind start end = record { kind = Some kind; first = start; end = end }
+
+-- the stray token from start up to end
+abbrev pub stray : ℕ → ℕ → Token
+stray start end = record { kind = None; first = start; end = end }
+
+-- the tokens of small texts
+pub record SmallCases : Type 0 where
+  -- the empty text has none
+  pub empty_text : AreTokensOf (words ("a" ∷ [])) (codes "") []
+  -- white space gives none
+  pub white_text : AreTokensOf (words ("a" ∷ [])) (codes " \t\r\n ") []
+  -- words may be apart or not
+  pub words_apart : AreTokensOf (words ("a" ∷ "b" ∷ [])) (codes "a b")
+      (token 0 0 1 ∷ token 1 2 3 ∷ [])
+  pub words_together : AreTokensOf (words ("a" ∷ "b" ∷ [])) (codes "ab")
+      (token 0 0 1 ∷ token 1 1 2 ∷ [])
+  -- the longest match wins, also where the shorter word is the lesser kind
+  pub longest_wins : AreTokensOf (words ("a" ∷ "ab" ∷ [])) (codes "ab") (token 1 0 2 ∷ [])
+  -- the shorter word is a token where the longer one does not go on
+  pub shorter_word : AreTokensOf (words ("a" ∷ "ab" ∷ [])) (codes "aab")
+      (token 0 0 1 ∷ token 1 1 3 ∷ [])
+  -- a longest match is kept, even where a shorter one would leave no stray token behind it
+  pub longest_is_kept : AreTokensOf (words ("a" ∷ "ab" ∷ "bc" ∷ [])) (codes "abc")
+      (token 1 0 2 ∷ stray 2 3 ∷ [])
+  -- of two kinds with one word the lesser one is the token's
+  pub least_kind_wins : AreTokensOf (words ("b" ∷ "a" ∷ "a" ∷ [])) (codes "a") (token 1 0 1 ∷ [])
+  -- white space is less than a kind whose word is one white byte
+  pub white_word : AreTokensOf (words (" " ∷ "a" ∷ [])) (codes "a ") (token 1 0 1 ∷ [])
+  -- a longer word with white space in it is a token
+  pub word_with_white : AreTokensOf (words ("b c" ∷ " b" ∷ [])) (codes "b c b")
+      (token 0 0 3 ∷ token 1 3 5 ∷ [])
+  -- what no kind matches is stray, byte by byte in an ASCII text
+  pub stray_between : AreTokensOf (words ("a" ∷ [])) (codes "a?!a")
+      (token 0 0 1 ∷ stray 1 2 ∷ stray 2 3 ∷ token 0 3 4 ∷ [])
+  -- the front of a word is no token of its kind
+  pub front_of_word : AreTokensOf (words ("ab" ∷ [])) (codes "a") (stray 0 1 ∷ [])
+  -- an empty word matches nothing
+  pub empty_word : AreTokensOf (words ("" ∷ [])) (codes "a") (stray 0 1 ∷ [])
+  -- a scalar of two bytes is one stray token
+  pub two_bytes : AreTokensOf (words ("a" ∷ [])) (97 ∷ 195 ∷ 169 ∷ 97 ∷ [])
+      (token 0 0 1 ∷ stray 1 3 ∷ token 0 3 4 ∷ [])

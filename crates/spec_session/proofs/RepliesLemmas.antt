@@ -1,0 +1,108 @@
+-- A command has one reply: a grammar is accepted in one way or refused by one line, and so on.
+use Rattle.std.proofs.Common.{◌≡◌, ℕ, ◌<◌, ◌≤◌, ◌⊎◌, inl, inr, List, [], ◌∷◌, ◌++◌, length, drop, Some, slice_get, get_or, Contains, sym, ◌∙◌, ap, arith, length-append}
+use Rattle.std.proofs.lemmas.Option.{slice_get_within, get_or_from_slice_get}
+use Rattle.spec_lexing.specs.declared.token.Token.{Token}
+use Rattle.spec_lexing.specs.Kinds.{Matches, token_kind, lex_kinds}
+use Rattle.spec_lexing.specs.Tokens.{AreTokensOf}
+use Rattle.spec_lexing.proofs.TokensLemmas.{one_list}
+use Rattle.spec_lbnf.specs.Expansion.{Expansion, expansion_of}
+use Rattle.spec_lbnf.specs.Checks.{IsFirstUnknown}
+use Rattle.spec_lbnf.proofs.FileLemmas.{spelled_or_unbuilt, one_spelling, one_unbuilt}
+use Rattle.spec_lbnf.proofs.CheckLemmas.{fit_or_unknown, one_unknown}
+use Rattle.spec_session.specs.Script.{Command, header, grammar, opens, has}
+use Rattle.spec_session.specs.Replies.{IsAccepted, IsRefused, unbuilt, unknown, unbuilt_line, unknown_line, version_reply, NamedDerives, IsAnswer, refused_category, refused_span, yes, no, IsCurrent, IsReply}
+
+-- a block is accepted as one grammar
+pub one_grammar : (block : List ℕ) (g other : Expansion) → IsAccepted block g → IsAccepted block other →
+    g ≡ other
+one_grammar block g other h k = h.3 ∙ ap expansion_of (one_spelling block h.0 k.0 h.1 k.1) ∙ sym k.3
+
+-- a block that is accepted is not refused
+pub accepted_or_refused : (block line : List ℕ) (g : Expansion) → IsAccepted block g → IsRefused block line → ⊥
+accepted_or_refused block line g h (unbuilt number first e) = spelled_or_unbuilt block h.0 number h.1 first
+accepted_or_refused block line g h (unknown defs name number spells first e) =
+    fit_or_unknown h.0 name number h.2 (rw (one_spelling block h.0 defs h.1 spells) first)
+
+-- a block is refused by one line
+pub one_refusal : (block line other : List ℕ) → IsRefused block line → IsRefused block other → line ≡ other
+one_refusal block line other (unbuilt number first e) (unbuilt number' first' e') =
+    e ∙ ap unbuilt_line (one_unbuilt block number number' first first') ∙ sym e'
+one_refusal block line other (unbuilt number first e) (unknown defs name number' spells first' e') =
+    absurd (spelled_or_unbuilt block defs number spells first)
+one_refusal block line other (unknown defs name number spells first e) (unbuilt number' first' e') =
+    absurd (spelled_or_unbuilt block defs number' spells first')
+one_refusal block line other (unknown defs name n spells first e) (unknown defs' name' n' spells' first' e') =
+    let again : IsFirstUnknown defs name' n' = rw (one_spelling block defs defs' spells spells') first' in
+    let same = one_unknown defs name name' n n' first again in
+    e ∙ ap (λ bytes. unknown_line bytes n) same.0 ∙ ap (unknown_line name') same.1 ∙ sym e'
+
+-- a list has what stands at a place
+contains_at : (names : List (List ℕ)) (place : ℕ) (name : List ℕ) → slice_get names place ≡ Some name →
+    Contains names name
+contains_at names place name e =
+    (place, slice_get_within names place name e, get_or_from_slice_get names place name name e)
+
+-- a span that is the text's is not refused
+within_or_outside : (first end size : ℕ) → (end < first) ⊎ (size < end) → first ≤ end → end ≤ size → ⊥
+within_or_outside first end size (inl before) order within = omega arith
+within_or_outside first end size (inr behind) order within = omega arith
+
+-- a question has one answer
+module _ (g : Expansion) (tokens : List Token) (name : List ℕ) (first end : ℕ) where
+  named : NamedDerives g tokens name first end → Contains g.categories name
+  named h = contains_at g.categories h.category name h.is_category
+
+  outside : (end < first) ⊎ (length tokens < end) → first ≤ end → end ≤ length tokens → ⊥
+  outside = within_or_outside first end (length tokens)
+
+  pub one_answer : (line other : List ℕ) →
+      IsAnswer g tokens name first end line → IsAnswer g tokens name first end other → line ≡ other
+  one_answer line other (refused_category a e) (refused_category b f) = e ∙ sym f
+  one_answer line other (refused_category a e) (refused_span b out f) = absurd (a b)
+  one_answer line other (refused_category a e) (yes order within derives f) = absurd (a (named derives))
+  one_answer line other (refused_category a e) (no b order within denied f) = absurd (a b)
+  one_answer line other (refused_span a out e) (refused_category b f) = absurd (b a)
+  one_answer line other (refused_span a out e) (refused_span b out' f) = e ∙ sym f
+  one_answer line other (refused_span a out e) (yes order within derives f) = absurd (outside out order within)
+  one_answer line other (refused_span a out e) (no b order within denied f) = absurd (outside out order within)
+  one_answer line other (yes order within derives e) (refused_category b f) = absurd (b (named derives))
+  one_answer line other (yes order within derives e) (refused_span b out f) = absurd (outside out order within)
+  one_answer line other (yes order within derives e) (yes order' within' derives' f) = e ∙ sym f
+  one_answer line other (yes order within derives e) (no b order' within' denied f) = absurd (denied derives)
+  one_answer line other (no a order within denied e) (refused_category b f) = absurd (b a)
+  one_answer line other (no a order within denied e) (refused_span b out f) = absurd (outside out order within)
+  one_answer line other (no a order within denied e) (yes order' within' derives f) = absurd (denied derives)
+  one_answer line other (no a order within denied e) (no b order' within' denied' f) = e ∙ sym f
+
+-- one text is the last
+one_last : (older : List (List ℕ)) (text : List ℕ) (others : List (List ℕ)) (other : List ℕ) →
+    older ++ text ∷ [] ≡ others ++ other ∷ [] → text ≡ other
+one_last [] text [] other e = ap (λ texts. get_or texts 0 []) e
+one_last [] text (x ∷ others) other e = absurd (omega (arith, ap length e, length-append others (other ∷ [])))
+one_last (x ∷ older) text [] other e = absurd (omega (arith, ap length e, length-append older (text ∷ [])))
+one_last (x ∷ older) text (y ∷ others) other e = one_last older text others other (ap (drop 1) e)
+
+-- one text is current
+one_current : (texts : List (List ℕ)) (text other : List ℕ) → IsCurrent texts text → IsCurrent texts other →
+    text ≡ other
+one_current texts text other h k = one_last h.0 text k.0 other (sym h.1 ∙ k.1)
+
+-- a text has one list of tokens under a grammar
+one_tokens : (g : Expansion) (text : List ℕ) (tokens others : List Token) →
+    AreTokensOf g.kinds text tokens → AreTokensOf g.kinds text others → tokens ≡ others
+one_tokens g text tokens others h k = one_list Matches token_kind (lex_kinds g.kinds) text 0 tokens others h k
+
+-- a command has one reply
+pub one_reply : (g : Expansion) (texts : List (List ℕ)) (command : Command) (line other : List ℕ) →
+    IsReply g texts command line → IsReply g texts command other → line ≡ other
+one_reply g texts header line other h k = absurd h
+one_reply g texts (grammar block) line other h k = absurd h
+one_reply g texts (opens text) line other h k =
+    let same : h.0 ≡ k.0 = one_tokens g text h.0 k.0 h.1 k.1 in
+    let replies = ap (λ (tokens : List Token). version_reply (length texts) (length tokens)) same in
+    h.2 ∙ replies ∙ sym k.2
+one_reply g texts (has category first end) line other h k =
+    let one_text : h.0 ≡ k.0 = one_current texts h.0 k.0 h.2 k.2 in
+    let again : AreTokensOf g.kinds h.0 k.1 = rw one_text k.3 in
+    let same : h.1 ≡ k.1 = one_tokens g h.0 h.1 k.1 h.3 again in
+    one_answer g h.1 category first end line other h.4 (rw same k.4)

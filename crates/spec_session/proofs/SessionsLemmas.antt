@@ -1,0 +1,157 @@
+-- An input has one session: the replies to its commands in order, and behind them its last line.
+use Rattle.std.proofs.Common.{inl, inr, ◌≡◌, ℕ, ◌+◌, List, [], ◌∷◌, ◌++◌, length, refl, sym, ◌∙◌, ap, subst, arith, append_assoc, append-nil, length-append}
+use Rattle.std.proofs.lemmas.List.{nil_from_length}
+use Rattle.spec_lbnf.specs.Expansion.{Expansion}
+use Rattle.spec_session.specs.Script.{Command, header, grammar, Begins, Ending, IsScript}
+use Rattle.spec_session.specs.Replies.{IsRefused, grammar_reply, texts_after}
+use Rattle.spec_session.specs.Sessions.{AreReplies, AreAllReplies, last_line, last_status, IsSession, refused, whole}
+use Rattle.spec_session.specs.Laws.{OneScript, OneSession, RepliesComeFirst, RepliesThenLastLine, RefusalIsAll}
+use Rattle.spec_session.proofs.BeginningLemmas.{two_beginnings, script_goes_on, same_script}
+use Rattle.spec_session.proofs.RepliesLemmas.{one_grammar, accepted_or_refused, one_refusal, one_reply}
+
+-- the bytes begin with these
+abbrev pub StartsWith : List ℕ → List ℕ → Type 0
+StartsWith out told = (more : List ℕ) × (out ≡ told ++ more)
+
+-- bytes that begin with a line and with what follows it begin with both
+starts_after : (line out rest told behind : List ℕ) → told ≡ line ++ behind → out ≡ line ++ rest →
+    StartsWith rest behind → StartsWith out told
+starts_after line out rest told behind e f h =
+    let front : (line ++ behind) ++ h.0 ≡ told ++ h.0 = ap (λ bytes. bytes ++ h.0) (sym e) in
+    (h.0, f ∙ ap (λ bytes. line ++ bytes) h.1 ∙ sym (append_assoc line behind h.0) ∙ front)
+
+-- bytes that begin with each other are the same
+same_starts : (a b : List ℕ) → StartsWith a b → StartsWith b a → a ≡ b
+same_starts a b h k =
+    let more : length a ≡ length b + length h.0 = ap length h.1 ∙ length-append b h.0 in
+    let less : length b ≡ length a + length k.0 = ap length k.1 ∙ length-append a k.0 in
+    h.1 ∙ ap (λ bytes. b ++ bytes) (nil_from_length h.0 (omega arith)) ∙ append-nil b
+
+-- the replies to the first commands are the first of the replies
+replies_start : (g : Expansion) (texts : List (List ℕ)) (commands behind : List Command) (told out : List ℕ) →
+    AreReplies g texts commands told → AreReplies g texts (commands ++ behind) out → StartsWith out told
+replies_start g texts [] behind told out h k = (out, rw h refl)
+replies_start g texts (command ∷ commands) behind told out h k =
+    let one : k.0 ≡ h.0 = one_reply g texts command k.0 h.0 k.2 h.2 in
+    let again : out ≡ h.0 ++ k.1 = k.3 ∙ ap (λ line. line ++ k.1) one in
+    let tail = replies_start g (texts_after texts command) commands behind h.1 k.1 h.4 k.4 in
+    starts_after h.0 out k.1 told h.1 h.3 again tail
+
+-- so are the replies to the first commands of a script
+all_replies_start : (commands behind : List Command) (told out : List ℕ) →
+    AreAllReplies commands told → AreAllReplies (commands ++ behind) out → StartsWith out told
+all_replies_start (header ∷ grammar block ∷ commands) behind told out h k =
+    let one : k.0 ≡ h.0 = one_grammar block k.0 h.0 k.2 h.2 in
+    let again : out ≡ grammar_reply h.0 ++ k.1 = k.4 ∙ ap (λ g. grammar_reply g ++ k.1) one in
+    let replies : AreReplies h.0 [] (commands ++ behind) k.1 = rw (sym one) k.3 in
+    let tail = replies_start h.0 [] commands behind h.1 k.1 h.3 replies in
+    starts_after (grammar_reply h.0) out k.1 told h.1 h.4 again tail
+all_replies_start commands behind told out h k = (out, rw h refl)
+
+-- commands have one text of replies
+same_replies : (commands : List Command) (told out : List ℕ) →
+    AreAllReplies commands told → AreAllReplies commands out → told ≡ out
+same_replies commands told out h k =
+    let longer : (bytes : List ℕ) → AreAllReplies commands bytes → AreAllReplies (commands ++ []) bytes =
+    λ bytes replies. rw (append-nil commands) replies in
+    same_starts told out
+    (all_replies_start commands [] out told k (longer told h))
+    (all_replies_start commands [] told out h (longer out k))
+
+-- the block of the grammar behind the header
+abbrev block_behind : List Command → List ℕ
+block_behind (header ∷ grammar block ∷ commands) = block
+block_behind commands = []
+
+-- where a grammar is refused
+module _ (block line : List ℕ) (refusal : IsRefused block line) where
+  -- commands that begin with it have no replies
+  no_replies : (commands behind : List Command) (told : List ℕ) →
+      commands ≡ (header ∷ grammar block ∷ []) ++ behind → AreAllReplies commands told → ⊥
+  no_replies commands behind told e h =
+      let replies = subst (λ all. AreAllReplies all told) e h in
+      accepted_or_refused block line replies.0 replies.2 refusal
+
+  -- before it nothing is told
+  nothing_told : (commands behind : List Command) (told : List ℕ) →
+      header ∷ grammar block ∷ [] ≡ commands ++ behind → AreAllReplies commands told → told ≡ []
+  nothing_told (header ∷ grammar other ∷ commands) behind told e h =
+      let same : block ≡ other = ap block_behind e in
+      absurd (accepted_or_refused block line h.0 (rw same h.2) refusal)
+  nothing_told commands behind told e h = h
+
+-- where an input is a script with these replies
+module _ (input : List ℕ) (commands : List Command) (ending : Ending) (told : List ℕ)
+    (s : IsScript input commands ending) (replies : AreAllReplies commands told) where
+  -- its session tells the replies and the last line, and has the status of the script's end
+  pub script_session : (out : List ℕ) (status : ℕ) → IsSession input out status →
+      (out ≡ told ++ last_line ending) × (status ≡ last_status ending)
+  script_session out status (refused block rest at begins refusal e) =
+      let f = script_goes_on input commands ending s (header ∷ grammar block ∷ []) at rest begins tt in
+      absurd (no_replies block out refusal commands f.0 told f.1 replies)
+  script_session out status (whole others final bytes t k e d) =
+      let same = same_script input others final t commands ending s in
+      let again : AreAllReplies commands bytes = subst (λ all. AreAllReplies all bytes) same.0 k in
+      let one : bytes ≡ told = same_replies commands bytes told again replies in
+      let last : bytes ++ last_line final ≡ told ++ last_line ending =
+      ap (λ front. front ++ last_line final) one ∙ ap (λ end. told ++ last_line end) same.1 in
+      (e ∙ last, d ∙ ap last_status same.1)
+
+-- where an input begins with a header and a grammar that is refused
+module _ (input block line : List ℕ) (at : ℕ) (rest : List ℕ)
+    (begins : Begins 0 input (header ∷ grammar block ∷ []) at rest) (refusal : IsRefused block line) where
+  -- the grammar behind the header is this one
+  same_block : (other : List ℕ) (place : ℕ) (more : List ℕ) →
+      Begins 0 input (header ∷ grammar other ∷ []) place more → block ≡ other
+  same_block other place more k =
+      let front : List Command = header ∷ grammar block ∷ [] in
+      elim (two_beginnings front (header ∷ grammar other ∷ []) 0 at place input rest more begins k) [
+        | inl f ↦ sym (ap block_behind f.1)
+        | inr f ↦ ap block_behind f.1
+      ]
+
+  -- the session tells the refusal alone, and has status 2
+  pub refused_session : (out : List ℕ) (status : ℕ) → IsSession input out status → (out ≡ line) × (status ≡ 2)
+  refused_session out status (refused other more place k refusal' e) =
+      (one_refusal block out line (rw (same_block other place more k) refusal') refusal, e)
+  refused_session out status (whole commands ending replies s k e d) =
+      let f = script_goes_on input commands ending s (header ∷ grammar block ∷ []) at rest begins tt in
+      absurd (no_replies block line refusal commands f.0 replies f.1 k)
+
+-- an input is one script
+pub one_script : OneScript
+one_script input commands others ending final s t = same_script input commands ending s others final t
+
+-- where the grammar is refused, the refusal is all that is told
+pub refusal_is_all : RefusalIsAll
+refusal_is_all input block line at rest begins refusal out status session =
+    (refused_session input block line at rest begins refusal out status session).0
+
+-- behind the replies to a script its last line is told, and nothing more
+pub replies_then_last_line : RepliesThenLastLine
+replies_then_last_line input commands ending told s replies out status session =
+    (script_session input commands ending told s replies out status session).0
+
+-- the replies to the first commands are told first
+pub replies_come_first : RepliesComeFirst
+replies_come_first input front at rest told h in_order replies out status (refused block more place k refusal e) =
+    elim (two_beginnings front (header ∷ grammar block ∷ []) 0 at place input rest more h k) [
+      | inl f ↦ (out, rw (nothing_told block out refusal front f.0 told f.1 replies) refl)
+      | inr f ↦ absurd (no_replies block out refusal front f.0 told f.1 replies)
+    ]
+replies_come_first input front at rest told h in_order replies out status (whole commands ending all s k e d) =
+    let f = script_goes_on input commands ending s front at rest h in_order in
+    let again : AreAllReplies (front ++ f.0) all = subst (λ these. AreAllReplies these all) f.1 k in
+    let start = all_replies_start front f.0 told all replies again in
+    let last : all ++ last_line ending ≡ told ++ (start.0 ++ last_line ending) =
+    ap (λ bytes. bytes ++ last_line ending) start.1 ∙ append_assoc told start.0 (last_line ending) in
+    (start.0 ++ last_line ending, e ∙ last)
+
+-- an input has one session
+pub one_session : OneSession
+one_session input out other status final (refused block rest at h refusal e) session =
+    let same = refused_session input block out at rest h refusal other final session in
+    (sym same.0, e ∙ sym same.1)
+one_session input out other status final (whole commands ending replies s h e d) session =
+    let same = script_session input commands ending replies s h other final session in
+    (e ∙ sym same.0, d ∙ sym same.1)

@@ -1,0 +1,43 @@
+-- What is true of each input: it is one script and has one session, whose replies come in order.
+use Rattle.std.specs.Prelude.{◌≡◌, ℕ, List, [], ◌∷◌, ◌++◌}
+use Rattle.spec_session.specs.Script.{Command, header, grammar, IsInOrder, Begins, Ending, IsScript}
+use Rattle.spec_session.specs.Replies.{IsRefused}
+use Rattle.spec_session.specs.Sessions.{AreAllReplies, last_line, IsSession}
+
+-- an input is at most one script: these commands, and this end
+abbrev pub OneScript : Type 0
+OneScript =
+    (input : List ℕ) (commands others : List Command) (ending final : Ending) →
+    IsScript input commands ending → IsScript input others final →
+    (commands ≡ others) × (ending ≡ final)
+
+-- any two sessions of an input write the same bytes and end with the same status
+abbrev pub OneSession : Type 0
+OneSession =
+    (input out other : List ℕ) (status final : ℕ) →
+    IsSession input out status → IsSession input other final →
+    (out ≡ other) × (status ≡ final)
+
+-- where an input begins with these commands, in order, its session writes the replies to them first
+abbrev pub RepliesComeFirst : Type 0
+RepliesComeFirst =
+    (input : List ℕ) (front : List Command) (at : ℕ) (rest told : List ℕ) →
+    Begins 0 input front at rest → IsInOrder front → AreAllReplies front told →
+    (out : List ℕ) (status : ℕ) → IsSession input out status →
+    (more : List ℕ) × (out ≡ told ++ more)
+
+-- where an input is a script whose commands have replies, its session writes these and the last line
+abbrev pub RepliesThenLastLine : Type 0
+RepliesThenLastLine =
+    (input : List ℕ) (commands : List Command) (ending : Ending) (told : List ℕ) →
+    IsScript input commands ending → AreAllReplies commands told →
+    (out : List ℕ) (status : ℕ) → IsSession input out status →
+    out ≡ told ++ last_line ending
+
+-- where an input begins with a header and a refused grammar, its session writes the refusal alone
+abbrev pub RefusalIsAll : Type 0
+RefusalIsAll =
+    (input block line : List ℕ) (at : ℕ) (rest : List ℕ) →
+    Begins 0 input (header ∷ grammar block ∷ []) at rest → IsRefused block line →
+    (out : List ℕ) (status : ℕ) → IsSession input out status →
+    out ≡ line

@@ -1,0 +1,29 @@
+//! Laws of scripts and sessions. Each is the contract of a function with an empty body.
+ghost use Rattle.spec_session.specs.Laws.{OneScript, OneSession, RepliesComeFirst};
+ghost use Rattle.spec_session.specs.Laws.{RepliesThenLastLine, RefusalIsAll};
+
+/// An input is at most one script: its commands, and where it ends or breaks.
+pub fn one_script()
+    ensures { OneScript }
+{}
+
+/// An input has at most one session: the bytes that it writes, and its status.
+pub fn one_session()
+    ensures { OneSession }
+{}
+
+/// The replies to the commands that an input begins with are what its session writes first, where
+/// the grammar among them is accepted. So replies may be written before the next command is read.
+pub fn replies_come_first()
+    ensures { RepliesComeFirst }
+{}
+
+/// Behind the replies to all commands of a script its session writes the last line, and no more.
+pub fn replies_then_last_line()
+    ensures { RepliesThenLastLine }
+{}
+
+/// Where the grammar is refused, its refusal is all that the session writes.
+pub fn refusal_is_all()
+    ensures { RefusalIsAll }
+{}
