@@ -8,7 +8,8 @@ use Rattle.cyk_io.specs.Streams.{Takes, Stays, IsAtEnd, ReadAhead}
 
 -- what was found, read from one offset to another: a block that is kept; a longer one, of which nothing is kept; or
 -- fewer bytes, behind which the input ends
-abbrev pub BlockReads : ℕ → ℕ → ℕ → ℕ → Option (List ℕ) → Option (List ℕ) → List ℕ → ReadBlock → Type 0
+abbrev pub BlockReads : ℕ → ℕ → ℕ → ℕ → Option (List ℕ) → Option (List ℕ) → List ℕ
+    → ReadBlock → Type 0
 BlockReads count keep from to old new into Kept =
     Takes old new into × (length into ≡ count) × (count ≤ keep) × (to ≡ from + count)
 BlockReads count keep from to old new into Skipped =
@@ -25,7 +26,8 @@ BlockFails count keep from ahead old new left Read =
     (bytes : List ℕ) × Takes old left bytes × (length bytes < count) × (ahead.held ≡ [])
     × (ahead.offset ≡ from + length bytes)
 BlockFails count keep from ahead old new left Write = ⊥
-BlockFails count keep from ahead old new left Memory = Stays old new × (count ≤ keep) × (ahead.offset ≡ from)
+BlockFails count keep from ahead old new left Memory =
+    Stays old new × (count ≤ keep) × (ahead.offset ≡ from)
 
 -- where the bytes that come are told, some answer describes a read of a block
 abbrev pub EachBlockHasAnAnswer : Type 0

@@ -21,13 +21,15 @@ abbrev pub LineReads : ℕ → ℕ → ℕ → Option (List ℕ) → Option (Lis
 LineReads most from to old new line Line =
     Takes old new (line ++ 10 ∷ []) × IsLine most line × (to ≡ from + length line + 1)
 LineReads most from to old new line (LongLine at) =
-    (last : ℕ) × Takes old new (line ++ last ∷ []) × HasNoLf (line ++ last ∷ []) × (length line ≡ most)
+    (last : ℕ) × Takes old new (line ++ last ∷ []) × HasNoLf (line ++ last ∷ [])
+    × (length line ≡ most)
     × (at ≡ from) × (to ≡ from + most + 1)
 LineReads most from to old new line (Ended at) =
     Takes old new line × IsAtEnd new × IsLine most line × (at ≡ from + length line) × (to ≡ at)
 
 -- only a read may fail: what the source gave from the offset on is then the line so far, with no LF
-abbrev pub LineFails : ℕ → ℕ → ReadAhead → Option (List ℕ) → Option (List ℕ) → List ℕ → IoFault → Type 0
+abbrev pub LineFails : ℕ → ℕ → ReadAhead → Option (List ℕ) → Option (List ℕ) → List ℕ
+    → IoFault → Type 0
 LineFails most from ahead old left line Read =
     Takes old left line × HasNoLf line × (length line ≤ most) × (ahead.held ≡ [])
     × (ahead.offset ≡ from + length line)

@@ -1,6 +1,7 @@
 -- What a caller sees of a source and of a sink: the bytes that are left in the one and those that are written to the
 -- other, where they are told, and what is read ahead of a source.
-use Rattle.std.specs.Prelude.{◌≡◌, ℕ, ◌<◌, ◌≤◌, List, [], ◌++◌, length, take, Option, Some, Result, Bool, MatchResult}
+use Rattle.std.specs.Prelude.{◌≡◌, ℕ, ◌<◌, ◌≤◌, List, [], ◌++◌, length, take, Option, Some, Result}
+use Rattle.std.specs.Prelude.{Bool, MatchResult}
 use Rattle.std.specs.Option.{option_map}
 
 -- told bytes begin with these and lose them

@@ -1,6 +1,7 @@
 //! Bytes that were read ahead of what was asked for, and the offset of the byte that comes next. A source is read only
 //! where none of them is left, so that after a fault none is held.
-ghost use Rattle.std.specs.Prelude.{◌≡◌, ℕ, ◌+◌, ◌-◌, ◌<◌, ◌≤◌, ◌^◌, ◌↔◌, [], ◌∷◌, IsTrue, IsFalse, IsErr, OnOk, OnErr, MatchOption, MatchResult, drop, length};
+ghost use Rattle.std.specs.Prelude.{◌≡◌, ℕ, ◌+◌, ◌-◌, ◌<◌, ◌≤◌, ◌^◌, ◌↔◌, [], ◌∷◌, IsTrue, IsFalse};
+ghost use Rattle.std.specs.Prelude.{IsErr, OnOk, OnErr, MatchOption, MatchResult, drop, length};
 ghost use Rattle.cyk_io.specs.Causes.{HasCause};
 ghost use Rattle.cyk_io.specs.NextByte.{TakesNext};
 ghost use Rattle.cyk_io.specs.Streams.{IsAtEnd, Stays, coming};
@@ -104,7 +105,8 @@ fn fill<S: Source>(source: &mut S, ahead: &mut Ahead) -> Result<(), Failed>
     requires end { IsTrue ahead.old.ended → IsAtEnd (S.left source.old) }
     ensures cause { HasCause (S.faults source.old) (S.faults source.new) (IsErr result) }
     ensures end { IsTrue ahead.new.ended → IsAtEnd (S.left source.new) }
-    ensures bytes { Stays (coming ahead.old (S.left source.old)) (coming ahead.new (S.left source.new)) }
+    ensures bytes { Stays (coming ahead.old (S.left source.old))
+        (coming ahead.new (S.left source.new)) }
     ensures offset { ahead.new.offset ≡ ahead.old.offset }
     ensures ok { OnOk result (ahead.new.held ≡ [] → IsTrue ahead.new.ended) }
     ensures err { OnErr result (ahead.new.held ≡ []) }
@@ -125,7 +127,8 @@ pub(crate) fn refill<S: Source>(source: &mut S, ahead: &mut Ahead) -> Result<(),
     requires end { IsTrue ahead.old.ended → IsAtEnd (S.left source.old) }
     ensures cause { HasCause (S.faults source.old) (S.faults source.new) (IsErr result) }
     ensures end { IsTrue ahead.new.ended → IsAtEnd (S.left source.new) }
-    ensures bytes { Stays (coming ahead.old (S.left source.old)) (coming ahead.new (S.left source.new)) }
+    ensures bytes { Stays (coming ahead.old (S.left source.old))
+        (coming ahead.new (S.left source.new)) }
     ensures offset { ahead.new.offset ≡ ahead.old.offset }
     ensures ok { OnOk result (ahead.new.held ≡ [] → IsTrue ahead.new.ended) }
     ensures err { OnErr result (ahead.new.held ≡ []) }
@@ -143,7 +146,8 @@ pub(crate) fn next_byte<S: Source>(source: &mut S, ahead: &mut Ahead) -> Result<
     ensures cause { HasCause (S.faults source.old) (S.faults source.new) (IsErr result) }
     ensures end { IsTrue ahead.new.ended → IsAtEnd (S.left source.new) }
     ensures bytes { MatchResult result
-        (λ next. TakesNext (coming ahead.old (S.left source.old)) (coming ahead.new (S.left source.new)) next)
+        (λ next. TakesNext (coming ahead.old (S.left source.old))
+        (coming ahead.new (S.left source.new)) next)
         (λ _. Stays (coming ahead.old (S.left source.old)) (coming ahead.new (S.left source.new))) }
     ensures offset { MatchResult result
         (λ next. MatchOption next (ahead.new.offset ≡ ahead.old.offset)

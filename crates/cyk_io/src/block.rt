@@ -1,5 +1,6 @@
 //! A block of so many bytes, which is kept or passed over.
-ghost use Rattle.std.specs.Prelude.{◌≡◌, ℕ, ◌+◌, ◌-◌, ◌<◌, ◌≤◌, ◌^◌, [], IsTrue, IfOk, IfErr, IsErrOf, take, drop, length, vec_capacity, vec_len};
+ghost use Rattle.std.specs.Prelude.{◌≡◌, ℕ, ◌+◌, ◌-◌, ◌<◌, ◌≤◌, ◌^◌, [], IsTrue, IfOk, IfErr};
+ghost use Rattle.std.specs.Prelude.{IsErrOf, take, drop, length, vec_capacity, vec_len};
 ghost use Rattle.cyk_io.specs.Blocks.{BlockReads, BlockFails};
 ghost use Rattle.cyk_io.specs.Causes.{HasCause};
 ghost use Rattle.cyk_io.specs.Streams.{IsAtEnd, coming};
@@ -54,10 +55,13 @@ pub fn read_exact_n<S: Source>(
     requires room { ahead.old.offset + count < 2 ^ 63 }
     requires end { IsTrue ahead.old.ended → IsAtEnd (S.left source.old) }
     ensures ok { IfOk result (BlockReads count keep ahead.old.offset ahead.new.offset
-        (coming ahead.old (S.left source.old)) (coming ahead.new (S.left source.new)) into.new.items) }
+        (coming ahead.old (S.left source.old)) (coming ahead.new (S.left source.new))
+        into.new.items) }
     ensures err { IfErr result (BlockFails count keep ahead.old.offset ahead.new
-        (coming ahead.old (S.left source.old)) (coming ahead.new (S.left source.new)) (S.left source.new)) }
-    ensures cause { HasCause (S.faults source.old) (S.faults source.new) (IsErrOf result IoFault.Read) }
+        (coming ahead.old (S.left source.old)) (coming ahead.new (S.left source.new))
+        (S.left source.new)) }
+    ensures cause { HasCause (S.faults source.old) (S.faults source.new)
+        (IsErrOf result IoFault.Read) }
     ensures end { IsTrue ahead.new.ended → IsAtEnd (S.left source.new) }
 {
     into.clear();

@@ -1,5 +1,6 @@
 //! A line of at most `N` bytes, and the call that reads one.
-ghost use Rattle.std.specs.Prelude.{◌≡◌, ℕ, ◌+◌, ◌<◌, ◌≤◌, ◌^◌, [], ◌∷◌, ◌++◌, IsTrue, IsErr, IfOk, IfErr, length};
+ghost use Rattle.std.specs.Prelude.{◌≡◌, ℕ, ◌+◌, ◌<◌, ◌≤◌, ◌^◌, [], ◌∷◌, ◌++◌, IsTrue, IsErr, IfOk};
+ghost use Rattle.std.specs.Prelude.{IfErr, length};
 ghost use Rattle.cyk_io.specs.Causes.{HasCause};
 ghost use Rattle.cyk_io.specs.Lines.{LineReads, LineFails};
 ghost use Rattle.cyk_io.specs.Streams.{IsAtEnd, coming};

@@ -1,5 +1,6 @@
 //! A source and a sink over memory that move bytes in pieces, and fail at the calls that they are told.
-ghost use Rattle.std.specs.Prelude.{◌≡◌, ◌↔◌, ℕ, ◌+◌, ◌-◌, ◌^◌, ◌≤◌, [], IsTrue, IsErr, IsErrOf, IfOk, min, Contains};
+ghost use Rattle.std.specs.Prelude.{◌≡◌, ◌↔◌, ℕ, ◌+◌, ◌-◌, ◌^◌, ◌≤◌, [], IsTrue, IsErr, IsErrOf};
+ghost use Rattle.std.specs.Prelude.{IfOk, min, Contains};
 ghost use Rattle.cyk_io.specs.Causes.{HasCause, HasRisen};
 ghost use Rattle.cyk_io.specs.Pieces.{FailsWhereListed, in_pieces};
 ghost use Rattle.cyk_io.specs.Streams.{Reads, Writes};

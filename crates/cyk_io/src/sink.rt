@@ -25,7 +25,8 @@ pub trait Sink {
     /// Writes a prefix of `from`, and answers how many bytes it has.
     fn write(&mut self, from: &[u8]) -> Result<usize, SinkFault>
         ensures bytes { Writes (written self.old) (written self.new) result from.now }
-        ensures cause { HasCause (faults self.old) (faults self.new) (IsErrOf result SinkFault.Failed) };
+        ensures cause { HasCause (faults self.old) (faults self.new)
+            (IsErrOf result SinkFault.Failed) };
 }
 
 /// Writes all bytes, by as many writes as the sink needs. It takes no memory of its own: `Memory` is the sink's answer,
@@ -33,7 +34,8 @@ pub trait Sink {
 pub fn write_all_counted<K: Sink>(sink: &mut K, bytes: &[u8]) -> Result<(), IoFault>
     ensures ok { OnOk result (Grows (K.written sink.old) (K.written sink.new) bytes.now) }
     ensures err { OnErr result (GrowsByPrefix (K.written sink.old) (K.written sink.new) bytes.now) }
-    ensures cause { HasCause (K.faults sink.old) (K.faults sink.new) (IsErrOf result IoFault.Write) }
+    ensures cause { HasCause (K.faults sink.old) (K.faults sink.new)
+        (IsErrOf result IoFault.Write) }
     ensures read { IsErrOf result IoFault.Read → ⊥ }
 {
     let mut at = 0;
