@@ -1,0 +1,5 @@
+pub mod NameLemmas
+pub mod TextLemmas
+pub mod DistinctLemmas
+pub mod TableLemmas
+pub mod CheckingLemmas

@@ -1,0 +1,4 @@
+pub mod Grammars
+pub mod Numbering
+pub mod Tables
+pub mod Checking

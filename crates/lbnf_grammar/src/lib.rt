@@ -1,0 +1,21 @@
+//! From the definitions of a grammar file to a numbered grammar.
+#![tactic(auto)]
+
+mod checking;
+mod expanding;
+mod fault;
+mod grammar;
+mod names;
+mod numbering;
+mod tables;
+mod texts;
+
+pub use expanding::expand;
+pub use fault::GrammarFault;
+pub use grammar::Grammar;
+pub use spec_grammar::{Rule, Symbol};
+pub use spec_lexing::KindDef;
+pub use sqlite_items::Items;
+
+#[cfg(test)]
+mod tests;

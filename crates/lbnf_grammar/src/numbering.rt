@@ -1,0 +1,79 @@
+//! The numbers of a rule's symbols.
+ghost use Rattle.std.specs.Prelude.{◌≡◌, ◌<◌, ◌^◌, map, length, IfOk};
+ghost use Rattle.spec_lbnf.specs.Expansion.{rules_of, symbol_of, numbered_rule};
+
+use crate::tables::Tables;
+use crate::texts::{category_text, copy_label};
+use spec_grammar::{Rule, Symbol};
+use spec_lbnf::{Def, RawItem, RawRule};
+use sqlite_items::Items;
+use std::alloc::{AllocError, Global};
+
+fn symbol_of(alloc: Global, tables: &Tables, item: &RawItem) -> Result<Symbol, AllocError>
+    requires categories { length tables.now.categories < 2 ^ 16 }
+    requires words { length tables.now.words < 2 ^ 16 }
+    ensures { IfOk result
+        (λ symbol. symbol ≡ symbol_of tables.now.categories tables.now.words item.now) }
+{
+    match item {
+        RawItem::Cat(cat) => {
+            let text = category_text(alloc, cat)?;
+            let number = tables.categories.number(text.as_slice());
+            Ok(Symbol::Category(number as u16))
+        }
+        RawItem::Word(word) => {
+            let number = tables.words.number(word.as_slice());
+            Ok(Symbol::Kind(number as u16))
+        }
+    }
+}
+
+fn symbols_of(
+    alloc: Global,
+    tables: &Tables,
+    items: &[RawItem],
+) -> Result<Items<Symbol>, AllocError>
+    requires categories { length tables.now.categories < 2 ^ 16 }
+    requires words { length tables.now.words < 2 ^ 16 }
+    ensures { IfOk result (λ symbols.
+        symbols ≡ map (symbol_of tables.now.categories tables.now.words) items.now) }
+{
+    let mut symbols = Items::new(alloc);
+    for item in items {
+        symbols.push(symbol_of(alloc, tables, item)?)?;
+    }
+    Ok(symbols)
+}
+
+fn numbered_rule(alloc: Global, tables: &Tables, rule: &RawRule) -> Result<Rule, AllocError>
+    requires categories { length tables.now.categories < 2 ^ 16 }
+    requires words { length tables.now.words < 2 ^ 16 }
+    ensures { IfOk result (λ numbered.
+        numbered ≡ numbered_rule tables.now.categories tables.now.words rule.now) }
+{
+    let text = category_text(alloc, &rule.cat)?;
+    let category = tables.categories.number(text.as_slice()) as u16;
+    let label = copy_label(alloc, &rule.label)?;
+    let items = symbols_of(alloc, tables, rule.items.as_slice())?;
+    Ok(Rule {
+        label,
+        category,
+        items,
+    })
+}
+
+/// The rules of the definitions, numbered by the tables.
+pub fn numbered_rules(alloc: Global, tables: &Tables, defs: &[Def]) -> Result<Vec<Rule>, AllocError>
+    requires categories { length tables.now.categories < 2 ^ 16 }
+    requires words { length tables.now.words < 2 ^ 16 }
+    ensures { IfOk result (λ rules.
+        rules.items
+        ≡ map (numbered_rule tables.now.categories tables.now.words) (rules_of defs.now)) }
+{
+    let mut rules = Vec::new(alloc);
+    for def in defs {
+        let Def::Rule(rule) = def;
+        rules.push(numbered_rule(alloc, tables, rule)?)?;
+    }
+    Ok(rules)
+}

@@ -1,0 +1,135 @@
+//! Grammars that are expanded and that are refused, with numbers by hand.
+use super::*;
+use lbnf_text::{Label, Name, read_defs};
+use std::alloc::Global;
+use std::test::*;
+
+/// The grammar of a file, `None` where memory or the form fails.
+fn expanded(alloc: Global, bytes: &[u8]) -> Option<Result<Grammar, GrammarFault>> {
+    match read_defs(alloc, bytes) {
+        Ok(defs) => Some(expand(alloc, &defs)),
+        Err(_) => None,
+    }
+}
+
+/// The unknown category that is told of a file, and the definition that names it.
+fn unknown_in(alloc: Global, bytes: &[u8]) -> Option<(Name, u32)> {
+    match expanded(alloc, bytes)? {
+        Err(GrammarFault::UnknownCategory { name, def }) => Some((name, def)),
+        _ => None,
+    }
+}
+
+const SUMS: &[u8] =
+    b"Add . Exp ::= Exp Tail; Rest . Tail ::= Plus Exp; P . Plus ::= \"+\"; One . Exp ::= \"1\"; Two . Exp ::= \"+\"";
+
+#[test]
+fn categories_are_numbered_as_the_rules_meet_them(rt: HostRuntime) -> Result<(), Fail> {
+    let grammar = expanded(rt.alloc(), SUMS)
+        .ok_or("the form")?
+        .ok()
+        .ok_or("a grammar")?;
+    assert_eq!(rt; grammar.category_count(), 3);
+    let names = [
+        (0, b"Exp".as_slice()),
+        (1, b"Tail".as_slice()),
+        (2, b"Plus".as_slice()),
+    ];
+    for (number, name) in names {
+        assert!(rt; number < grammar.category_count());
+        assert_eq!(rt;
+            grammar.category_name(number).as_slice(),
+            name,
+            "at {number}"
+        );
+        assert_eq!(rt;
+            grammar.find(name),
+            Some(Symbol::Category(number)),
+            "at {number}"
+        );
+    }
+    assert_eq!(rt; grammar.find(b"Add".as_slice()), None);
+    assert_eq!(rt; grammar.find(b"exp".as_slice()), None);
+    assert_eq!(rt; grammar.find(b"".as_slice()), None);
+    Ok(())
+}
+
+#[test]
+fn kinds_are_the_words_without_repetitions(rt: HostRuntime) -> Result<(), Fail> {
+    let grammar = expanded(rt.alloc(), SUMS)
+        .ok_or("the form")?
+        .ok()
+        .ok_or("a grammar")?;
+    assert_eq!(rt; grammar.kind_count(), 2);
+    assert_eq!(rt; grammar.kinds().len(), 2);
+    for (number, word) in [(0, b"+".as_slice()), (1, b"1".as_slice())] {
+        assert!(rt; number < grammar.kind_count());
+        let KindDef::Word(name) = grammar.kind(number);
+        assert_eq!(rt; name.as_slice(), word, "at {number}");
+    }
+    Ok(())
+}
+
+#[test]
+fn rules_keep_file_order_and_get_numbers(rt: HostRuntime) -> Result<(), Fail> {
+    let grammar = expanded(rt.alloc(), SUMS)
+        .ok_or("the form")?
+        .ok()
+        .ok_or("a grammar")?;
+    assert_eq!(rt; grammar.rule_count(), 5);
+    assert_eq!(rt; grammar.rules().len(), 5);
+    let pair = [Symbol::Category(0), Symbol::Category(1)];
+    let tail = [Symbol::Category(2), Symbol::Category(0)];
+    let cases = [
+        (0, b"Add".as_slice(), 0, pair.as_slice()),
+        (1, b"Rest".as_slice(), 1, tail.as_slice()),
+        (2, b"P".as_slice(), 2, [Symbol::Kind(0)].as_slice()),
+        (3, b"One".as_slice(), 0, [Symbol::Kind(1)].as_slice()),
+        (4, b"Two".as_slice(), 0, [Symbol::Kind(0)].as_slice()),
+    ];
+    for (number, label, category, items) in cases {
+        assert!(rt; number < grammar.rule_count());
+        let rule = grammar.rule(number);
+        assert!(rt; matches!(&rule.label, Label::Named(name) if name.as_slice() == label));
+        assert_eq!(rt; rule.category, category, "at {number}");
+        assert_eq!(rt; rule.items.as_slice(), items, "at {number}");
+    }
+    Ok(())
+}
+
+#[test]
+fn the_first_category_without_a_rule_is_told(rt: HostRuntime) -> Result<(), Fail> {
+    let cases = [
+        (b"A . E ::= E F".as_slice(), b"F".as_slice(), 0),
+        (b"A . E ::= F G".as_slice(), b"F".as_slice(), 0),
+        (
+            b"A . E ::= \"x\"; B . E ::= E E; C . E ::= E Z; D . E ::= Y E".as_slice(),
+            b"Z".as_slice(),
+            2,
+        ),
+        (
+            b"A . E ::= F G; B . F ::= \"x\"".as_slice(),
+            b"G".as_slice(),
+            0,
+        ),
+    ];
+    for (bytes, want, number) in cases {
+        let (name, def) = unknown_in(rt.alloc(), bytes).ok_or("an unknown category")?;
+        assert_eq!(rt; name.as_slice(), want, "at {bytes:?}");
+        assert_eq!(rt; def, number, "at {bytes:?}");
+    }
+    Ok(())
+}
+
+#[test]
+fn no_definitions_are_a_grammar(rt: HostRuntime) -> Result<(), Fail> {
+    let grammar = expanded(rt.alloc(), b"".as_slice())
+        .ok_or("the form")?
+        .ok()
+        .ok_or("a grammar")?;
+    assert_eq!(rt; grammar.rule_count(), 0);
+    assert_eq!(rt; grammar.category_count(), 0);
+    assert_eq!(rt; grammar.kind_count(), 0);
+    assert_eq!(rt; grammar.find(b"E".as_slice()), None);
+    Ok(())
+}

@@ -1,0 +1,20 @@
+//! Reading a grammar file: from its bytes to its definitions.
+#![tactic(auto)]
+
+mod bytes;
+mod defs;
+mod fault;
+mod pieces;
+mod reading;
+mod rule;
+mod tokens;
+
+pub use defs::Defs;
+pub use fault::TextFault;
+pub use reading::read_defs;
+pub use spec_grammar::Label;
+pub use spec_lbnf::{CatName, Def, RawItem, RawRule};
+pub use spec_text::Name;
+
+#[cfg(test)]
+mod tests;
