@@ -1,0 +1,414 @@
+-- How a session goes on and how it ends: what was written so far is the replies to the commands so far.
+use Rattle.std.proofs.Common.{◌≡◌, true, false, ℕ, ◌+◌, ◌^◌, ◌<◌, ◌≤◌, inl, inr, List, [], ◌∷◌, ◌++◌, length, take, drop, codes, Option, Some, None, Result, Ok, Err, OnOk, refl, sym, ◌∙◌, ap, subst, arith, append_assoc, append-nil, length-append}
+use Rattle.std.proofs.lemmas.List.{take-append-drop}
+use Rattle.cyk_io.specs.Streams.{Takes, Grows, GrowsByPrefix}
+use Rattle.cyk_io.specs.Lines.{IsLine}
+use Rattle.spec_lbnf.specs.Expansion.{Expansion}
+use Rattle.spec_session.specs.Script.{Command, header, grammar, opens, has, line_of, block_of, text_of, IsWithinLimits, AreQuestions, IsInOrder, Begins, Ending, ended, broken, EndsAs, IsScript}
+use Rattle.spec_session.specs.Replies.{IsAccepted, IsAnswer, grammar_reply, version_reply}
+use Rattle.spec_session.specs.Sessions.{AreReplies, AreAllReplies, IsSession, refused, whole, last_line, last_status}
+use Rattle.spec_session.proofs.ScriptLemmas.{tested, each_differs, lacks_if_each_differs, cut_same, command_line, line_lacks_lf, line_is_short}
+use Rattle.spec_session.proofs.SessionsLemmas.{replies_come_first, replies_then_last_line, refusal_is_all}
+use Rattle.spec_session.proofs.FrontLemmas.{questions_more, replies_more, grammar_told, text_told}
+use Rattle.chart_service.specs.declared.opening.Opened.{Opened}
+use Rattle.chart_service.specs.declared.status.Status.{Status}
+use Rattle.chart_service.specs.declared.status.Status.TheVariants.{Ok as Fine, BadGrammar, BadScript, ReadFault, WriteFault, OutOfMemory}
+use Rattle.chart_service.specs.Statuses.{number_of, IsReadStop, IsWriteStop}
+use Rattle.chart_service.specs.Writing.{EndsWith}
+use Rattle.chart_service.specs.Serving.{IsFaultStatus, IsPrefixOfSession}
+use Rattle.chart_service.specs.Reading.{NextLine, TakesCommand, NoneComes, IsHeader, IsGrammar, IsText}
+use Rattle.chart_service.specs.Forms.{ReadsHas, IsHas}
+use Rattle.chart_service.specs.Opening.{IsGrammarLine, EndsAtGrammar, IsTextLine, EndsAtText, HasOpened, OpensText}
+use Rattle.chart_service.specs.Progress.{Running, Ends, Begun}
+
+-- the statuses of faults
+pub write_stop : (status : Status) → IsWriteStop status → IsFaultStatus (number_of status)
+write_stop Fine h = absurd h
+write_stop BadGrammar h = absurd h
+write_stop BadScript h = absurd h
+write_stop ReadFault h = absurd h
+write_stop WriteFault h = inr (inl refl)
+write_stop OutOfMemory h = inr (inr refl)
+
+pub read_stop : (status : Status) → IsReadStop status → IsFaultStatus (number_of status)
+read_stop Fine h = absurd h
+read_stop BadGrammar h = absurd h
+read_stop BadScript h = absurd h
+read_stop ReadFault h = inl refl
+read_stop WriteFault h = absurd h
+read_stop OutOfMemory h = inr (inr refl)
+
+-- commands that are taken join those before them
+pub Begins-append : (at : ℕ) (bytes : List ℕ) (commands : List Command) (mid : ℕ) (rest : List ℕ) → Begins at bytes commands mid rest → (command : Command) (more : List ℕ) → mid < 2 ^ 48 → IsWithinLimits command → rest ≡ text_of command ++ more → (end : ℕ) → end ≡ mid + length (text_of command) → Begins at bytes (commands ++ command ∷ []) end more
+Begins-append at bytes [] mid rest h command more early w e end to =
+    (more, omega (arith, early, h.0), w, sym h.1 ∙ e, (to ∙ ap (λ n. n + length (text_of command)) h.0, refl))
+Begins-append at bytes (c ∷ commands) mid rest h command more early w e end to =
+    (h.0, h.1, h.2, h.3, Begins-append (at + length (text_of c)) h.0 commands mid rest h.4 command more early w e end to)
+
+module _ (input before : List ℕ) where
+  -- a fault left a prefix: the replies so far and a part of the next line
+  pub cut_short : (told line : List ℕ) → ((out : List ℕ) (status : ℕ) → IsSession input out status → (more : List ℕ) × (out ≡ (told ++ line) ++ more)) → (old new : Option (List ℕ)) → old ≡ Some (before ++ told) → GrowsByPrefix old new line → (status : Status) → IsFaultStatus (number_of status) → Ends input before new status
+  cut_short told line sure old new written cut status fault = (
+    told ++ take cut.0 line,
+    cut.2 (before ++ told) written ∙ ap Some (append_assoc before told (take cut.0 line)),
+    inr (fault, prefix),
+  )
+    where
+      parts : (more : List ℕ) → (told ++ line) ++ more ≡ (told ++ take cut.0 line) ++ (drop cut.0 line ++ more)
+      parts more =
+          ap (λ bytes. (told ++ bytes) ++ more) (sym (take-append-drop cut.0 line))
+          ∙ append_assoc told (take cut.0 line ++ drop cut.0 line) more
+          ∙ ap (λ bytes. told ++ bytes) (append_assoc (take cut.0 line) (drop cut.0 line) more)
+          ∙ sym (append_assoc told (take cut.0 line) (drop cut.0 line ++ more))
+
+      prefix : IsPrefixOfSession input (told ++ take cut.0 line)
+      prefix out n s = let m = sure out n s in (drop cut.0 line ++ m.0, m.1 ∙ parts m.0)
+
+  -- nothing more was written
+  pub stopped : (told : List ℕ) → ((out : List ℕ) (status : ℕ) → IsSession input out status → (more : List ℕ) × (out ≡ told ++ more)) → (now : Option (List ℕ)) → now ≡ Some (before ++ told) → (status : Status) → IsFaultStatus (number_of status) → Ends input before now status
+  stopped told sure now written status fault = (told, written, inr (fault, sure))
+
+  module _ (front : List Command) (at : ℕ) (rest told : List ℕ) (in_order : IsInOrder front) (begins : Begins 0 input front at rest) (replies : AreAllReplies front told) where
+    -- a fault behind these commands
+    pub stopped_behind : (now : Option (List ℕ)) → now ≡ Some (before ++ told) → (status : Status) → IsFaultStatus (number_of status) → Ends input before now status
+    stopped_behind = stopped told (replies_come_first input front at rest told begins in_order replies)
+
+    -- the last line of the session
+    pub last : (ending : Ending) → EndsAs front at rest ending → (old new : Option (List ℕ)) → old ≡ Some (before ++ told) → (wanted status : Status) → number_of wanted ≡ last_status ending → EndsWith old new (last_line ending) wanted status → Ends input before new status
+    last ending ends old new written wanted status final (inl h) = (
+      told ++ last_line ending,
+      h.0 (before ++ told) written ∙ ap Some (append_assoc before told (last_line ending)),
+      inl (whole front ending told script replies refl (ap number_of h.1 ∙ final)),
+    )
+      where
+        script : IsScript input front ending
+        script = record { at = at; rest = rest; in_order = in_order; begins = begins; ends = ends }
+    last ending ends old new written wanted status final (inr h) =
+        cut_short told (last_line ending) sure old new written h.0 status (write_stop status h.1)
+      where
+        script : IsScript input front ending
+        script = record { at = at; rest = rest; in_order = in_order; begins = begins; ends = ends }
+
+        sure : (out : List ℕ) (n : ℕ) → IsSession input out n → (more : List ℕ) × (out ≡ (told ++ last_line ending) ++ more)
+        sure out n s = ([], replies_then_last_line input front ending told script replies out n s ∙ sym (append-nil (told ++ last_line ending)))
+
+  -- one more command whose reply was cut short
+  pub cut_behind : (front : List Command) (at : ℕ) (rest told line : List ℕ) → IsInOrder front → Begins 0 input front at rest → AreAllReplies front (told ++ line) → (old new : Option (List ℕ)) → old ≡ Some (before ++ told) → GrowsByPrefix old new line → (status : Status) → IsFaultStatus (number_of status) → Ends input before new status
+  cut_behind front at rest told line in_order begins replies =
+      cut_short told line (replies_come_first input front at rest (told ++ line) begins in_order replies)
+
+  -- the last line cut short, or a fault, at a refused grammar
+  pub ended_at_grammar : (block : List ℕ) (at : ℕ) (rest : List ℕ) → Begins 0 input (header ∷ grammar block ∷ []) at rest → (old new : Option (List ℕ)) → old ≡ Some before → (status : Status) → EndsAtGrammar block old new status → Ends input before new status
+  ended_at_grammar block at rest begins old new written status h = by_status status h
+    where
+      none_yet : old ≡ Some (before ++ [])
+      none_yet = written ∙ ap Some (sym (append-nil before))
+
+      by_line : (line : List ℕ) → IsGrammarLine block line → GrowsByPrefix old new line → (status : Status) → IsFaultStatus (number_of status) → Ends input before new status
+      by_line line (inl r) cut status fault =
+          cut_short [] line (λ out n s. ([], refusal_is_all input block line at rest begins r out n s ∙ sym (append-nil line))) old new none_yet cut status fault
+      by_line line (inr a) cut status fault =
+          let P : List ℕ → Type 0 = AreAllReplies (header ∷ grammar block ∷ []) in
+          cut_behind (header ∷ grammar block ∷ []) at rest [] line tt begins (subst P (sym a.2) (grammar_told a.0 block a.1)) old new none_yet cut status fault
+
+      by_status : (status : Status) → EndsAtGrammar block old new status → Ends input before new status
+      by_status BadGrammar h = (h.0, h.2 before written, inl (refused block rest at begins h.1 refl))
+      by_status WriteFault h = by_line h.0 h.1 h.2 WriteFault (inr (inl refl))
+      by_status OutOfMemory (inl h) = stopped [] (λ out n s. (out, refl)) new (h (before ++ []) none_yet) OutOfMemory (inr (inr refl))
+      by_status OutOfMemory (inr h) = by_line h.0 h.1 h.2 OutOfMemory (inr (inr refl))
+      by_status Fine h = absurd h
+      by_status BadScript h = absurd h
+      by_status ReadFault h = absurd h
+
+  -- a fault at the text, behind a grammar that was accepted
+  pub ended_at_text : (block text : List ℕ) (g : Expansion) → IsAccepted block g → (mid : ℕ) (mid_rest : List ℕ) → Begins 0 input (header ∷ grammar block ∷ []) mid mid_rest → (at : ℕ) (rest : List ℕ) → Begins 0 input (header ∷ grammar block ∷ opens text ∷ []) at rest → (old new : Option (List ℕ)) → old ≡ Some (before ++ grammar_reply g) → (status : Status) → EndsAtText g text old new status → Ends input before new status
+  ended_at_text block text g accepted mid mid_rest mid_begins at rest begins old new written status h = by_status status h
+    where
+      sure : (line : List ℕ) → IsTextLine g text line → (out : List ℕ) (n : ℕ) → IsSession input out n → (more : List ℕ) × (out ≡ (grammar_reply g ++ line) ++ more)
+      sure line t out n s =
+          let told = text_told g block text t.0 [] [] accepted t.1 refl in
+          let first = replies_come_first input (header ∷ grammar block ∷ opens text ∷ []) at rest _ begins tt told out n s in
+          let short : version_reply 0 (length t.0) ++ [] ≡ line = append-nil (version_reply 0 (length t.0)) ∙ sym t.2 in
+          (first.0, first.1 ∙ ap (λ bytes. (grammar_reply g ++ bytes) ++ first.0) short)
+
+      by_line : (line : List ℕ) → IsTextLine g text line → GrowsByPrefix old new line → (status : Status) → IsFaultStatus (number_of status) → Ends input before new status
+      by_line line t cut status fault = cut_short (grammar_reply g) line (sure line t) old new written cut status fault
+
+      before_text : (out : List ℕ) (n : ℕ) → IsSession input out n → (more : List ℕ) × (out ≡ grammar_reply g ++ more)
+      before_text = replies_come_first input (header ∷ grammar block ∷ []) mid mid_rest (grammar_reply g) mid_begins tt (grammar_told g block accepted)
+
+      by_status : (status : Status) → EndsAtText g text old new status → Ends input before new status
+      by_status WriteFault h = by_line h.0 h.1 h.2 WriteFault (inr (inl refl))
+      by_status OutOfMemory (inl h) =
+          stopped (grammar_reply g) before_text new (h (before ++ grammar_reply g) written) OutOfMemory (inr (inr refl))
+      by_status OutOfMemory (inr h) = by_line h.0 h.1 h.2 OutOfMemory (inr (inr refl))
+      by_status Fine h = absurd h
+      by_status BadGrammar h = absurd h
+      by_status BadScript h = absurd h
+      by_status ReadFault h = absurd h
+
+-- no command that begins a line stands where no line comes
+pub no_line_no_command : (from to : ℕ) (old new : Option (List ℕ)) (line bytes : List ℕ) → NextLine from to old new line false → old ≡ Some bytes → (command : Command) (more : List ℕ) → from < 2 ^ 48 → IsWithinLimits command → bytes ≡ text_of command ++ more → ⊥
+no_line_no_command from to old new line bytes h is command more early w e =
+    h bytes is early (line_of command) (block_of command ++ more) (each_differs 10 (line_of command) (line_lacks_lf command w), line_is_short command w)
+    (e ∙ append_assoc (line_of command) (10 ∷ block_of command) more)
+
+-- a line that comes is the line of the command that begins there
+pub line_of_command : (from to : ℕ) (old new : Option (List ℕ)) (line bytes : List ℕ) → NextLine from to old new line true → old ≡ Some bytes → (command : Command) (more : List ℕ) → IsWithinLimits command → bytes ≡ text_of command ++ more → line ≡ line_of command
+line_of_command from to old new line bytes h is command more w e =
+    let t = h.1 bytes is in
+    (command_line command line t.0 more w (lacks_if_each_differs 10 line h.2.0) (sym (append_assoc line (10 ∷ []) t.0) ∙ sym t.2 ∙ e)).0
+
+end_is_line : IsLine 256 (codes "end")
+end_is_line = (each_differs 10 (codes "end") (tested 10 (codes "end") refl), omega arith)
+
+-- nor does the line `end`
+pub no_line_no_end : (from to : ℕ) (old new : Option (List ℕ)) (line bytes : List ℕ) → NextLine from to old new line false → old ≡ Some bytes → (more : List ℕ) → from < 2 ^ 48 → bytes ≡ codes "end" ++ (10 ∷ more) → ⊥
+no_line_no_end from to old new line bytes h is more early e = h bytes is early (codes "end") more end_is_line e
+
+-- a line that is none of these
+module _ (from to : ℕ) (old new : Option (List ℕ)) (line bytes : List ℕ) (h : NextLine from to old new line true) (is : old ≡ Some bytes) where
+  pub no_question : ReadsHas line None → (command : Command) (more : List ℕ) → from < 2 ^ 48 → AreQuestions (command ∷ []) → IsWithinLimits command → bytes ≡ text_of command ++ more → ⊥
+  no_question other (has category first end) more early q w e =
+      other category first end (record { is_word = w.0; small_first = w.1; small_end = w.2; spelled = line_of_command from to old new line bytes h is (has category first end) more w e })
+  no_question other header more early q w e = absurd q
+  no_question other (grammar block) more early q w e = absurd q
+  no_question other (opens text) more early q w e = absurd q
+
+  rest_of : (rest : List ℕ) × (new ≡ Some rest) × (bytes ≡ line ++ (10 ∷ rest))
+  rest_of = let t = h.1 bytes is in (t.0, t.1, t.2 ∙ append_assoc line (10 ∷ []) t.0)
+
+  pub no_end : (line ≡ codes "end" → ⊥) → (more : List ℕ) → from < 2 ^ 48 → bytes ≡ codes "end" ++ (10 ∷ more) → ⊥
+  no_end other more early e =
+      other ((cut_same 10 line rest_of.0 (codes "end") more (lacks_if_each_differs 10 line h.2.0) (tested 10 (codes "end") refl) (sym rest_of.2 ∙ e)).0)
+
+  pub is_end : line ≡ codes "end" → (more : List ℕ) × (bytes ≡ codes "end" ++ (10 ∷ more))
+  is_end e = (rest_of.0, rest_of.2 ∙ ap (λ word. word ++ (10 ∷ rest_of.0)) e)
+
+  -- a line that asks is a question taken
+  pub question_taken : (category : List ℕ) (first end : ℕ) → IsHas line category first end → TakesCommand from to old new (has category first end)
+  question_taken category first end q = let P : List ℕ → Type 0 = λ word. Takes old new (word ++ 10 ∷ []) in record {
+    early = h.0;
+    within_limits = (q.is_word, q.small_first, q.small_end, omega (arith, h.2.1, ap length q.spelled));
+    taken = subst P q.spelled h.1;
+    offset = omega (arith, h.3, ap length q.spelled, length-append (line_of (has category first end)) (10 ∷ []));
+  }
+
+-- a command behind questions, in order, is a question
+pub last_question : (questions : List Command) (command : Command) → AreQuestions (questions ++ command ∷ []) → AreQuestions (command ∷ [])
+last_question [] command h = h
+last_question (has category first end ∷ questions) command h = last_question questions command h
+last_question (header ∷ questions) command h = absurd h
+last_question (grammar block ∷ questions) command h = absurd h
+last_question (opens text ∷ questions) command h = absurd h
+
+module _ (input before : List ℕ) (coming : Option (List ℕ)) (at : ℕ) (now : Option (List ℕ)) (opened : Opened) (r : Running input before coming at now opened) where
+  front : List Command
+  front = header ∷ grammar r.block ∷ opens r.text ∷ r.questions
+
+  told : List ℕ
+  told = grammar_reply opened.grammar ++ (version_reply 0 (length r.tokens) ++ r.replies)
+
+  all_replies : AreAllReplies front told
+  unfolding front told
+  all_replies = text_told opened.grammar r.block r.text r.tokens r.questions r.replies r.accepted (r.is_opened).are_tokens r.are_replies
+
+  -- a fault
+  pub running_stopped : (status : Status) → IsFaultStatus (number_of status) → Ends input before now status
+  unfolding front told
+  running_stopped status fault = stopped_behind input before front at r.rest told r.are_questions r.begins all_replies now r.has_written status fault
+
+  -- neither a question nor the end follows
+  pub running_broken : (place : ℕ) → place ≡ at → ((command : Command) (more : List ℕ) → at < 2 ^ 48 → AreQuestions (command ∷ []) → IsWithinLimits command → r.rest ≡ text_of command ++ more → ⊥) → ((more : List ℕ) → at < 2 ^ 48 → r.rest ≡ codes "end" ++ (10 ∷ more) → ⊥) → (new : Option (List ℕ)) (status : Status) → EndsWith now new (last_line (broken place)) BadScript status → Ends input before new status
+  unfolding front told
+  running_broken place e no_more no_end new status says =
+      last input before front at r.rest told r.are_questions r.begins all_replies (broken place) (
+        e,
+        (λ go. no_more go.command go.more go.early (last_question r.questions go.command go.in_order) go.within_limits go.spelled),
+        (λ end. no_end end.more end.early end.spelled),
+      )
+      now new r.has_written BadScript status refl says
+
+  -- the end follows
+  pub running_ended : (more : List ℕ) → at < 2 ^ 48 → r.rest ≡ codes "end" ++ (10 ∷ more) → (new : Option (List ℕ)) (status : Status) → EndsWith now new (last_line ended) Fine status → Ends input before new status
+  unfolding front told
+  running_ended more early e new status says =
+      last input before front at r.rest told r.are_questions r.begins all_replies ended
+      (record { more = more; early = early; complete = r.are_questions; spelled = e })
+      now new r.has_written Fine status refl says
+
+  -- a question follows, and its answer is written or cut short
+  module _ (category : List ℕ) (first end to : ℕ) (later : Option (List ℕ)) (taken : TakesCommand at to coming later (has category first end)) (line : List ℕ) (answer : IsAnswer opened.grammar r.tokens category first end line) where
+    question : Command
+    question = has category first end
+
+    behind : (more : List ℕ) × (later ≡ Some more) × (r.rest ≡ text_of (has category first end) ++ more)
+    behind = taken.taken r.rest r.comes
+
+    begins_more : Begins 0 input (header ∷ grammar r.block ∷ opens r.text ∷ (r.questions ++ has category first end ∷ [])) to behind.0
+    begins_more = Begins-append 0 input (header ∷ grammar r.block ∷ opens r.text ∷ r.questions) at r.rest r.begins (has category first end) behind.0 taken.early taken.within_limits behind.2 to taken.offset
+
+    are_more : AreQuestions (r.questions ++ has category first end ∷ [])
+    are_more = questions_more r.questions (has category first end) r.are_questions tt
+
+    replies_are : AreReplies opened.grammar (r.text ∷ []) (r.questions ++ has category first end ∷ []) (r.replies ++ line)
+    replies_are = replies_more opened.grammar (r.text ∷ []) r.questions r.replies (has category first end) line r.are_questions r.are_replies (r.text, r.tokens, ([], refl), (r.is_opened).are_tokens, answer)
+
+    longer : (told_more : List ℕ) → told ++ told_more ≡ grammar_reply opened.grammar ++ (version_reply 0 (length r.tokens) ++ (r.replies ++ told_more))
+    unfolding told
+    longer told_more =
+        append_assoc (grammar_reply opened.grammar) (version_reply 0 (length r.tokens) ++ r.replies) told_more
+        ∙ ap (λ bytes. grammar_reply opened.grammar ++ bytes) (append_assoc (version_reply 0 (length r.tokens)) r.replies told_more)
+
+    pub running_answered : (new : Option (List ℕ)) → Grows now new line → Running input before later to new opened
+    unfolding told
+    running_answered new grows = record {
+      block = r.block;
+      text = r.text;
+      tokens = r.tokens;
+      questions = r.questions ++ has category first end ∷ [];
+      replies = r.replies ++ line;
+      rest = behind.0;
+      comes = behind.1;
+      are_questions = are_more;
+      begins = begins_more;
+      accepted = r.accepted;
+      is_opened = r.is_opened;
+      are_replies = replies_are;
+      has_written = grows (before ++ told) r.has_written ∙ ap Some (append_assoc before told line ∙ ap (λ bytes. before ++ bytes) (longer line));
+    }
+
+    pub running_cut : (new : Option (List ℕ)) → GrowsByPrefix now new line → (status : Status) → IsFaultStatus (number_of status) → Ends input before new status
+    unfolding told
+    running_cut new cut status fault =
+        let P : List ℕ → Type 0 = AreAllReplies (header ∷ grammar r.block ∷ opens r.text ∷ (r.questions ++ has category first end ∷ [])) in
+        cut_behind input before (header ∷ grammar r.block ∷ opens r.text ∷ (r.questions ++ has category first end ∷ [])) to behind.0 told line are_more begins_more
+        (subst P (sym (longer line)) (text_told opened.grammar r.block r.text r.tokens (r.questions ++ has category first end ∷ []) (r.replies ++ line) r.accepted (r.is_opened).are_tokens replies_are))
+        now new r.has_written cut status fault
+
+-- a command is short
+text_is_short : (command : Command) → IsWithinLimits command → length (text_of command) ≤ 2 ^ 18
+text_is_short command w = omega (arith, length-append (line_of command) (10 ∷ block_of command), line_is_short command w, block_is_short command w)
+  where
+    block_is_short : (command : Command) → IsWithinLimits command → length (block_of command) ≤ 65537
+    block_is_short header w = omega arith
+    block_is_short (grammar block) w = omega (arith, w, length-append block (10 ∷ []))
+    block_is_short (opens text) w = omega (arith, w.0, length-append text (10 ∷ []))
+    block_is_short (has category first end) w = omega arith
+
+-- so its end is not far
+pub taken_room : (from to : ℕ) (old new : Option (List ℕ)) (command : Command) → TakesCommand from to old new command → to < 2 ^ 50
+taken_room from to old new command t = omega (arith, t.early, t.offset, text_is_short command t.within_limits)
+
+-- the command in its place
+is_header : (command : Command) → IsInOrder (command ∷ []) → IsHeader command
+is_header header h = tt
+is_header (grammar block) h = absurd h
+is_header (opens text) h = absurd h
+is_header (has category first end) h = absurd h
+
+is_grammar : (command : Command) → IsInOrder (header ∷ command ∷ []) → IsGrammar command
+is_grammar header h = absurd h
+is_grammar (grammar block) h = tt
+is_grammar (opens text) h = absurd h
+is_grammar (has category first end) h = absurd h
+
+is_text : (block : List ℕ) (command : Command) → IsInOrder (header ∷ grammar block ∷ command ∷ []) → IsText command
+is_text block header h = absurd h
+is_text block (grammar other) h = absurd h
+is_text block (opens text) h = tt
+is_text block (has category first end) h = absurd h
+
+module _ (input before : List ℕ) (from : ℕ) (at_start : from ≡ 0) (coming : Option (List ℕ)) (comes : coming ≡ Some input) (old : Option (List ℕ)) (written : old ≡ Some before) where
+  none_yet : old ≡ Some (before ++ [])
+  none_yet = written ∙ ap Some (sym (append-nil before))
+
+  -- no header comes
+  pub no_header : NoneComes IsHeader from coming → (new : Option (List ℕ)) (status : Status) → EndsWith old new (last_line (broken 0)) BadScript status → Ends input before new status
+  no_header none new status says =
+      last input before [] 0 input [] tt (refl, refl) refl (broken 0)
+      (refl, (λ go. none input comes (omega (arith, at_start)) go.command go.more (is_header go.command go.in_order) go.within_limits go.spelled), λ end. end.complete)
+      old new none_yet BadScript status refl says
+
+  -- the header was taken
+  module _ (at : ℕ) (next : Option (List ℕ)) (taken : TakesCommand from at coming next header) where
+    header_begins : (rest : List ℕ) × (next ≡ Some rest) × Begins 0 input (header ∷ []) at rest
+    header_begins =
+        let t = taken.taken input comes in
+        (t.0, t.1, Begins-append 0 input [] 0 input (refl, refl) header t.0 (omega arith) tt t.2 at (taken.offset ∙ ap (λ n. n + length (text_of header)) at_start))
+
+    -- no grammar comes
+    pub no_grammar : NoneComes IsGrammar at next → (place : ℕ) → place ≡ at → (new : Option (List ℕ)) (status : Status) → EndsWith old new (last_line (broken place)) BadScript status → Ends input before new status
+    no_grammar none place e new status says =
+        let b = header_begins in
+        last input before (header ∷ []) at b.0 [] tt b.2 refl (broken place)
+        (e, (λ go. none b.0 b.1 go.early go.command go.more (is_grammar go.command go.in_order) go.within_limits go.spelled), λ end. end.complete)
+        old new none_yet BadScript status refl says
+
+    -- a grammar was taken
+    module _ (block : List ℕ) (behind : ℕ) (later : Option (List ℕ)) (grammar_taken : TakesCommand at behind next later (grammar block)) where
+      grammar_begins : (rest : List ℕ) × (later ≡ Some rest) × Begins 0 input (header ∷ grammar block ∷ []) behind rest
+      grammar_begins =
+          let b = header_begins in
+          let t = grammar_taken.taken b.0 b.1 in
+          (t.0, t.1, Begins-append 0 input (header ∷ []) at b.0 b.2 (grammar block) t.0 grammar_taken.early grammar_taken.within_limits t.2 behind grammar_taken.offset)
+
+      -- the session ends there
+      pub grammar_ends : (new : Option (List ℕ)) (status : Status) → EndsAtGrammar block old new status → Ends input before new status
+      grammar_ends new status h = ended_at_grammar input before block behind grammar_begins.0 grammar_begins.2 old new written status h
+
+      -- it was accepted
+      module _ (g : Expansion) (accepted : IsAccepted block g) (mid : Option (List ℕ)) (replied : Grows old mid (grammar_reply g)) where
+        reply_written : mid ≡ Some (before ++ grammar_reply g)
+        reply_written = replied before written
+
+        -- a fault came
+        pub text_stopped : (status : Status) → IsFaultStatus (number_of status) → Ends input before mid status
+        text_stopped status fault =
+            stopped_behind input before (header ∷ grammar block ∷ []) behind grammar_begins.0 (grammar_reply g) tt grammar_begins.2 (grammar_told g block accepted) mid reply_written status fault
+
+        -- no text comes
+        pub no_text : NoneComes IsText behind later → (place : ℕ) → place ≡ behind → (new : Option (List ℕ)) (status : Status) → EndsWith mid new (last_line (broken place)) BadScript status → Ends input before new status
+        no_text none place e new status says =
+            let b = grammar_begins in
+            last input before (header ∷ grammar block ∷ []) behind b.0 (grammar_reply g) tt b.2 (grammar_told g block accepted) (broken place)
+            (e, (λ go. none b.0 b.1 go.early go.command go.more (is_text block go.command go.in_order) go.within_limits go.spelled), λ end. end.complete)
+            mid new reply_written BadScript status refl says
+
+        -- a text was taken, and opened or not
+        module _ (text : List ℕ) (end : ℕ) (rest_later : Option (List ℕ)) (text_taken : TakesCommand behind end later rest_later (opens text)) where
+          text_begins : (rest : List ℕ) × (rest_later ≡ Some rest) × Begins 0 input (header ∷ grammar block ∷ opens text ∷ []) end rest
+          text_begins =
+              let b = grammar_begins in
+              let t = text_taken.taken b.0 b.1 in
+              (t.0, t.1, Begins-append 0 input (header ∷ grammar block ∷ []) behind b.0 b.2 (opens text) t.0 text_taken.early text_taken.within_limits t.2 end text_taken.offset)
+
+          opened_runs : (new : Option (List ℕ)) (opened : Opened) → HasOpened g text mid new opened → Running input before rest_later end new opened
+          opened_runs new opened h = record {
+            block = block;
+            text = text;
+            tokens = h.tokens;
+            questions = [];
+            replies = [];
+            rest = text_begins.0;
+            comes = text_begins.1;
+            are_questions = tt;
+            begins = text_begins.2;
+            accepted = subst (IsAccepted block) (sym h.grammar) accepted;
+            is_opened = h.is_opened;
+            are_replies = refl;
+            has_written = h.written (before ++ grammar_reply g) reply_written ∙ ap Some (append_assoc before (grammar_reply g) (version_reply 0 (length h.tokens)) ∙ ap (λ bytes. before ++ bytes) same_reply);
+          }
+            where
+              same_reply : grammar_reply g ++ version_reply 0 (length h.tokens) ≡ grammar_reply opened.grammar ++ (version_reply 0 (length h.tokens) ++ [])
+              same_reply = ap (λ (x : Expansion). grammar_reply x ++ version_reply 0 (length h.tokens)) (sym h.grammar) ∙ ap (λ bytes. grammar_reply opened.grammar ++ bytes) (sym (append-nil (version_reply 0 (length h.tokens))))
+
+          pub text_opened : (new : Option (List ℕ)) (r : Result Opened Status) → OpensText g text mid new r → Begun input before rest_later end new r
+          text_opened new (Ok opened) h = opened_runs new opened h
+          text_opened new (Err status) h =
+              ended_at_text input before block text g accepted behind grammar_begins.0 grammar_begins.2 end text_begins.0 text_begins.2 mid new reply_written status h
+
+-- what holds anyway
+pub on_ok : {X E : Type 0} (P : Type 0) (r : Result X E) → P → OnOk r P
+on_ok P (Ok x) h = h
+on_ok P (Err e) h = tt

@@ -1,0 +1,187 @@
+-- Lines and blocks in the bytes that come: a line has one first LF, and what follows a command's line is its block.
+use Rattle.std.proofs.Common.{◌≡◌, ℕ, suc, ◌+◌, ◌^◌, ◌<◌, ◌≤◌, List, [], ◌∷◌, ◌++◌, length, drop, get_or, decimal, codes, IsAscii, Vec, Global, MatchOption, option_map, Option, Some, None, Result, Ok, Err, IfOk, Bool, true, false, nat_eq, refl, sym, ◌∙◌, ap, subst, arith, append_assoc, length-append}
+use lib.Pointwise.{pointwise, bytes_decides}
+use Rattle.std.proofs.lemmas.Fmt.{decimal_injective}
+use Rattle.cyk_io.specs.Streams.{Takes}
+use Rattle.cyk_io.specs.Lines.{HasNoLf, IsLine, LineReads}
+use Rattle.cyk_io.specs.Blocks.{BlockReads}
+use Rattle.cyk_io.specs.declared.block.ReadBlock.TheVariants.{Kept}
+use Rattle.cyk_io.specs.declared.line.ReadLine.TheVariants.{LongLine, Ended}
+use Rattle.spec_session.specs.Script.{Command, header, grammar, opens, has, line_of, text_of, IsWithinLimits}
+use Rattle.spec_session.proofs.ScriptLemmas.{tested, each_differs, lacks_if_each_differs, lacks_joined, cut_same, same_rest, same_front, digits_lack, line_lacks_lf, line_is_short, command_line}
+use Rattle.chart_service.specs.Reading.{NextLine, NextBlock, NextCounted, counted_text, TakesCommand, NoneComes, IsHeader, IsGrammar, NextHeader, NextGrammar, NextText}
+
+-- a line does not end within bytes that have no LF
+no_line_within : (front rest line more : List ℕ) → HasNoLf front → length line < length front → front ++ rest ≡ line ++ (10 ∷ more) → ⊥
+no_line_within [] rest line more h lt e = omega arith
+no_line_within (x ∷ front) rest [] more h lt e = h 0 0 (omega arith) (ap (λ bytes. get_or bytes 0 0) e)
+no_line_within (x ∷ front) rest (y ∷ line) more h lt e =
+    no_line_within front rest line more (λ k d less. h (suc k) d (omega arith)) (omega arith) (ap (drop 1) e)
+
+module _ (from to : ℕ) (old new : Option (List ℕ)) (line : List ℕ) where
+  -- behind one byte more than a line may have, no line was begun
+  pub no_long_line : (at : ℕ) → LineReads 256 from to old new line (LongLine at) → (told : List ℕ) → old ≡ Some told → from < 2 ^ 48 → (wanted more : List ℕ) → IsLine 256 wanted → told ≡ wanted ++ (10 ∷ more) → ⊥
+  no_long_line at h told is early wanted more w e =
+      let t = h.1 told is in
+      let size : length (line ++ h.0 ∷ []) ≡ length line + 1 = length-append line (h.0 ∷ []) in
+      no_line_within (line ++ h.0 ∷ []) t.0 wanted more h.2 (omega (arith, w.1, h.3)) (sym t.2 ∙ e)
+
+  -- nor before the end of the input, without an LF
+  pub no_ended_line : (at : ℕ) → LineReads 256 from to old new line (Ended at) → (told : List ℕ) → old ≡ Some told → from < 2 ^ 48 → (wanted more : List ℕ) → IsLine 256 wanted → told ≡ wanted ++ (10 ∷ more) → ⊥
+  no_ended_line at h told is early wanted more w e =
+      let t = h.0 told is in
+      let nothing : t.0 ≡ [] = h.1 t.0 t.1 in
+      let whole : length told ≡ length line + length t.0 = ap length t.2 ∙ length-append line t.0 in
+      let size : length told ≡ length wanted + suc (length more) = ap length e ∙ length-append wanted (10 ∷ more) in
+      no_line_within line t.0 wanted more h.2.0 (omega (arith, ap length nothing)) (sym t.2 ∙ e)
+
+-- bytes that end in an LF are a block and an LF
+module _ (count from to : ℕ) (old new : Option (List ℕ)) where
+  pub block_taken : (bytes block : List ℕ) → BlockReads (count + 1) (count + 1) from to old new bytes Kept → bytes ≡ block ++ 10 ∷ [] → NextBlock count from to old new (Some block)
+  block_taken bytes block h e =
+      let size : length bytes ≡ length block + 1 = ap length e ∙ length-append block (10 ∷ []) in
+      let P : List ℕ → Type 0 = Takes old new in
+      (subst P e h.0, omega (arith, h.1), omega (arith, h.3))
+
+  -- others are none
+  pub no_block : (bytes : List ℕ) → BlockReads (count + 1) (count + 1) from to old new bytes Kept → ((block : List ℕ) → bytes ≡ block ++ 10 ∷ [] → ⊥) → NextBlock count from to old new None
+  no_block bytes h other told is block more size e =
+      let t = h.0 told is in
+      let long : length bytes ≡ length (block ++ 10 ∷ []) = h.1 ∙ sym (length-append block (10 ∷ []) ∙ ap (λ n. n + 1) size) in
+      let whole : bytes ++ t.0 ≡ (block ++ 10 ∷ []) ++ more = sym t.2 ∙ e ∙ sym (append_assoc block (10 ∷ []) more) in
+      other block (same_front bytes t.0 (block ++ 10 ∷ []) more long whole)
+
+-- the line of a command within its limits is a line
+pub line_within : (command : Command) → IsWithinLimits command → IsLine 256 (line_of command)
+line_within command w = (each_differs 10 (line_of command) (line_lacks_lf command w), line_is_short command w)
+
+-- a result that is Ok keeps more
+pub if_ok_more : {X E : Type 0} (P Q : X → Type 0) (r : Result X E) → ((x : X) → P x → Q x) → IfOk r P → IfOk r Q
+if_ok_more P Q (Ok x) more h = more x h
+if_ok_more P Q (Err e) more h = tt
+
+-- bytes that are taken in turn
+pub takes_both : (old mid new : Option (List ℕ)) (first second : List ℕ) → Takes old mid first → Takes mid new second → Takes old new (first ++ second)
+takes_both old mid new first second a b told is =
+    let t = a told is in
+    let u = b t.0 t.1 in
+    (u.0, u.1, t.2 ∙ ap (λ bytes. first ++ bytes) u.2 ∙ sym (append_assoc first second u.0))
+
+-- a command with a block, read as its line and then its block
+module _ (beginning : List ℕ) (most from : ℕ) (old : Option (List ℕ)) where
+  rest_of : (block more told : List ℕ) → told ≡ counted_text beginning block ++ more → told ≡ (beginning ++ decimal (length block)) ++ (10 ∷ (block ++ (10 ∷ more)))
+  rest_of block more told e =
+      e ∙ append_assoc (beginning ++ decimal (length block)) (10 ∷ (block ++ 10 ∷ [])) more
+      ∙ ap (λ bytes. (beginning ++ decimal (length block)) ++ (10 ∷ bytes)) (append_assoc block (10 ∷ []) more)
+
+  pub counted_no_line : (to to' : ℕ) (new new' : Option (List ℕ)) (line : List ℕ) → NextLine from to old new line false → NextCounted beginning most from to' old new' None
+  counted_no_line to to' new new' line h told is early block more within w e =
+      h told is early (beginning ++ decimal (length block)) (block ++ (10 ∷ more)) w (rest_of block more told e)
+
+  module _ (mid_at : ℕ) (mid : Option (List ℕ)) (line : List ℕ) (taken : NextLine from mid_at old mid line true) where
+    line_is : (told block more : List ℕ) (is : old ≡ Some told) → IsLine 256 (beginning ++ decimal (length block)) → told ≡ counted_text beginning block ++ more → (rest : List ℕ) × (mid ≡ Some rest) × (line ≡ beginning ++ decimal (length block)) × (rest ≡ block ++ (10 ∷ more))
+    line_is told block more is w e =
+        let t = taken.1 told is in
+        let same = cut_same 10 line t.0 (beginning ++ decimal (length block)) (block ++ (10 ∷ more)) (lacks_if_each_differs 10 line taken.2.0) (lacks_if_each_differs 10 (beginning ++ decimal (length block)) w.0) (sym (append_assoc line (10 ∷ []) t.0) ∙ sym t.2 ∙ rest_of block more told e) in
+        (t.0, t.1, same.0, same.1)
+
+    pub counted_no_count : (to : ℕ) (new : Option (List ℕ)) → most < 10 ^ 9 → ((n : ℕ) → n < 10 ^ 9 → n ≤ most → line ≡ beginning ++ decimal n → ⊥) → NextCounted beginning most from to old new None
+    counted_no_count to new small other told is early block more within w e =
+        other (length block) (omega arith) within (line_is told block more is w e).2
+
+    module _ (count to : ℕ) (new : Option (List ℕ)) (small : count < 10 ^ 9) (within : count ≤ most) (bound : most < 10 ^ 9) (spelled : line ≡ beginning ++ decimal count) where
+      counted_block : (block : List ℕ) → NextBlock count mid_at to mid new (Some block) → NextCounted beginning most from to old new (Some block)
+      counted_block block h =
+          let size : count ≡ length block = sym h.1 in
+          let is_line : line ≡ beginning ++ decimal (length block) = spelled ∙ ap (λ n. beginning ++ decimal n) size in
+          let whole : (line ++ 10 ∷ []) ++ (block ++ 10 ∷ []) ≡ counted_text beginning block = append_assoc line (10 ∷ []) (block ++ 10 ∷ []) ∙ ap (λ bytes. bytes ++ (10 ∷ (block ++ 10 ∷ []))) is_line in
+          let both = takes_both old mid new (line ++ 10 ∷ []) (block ++ 10 ∷ []) taken.1 h.0 in
+          let P : List ℕ → Type 0 = Takes old new in
+          let long : length (counted_text beginning block) ≡ length line + suc (length block + 1) = sym (ap length whole) ∙ length-append (line ++ 10 ∷ []) (block ++ 10 ∷ []) ∙ omega (arith, length-append line (10 ∷ []), length-append block (10 ∷ [])) in
+          (taken.0, omega (arith, h.1), subst P whole both, omega (arith, taken.3, h.2, long))
+
+      counted_no_block : NextBlock count mid_at to mid new None → NextCounted beginning most from to old new None
+      counted_no_block h told is early block more few w e =
+          let l = line_is told block more is w e in
+          let same : decimal (length block) ≡ decimal count = same_rest beginning (decimal (length block)) (decimal count) (sym l.2 ∙ spelled) in
+          h l.0 l.1 block more (decimal_injective (length block) count (omega arith) (omega arith) same) l.3
+
+      pub counted : (r : Option (List ℕ)) → NextBlock count mid_at to mid new r → NextCounted beginning most from to old new r
+      counted None h = counted_no_block h
+      counted (Some block) h = counted_block block h
+
+-- the commands by their lines
+module _ (from : ℕ) (old : Option (List ℕ)) where
+  pub no_header_line : (to : ℕ) (new : Option (List ℕ)) (line : List ℕ) → NextLine from to old new line false → NoneComes IsHeader from old
+  no_header_line to new line h told is early header more one w e = h told is early (line_of header) more (line_within header w) (e ∙ append_assoc (line_of header) (10 ∷ []) more)
+  no_header_line to new line h told is early (grammar block) more one w e = absurd one
+  no_header_line to new line h told is early (opens text) more one w e = absurd one
+  no_header_line to new line h told is early (has category first end) more one w e = absurd one
+
+  module _ (to : ℕ) (new : Option (List ℕ)) where
+    -- the line `script 1`, or another
+    pub header_line : (line : List ℕ) → NextLine from to old new line true → line ≡ codes "script 1" → TakesCommand from to old new header
+    header_line line h e = let P : List ℕ → Type 0 = λ bytes. Takes old new (bytes ++ 10 ∷ []) in record {
+      early = h.0;
+      within_limits = tt;
+      taken = subst P e h.1;
+      offset = omega (arith, h.3, ap length e);
+    }
+
+    pub other_line : (line : List ℕ) → NextLine from to old new line true → (line ≡ codes "script 1" → ⊥) → NoneComes IsHeader from old
+    other_line line h other told is early header more one w e =
+        let t = h.1 told is in
+        other ((command_line header line t.0 more w (lacks_if_each_differs 10 line h.2.0) (sym (append_assoc line (10 ∷ []) t.0) ∙ sym t.2 ∙ e)).0)
+    other_line line h other told is early (grammar block) more one w e = absurd one
+    other_line line h other told is early (opens text) more one w e = absurd one
+    other_line line h other told is early (has category first end) more one w e = absurd one
+
+    -- a grammar
+    grammar_taken : (block : List ℕ) → NextCounted (codes "grammar ") 65536 from to old new (Some block) → TakesCommand from to old new (grammar block)
+    grammar_taken block h = record { early = h.0; within_limits = h.1; taken = h.2; offset = h.3 }
+
+    no_grammar : NextCounted (codes "grammar ") 65536 from to old new None → NoneComes IsGrammar from old
+    no_grammar h told is early header more one w e = absurd one
+    no_grammar h told is early (grammar block) more one w e = h told is early block more w (line_within (grammar block) w) e
+    no_grammar h told is early (opens text) more one w e = absurd one
+    no_grammar h told is early (has category first end) more one w e = absurd one
+
+    pub next_grammar : (r : Option (List ℕ)) → NextCounted (codes "grammar ") 65536 from to old new r → NextGrammar from to old new r
+    next_grammar (Some block) h = grammar_taken block h
+    next_grammar None h = no_grammar h
+
+    -- a text
+    pub next_text : (text : List ℕ) → NextCounted (codes "open ") 4096 from to old new (Some text) → IsAscii text → NextText from to old new (Some text)
+    next_text text h ascii = record { early = h.0; within_limits = (h.1, ascii); taken = h.2; offset = h.3 }
+
+    pub no_text : NextCounted (codes "open ") 4096 from to old new None → NextText from to old new None
+    no_text h told is early header more one w e = absurd one
+    no_text h told is early (grammar block) more one w e = absurd one
+    no_text h told is early (opens text) more one w e = h told is early text more w.0 (line_within (opens text) w) e
+    no_text h told is early (has category first end) more one w e = absurd one
+
+    pub no_ascii_text : (text : List ℕ) → NextCounted (codes "open ") 4096 from to old new (Some text) → (IsAscii text → ⊥) → NextText from to old new None
+    no_ascii_text text h other told is early header more one w e = absurd one
+    no_ascii_text text h other told is early (grammar block) more one w e = absurd one
+    no_ascii_text text h other told is early (opens wanted) more one w e =
+        let t = h.2 told is in
+        let lacks = lacks_joined 10 (codes "open ") (decimal (length text)) (tested 10 (codes "open ") refl) (digits_lack (length text) 10 (omega (arith, h.1)) (omega arith)) in
+        let front : (codes "open " ++ decimal (length text)) ++ (10 ∷ ((text ++ 10 ∷ []) ++ t.0)) ≡ text_of (opens wanted) ++ more = sym (append_assoc (codes "open " ++ decimal (length text)) (10 ∷ (text ++ 10 ∷ [])) t.0) ∙ sym t.2 ∙ e in
+        let parts = command_line (opens wanted) (codes "open " ++ decimal (length text)) ((text ++ 10 ∷ []) ++ t.0) more w lacks front in
+        let digits : decimal (length text) ≡ decimal (length wanted) = same_rest (codes "open ") (decimal (length text)) (decimal (length wanted)) parts.0 in
+        let size : length text ≡ length wanted = decimal_injective (length text) (length wanted) (omega (arith, h.1)) (omega (arith, w.0)) digits in
+        let same : text ≡ wanted = same_front text ((10 ∷ []) ++ t.0) wanted ((10 ∷ []) ++ more) size (sym (append_assoc text (10 ∷ []) t.0) ∙ parts.1 ∙ append_assoc wanted (10 ∷ []) more) in
+        other (subst IsAscii (sym same) w.1)
+    no_ascii_text text h other told is early (has category first end) more one w e = absurd one
+
+    -- the line, by the code's test
+    pub by_test : (line text : List ℕ) (found : Bool) → NextLine from to old new line true → text ≡ line → found ≡ pointwise nat_eq text (codes "script 1") → NextHeader from to old new found
+    by_test line text true h e f = header_line line h (sym e ∙ (bytes_decides text (codes "script 1")).0 (sym f))
+    by_test line text false h e f = other_line line h (λ same. let now : pointwise nat_eq text (codes "script 1") ≡ true = (bytes_decides text (codes "script 1")).1 (e ∙ same) in let never : false ≡ true = f ∙ now in cc)
+
+    -- the text, by the code's test
+    pub by_ascii : (text : List ℕ) → NextCounted (codes "open ") 4096 from to old new (Some text) → (r : Option (Vec ℕ Global)) → MatchOption r (IsAscii text → ⊥) (λ same. (same.items ≡ text) × IsAscii same.items) → NextText from to old new (option_map (λ t. t.items) r)
+    by_ascii text h None other = no_ascii_text text h other
+    by_ascii text h (Some same) is =
+        let P : List ℕ → Type 0 = λ bytes. NextCounted (codes "open ") 4096 from to old new (Some bytes) in
+        next_text same.items (subst P (sym is.0) h) is.1

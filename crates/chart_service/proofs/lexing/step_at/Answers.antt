@@ -1,0 +1,17 @@
+-- Nothing matches, or a kind of the grammar, or white space.
+use Rattle.chart_service.proofs.LexingLemmas.{stray_step, token_step, white_step}
+use Rattle.chart_service.proofs.lexing.step_at.Goals as goal
+
+pub returns-in_default : goal.returns-in_default
+returns-in_default c =
+    stray_step c.args.kinds.now c.args.text.now c.args.start
+    c.requires.ascii c.requires.start c.in_default.ensures
+
+pub returns-in-Some-kind : goal.returns-in-Some-kind
+returns-in-Some-kind c =
+    token_step c.args.kinds.now c.args.text.now c.args.start
+    c.in-Some.found c.in-Some-kind.kind c.in-Some.ensures c.in-Some-kind.is
+
+pub returns-in-None : goal.returns-in-None
+returns-in-None c =
+    white_step c.args.kinds.now c.args.text.now c.args.start c.in-Some.found c.in-Some.ensures c.in-None.is

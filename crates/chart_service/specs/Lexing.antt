@@ -1,0 +1,55 @@
+-- Serves the proofs alone: what the parts of the lexer find.
+use Rattle.std.specs.Prelude.{◌≡◌, ℕ, ◌<◌, ◌≤◌, List, ◌∷◌, length, Option, Some, None, MatchOption}
+use Rattle.std.specs.Prelude.{slice_get, slice_range}
+use Rattle.spec_lexing.specs.declared.kind_def.KindDef.{KindDef}
+use Rattle.spec_lexing.specs.declared.token.Token.{Token}
+use Rattle.spec_lexing.specs.LongestMatch.{IsLongestMatch, IsUnmatched}
+use Rattle.spec_lexing.specs.Tokens.{AreTokensFrom}
+use Rattle.spec_lexing.specs.Kinds.{LexKind, Matches, MatchesDef, token_kind, lex_kinds}
+use Rattle.chart_service.specs.declared.lexing.LongestMatch.{LongestMatch}
+use Rattle.chart_service.specs.declared.lexing.Step.{Step}
+
+-- the bytes from start up to end are one or more, and the most that the kind matches at start
+pub record IsLongestOfKind (kind : KindDef) (text : List ℕ) (start end : ℕ) : Type 0 where
+  pub some : start < end
+  pub within : end ≤ length text
+  pub matches : MatchesDef kind (slice_range text start end)
+  pub longest : (later : ℕ) → end < later → later ≤ length text →
+      MatchesDef kind (slice_range text start later) → ⊥
+
+-- the kind does not match one byte or more at start
+abbrev pub IsNowhere : KindDef → List ℕ → ℕ → Type 0
+IsNowhere kind text start =
+    (end : ℕ) → start < end → end ≤ length text → MatchesDef kind (slice_range text start end) → ⊥
+
+-- the kind's longest match at start ends here, or there is none
+abbrev pub IsKindEnd : KindDef → List ℕ → ℕ → Option ℕ → Type 0
+IsKindEnd kind text start end =
+    MatchOption end (IsNowhere kind text start) (IsLongestOfKind kind text start)
+
+-- the match is the longest at start, and its kind bears this number
+pub record IsLongest (kinds : List KindDef) (text : List ℕ) (start : ℕ)
+    (found : LongestMatch) : Type 0 where
+  pub order : ℕ
+  pub kind : LexKind
+  pub is_longest : IsLongestMatch Matches (lex_kinds kinds) text order start found.end
+  pub stands : slice_get (lex_kinds kinds) order ≡ Some kind
+  pub number : token_kind kind ≡ found.kind
+
+-- this is the longest match at start, or nothing matches there
+abbrev pub IsBest : List KindDef → List ℕ → ℕ → Option LongestMatch → Type 0
+IsBest kinds text start best =
+    MatchOption best (IsUnmatched Matches (lex_kinds kinds) text start) (IsLongest kinds text start)
+
+-- the token, if there is one, before the others
+abbrev pub before : Option Token → List Token → List Token
+before None tokens = tokens
+before (Some token) tokens = token ∷ tokens
+
+-- the tokens behind the step, with its own before them, are the tokens from start on
+pub record IsStep (kinds : List KindDef) (text : List ℕ) (start : ℕ) (step : Step) : Type 0 where
+  pub forward : start < step.end
+  pub within : step.end ≤ length text
+  pub tokens : (rest : List Token) →
+      AreTokensFrom Matches token_kind (lex_kinds kinds) text step.end rest →
+      AreTokensFrom Matches token_kind (lex_kinds kinds) text start (before step.token rest)

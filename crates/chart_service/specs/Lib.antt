@@ -1,0 +1,10 @@
+pub mod Serving
+pub mod Statuses
+pub mod Forms
+pub mod Reading
+pub mod Writing
+pub mod Lexing
+pub mod Table
+pub mod Opening
+pub mod Answering
+pub mod Progress

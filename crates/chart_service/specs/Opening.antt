@@ -1,0 +1,104 @@
+-- Serves the proofs alone: what is known of a grammar that was accepted and of a text that is open under it.
+use Rattle.std.specs.Prelude.{◌≡◌, ℕ, ◌⊎◌, List, length, slice_get, Some}
+use Rattle.std.specs.Prelude.{Option, Result, Ok, Err}
+use Rattle.spec_lexing.specs.declared.token.Token.{Token}
+use Rattle.spec_lexing.specs.Tokens.{AreTokensOf, kinds_of}
+use Rattle.spec_lbnf.specs.declared.definition.Def.{Def}
+use Rattle.spec_lbnf.specs.Expansion.{Expansion}
+use Rattle.spec_lbnf.specs.FirstForm.{Spells, IsFirstUnbuilt}
+use Rattle.spec_lbnf.specs.Checks.{IsFirstUnknown}
+use Rattle.spec_session.specs.Replies.{IsAccepted, IsRefused, unbuilt_line, unknown_line}
+use Rattle.spec_session.specs.Replies.{grammar_reply, version_reply}
+use Rattle.cyk_io.specs.Streams.{Grows, GrowsByPrefix, Stays}
+use Rattle.lbnf_text.specs.declared.fault.TextFault.TheVariants.{Memory as TextMemory, Unbuilt}
+use Rattle.lbnf_grammar.specs.declared.fault.GrammarFault.TheVariants.{Memory as GrammarMemory}
+use Rattle.lbnf_grammar.specs.declared.fault.GrammarFault.TheVariants.{UnknownCategory}
+use Rattle.chart_service.specs.declared.opening.LanguageFault.{LanguageFault}
+use Rattle.chart_service.specs.declared.opening.LanguageFault.TheVariants.{Text, Grammar}
+use Rattle.chart_service.specs.declared.opening.Opened.{Opened}
+use Rattle.chart_service.specs.declared.status.Status.{Status}
+use Rattle.chart_service.specs.declared.status.Status.TheVariants.{Ok as Fine, BadGrammar}
+use Rattle.chart_service.specs.declared.status.Status.TheVariants.{BadScript, ReadFault, WriteFault}
+use Rattle.chart_service.specs.declared.status.Status.TheVariants.{OutOfMemory}
+use Rattle.chart_service.specs.Table.{AreSimple, IsTableOf}
+
+-- no category's text stands twice, and the right sides are those that a table takes
+pub record IsFit (g : Expansion) : Type 0 where
+  pub simple : AreSimple g.rules
+  pub distinct : (c d : ℕ) (name : List ℕ) → slice_get g.categories c ≡ Some name
+      → slice_get g.categories d ≡ Some name → c ≡ d
+
+-- the grammar that the block spells, or why it is refused; want of memory is free
+abbrev pub ReadsLanguage : List ℕ → Result Expansion LanguageFault → Type 0
+ReadsLanguage block (Ok g) = IsAccepted block g × IsFit g
+ReadsLanguage block (Err (Text TextMemory)) = Unit {0}
+ReadsLanguage block (Err (Text (Unbuilt number))) = IsFirstUnbuilt block number
+ReadsLanguage block (Err (Grammar GrammarMemory)) = Unit {0}
+ReadsLanguage block (Err (Grammar (UnknownCategory name number))) =
+    (defs : List Def) × Spells block defs × IsFirstUnknown defs name number
+
+-- the chart is that of the text's tokens under the grammar
+pub record IsOpened (g : Expansion) (chart : List (List (List ℕ))) (text : List ℕ)
+    (tokens : List Token) : Type 0 where
+  pub fit : IsFit g
+  pub are_tokens : AreTokensOf g.kinds text tokens
+  pub is_table : IsTableOf g.rules (kinds_of tokens) chart
+
+-- the line that refuses a grammar for this fault; there is none for want of memory
+abbrev pub IsRefusal : LanguageFault → List ℕ → Type 0
+IsRefusal (Text TextMemory) line = ⊥
+IsRefusal (Text (Unbuilt number)) line = line ≡ unbuilt_line number
+IsRefusal (Grammar GrammarMemory) line = ⊥
+IsRefusal (Grammar (UnknownCategory name number)) line = line ≡ unknown_line name number
+
+-- the reply to the block's grammar: accepted, or refused
+abbrev pub IsGrammarLine : List ℕ → List ℕ → Type 0
+IsGrammarLine block line =
+    IsRefused block line ⊎ ((g : Expansion) × IsAccepted block g × (line ≡ grammar_reply g))
+
+-- the session was ended at the block's grammar: it is refused with its line, or a fault left a prefix of its reply
+abbrev pub EndsAtGrammar : List ℕ → Option (List ℕ) → Option (List ℕ) → Status → Type 0
+EndsAtGrammar block old new BadGrammar = (line : List ℕ) × IsRefused block line × Grows old new line
+EndsAtGrammar block old new WriteFault =
+    (line : List ℕ) × IsGrammarLine block line × GrowsByPrefix old new line
+EndsAtGrammar block old new OutOfMemory =
+    Stays old new ⊎ ((line : List ℕ) × IsGrammarLine block line × GrowsByPrefix old new line)
+EndsAtGrammar block old new Fine = ⊥
+EndsAtGrammar block old new BadScript = ⊥
+EndsAtGrammar block old new ReadFault = ⊥
+
+-- the block's grammar was accepted and its reply written, or the session was ended there
+abbrev pub Accepts : List ℕ → Option (List ℕ) → Option (List ℕ) → Result Expansion Status → Type 0
+Accepts block old new (Ok g) = IsAccepted block g × IsFit g × Grows old new (grammar_reply g)
+Accepts block old new (Err status) = EndsAtGrammar block old new status
+
+-- the reply to the text is this line
+abbrev pub IsTextLine : Expansion → List ℕ → List ℕ → Type 0
+IsTextLine g text line =
+    (tokens : List Token) × AreTokensOf g.kinds text tokens
+    × (line ≡ version_reply 0 (length tokens))
+
+-- the session was ended at the text: a fault left a prefix of its reply
+abbrev pub EndsAtText : Expansion → List ℕ → Option (List ℕ) → Option (List ℕ) → Status → Type 0
+EndsAtText g text old new WriteFault =
+    (line : List ℕ) × IsTextLine g text line × GrowsByPrefix old new line
+EndsAtText g text old new OutOfMemory =
+    Stays old new ⊎ ((line : List ℕ) × IsTextLine g text line × GrowsByPrefix old new line)
+EndsAtText g text old new Fine = ⊥
+EndsAtText g text old new BadGrammar = ⊥
+EndsAtText g text old new BadScript = ⊥
+EndsAtText g text old new ReadFault = ⊥
+
+-- the text was opened and its reply written
+pub record HasOpened (g : Expansion) (text : List ℕ) (old new : Option (List ℕ))
+    (opened : Opened) : Type 0 where
+  pub grammar : opened.grammar ≡ g
+  pub tokens : List Token
+  pub is_opened : IsOpened opened.grammar opened.chart text tokens
+  pub written : Grows old new (version_reply 0 (length tokens))
+
+-- the text was opened and its reply written, or the session was ended there
+abbrev pub OpensText : Expansion → List ℕ → Option (List ℕ) → Option (List ℕ)
+    → Result Opened Status → Type 0
+OpensText g text old new (Ok opened) = HasOpened g text old new opened
+OpensText g text old new (Err status) = EndsAtText g text old new status

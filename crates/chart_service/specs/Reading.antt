@@ -1,0 +1,87 @@
+-- Serves the proofs alone: what is found where the next command of a script is read.
+use Rattle.std.specs.Prelude.{◌≡◌, ℕ, ◌+◌, ◌^◌, ◌<◌, ◌≤◌, List, [], ◌∷◌, ◌++◌, length, decimal}
+use Rattle.std.specs.Prelude.{Bool, true, false, Option, None, Some}
+use Rattle.cyk_io.specs.Streams.{Takes}
+use Rattle.cyk_io.specs.Lines.{IsLine}
+use Rattle.spec_session.specs.Script.{Command, header, grammar, opens, has, text_of, IsWithinLimits}
+
+-- a line was taken, or none of at most 256 bytes begins at this offset, below 2 ^ 48
+abbrev pub NextLine : ℕ → ℕ → Option (List ℕ) → Option (List ℕ) → List ℕ → Bool → Type 0
+NextLine from to old new line true =
+    (from < 2 ^ 48) × Takes old new (line ++ 10 ∷ []) × IsLine 256 line
+    × (to ≡ from + length line + 1)
+NextLine from to old new line false =
+    (told : List ℕ) → old ≡ Some told → from < 2 ^ 48
+    → (other more : List ℕ) → IsLine 256 other → told ≡ other ++ (10 ∷ more) → ⊥
+
+-- the block of so many bytes and its LF were taken, or do not come
+abbrev pub NextBlock : ℕ → ℕ → ℕ → Option (List ℕ) → Option (List ℕ) → Option (List ℕ) → Type 0
+NextBlock count from to old new (Some block) =
+    Takes old new (block ++ 10 ∷ []) × (length block ≡ count) × (to ≡ from + count + 1)
+NextBlock count from to old new None =
+    (told : List ℕ) → old ≡ Some told → (block more : List ℕ) → length block ≡ count
+    → told ≡ block ++ (10 ∷ more) → ⊥
+
+-- the line of a block's command, and the block
+abbrev pub counted_text : List ℕ → List ℕ → List ℕ
+counted_text beginning block = (beginning ++ decimal (length block)) ++ (10 ∷ (block ++ 10 ∷ []))
+
+-- a command that begins so and has a block of at most so many bytes was taken, or does not come
+abbrev pub NextCounted : List ℕ → ℕ → ℕ → ℕ → Option (List ℕ) → Option (List ℕ)
+    → Option (List ℕ) → Type 0
+NextCounted beginning most from to old new (Some block) =
+    (from < 2 ^ 48) × (length block ≤ most) × Takes old new (counted_text beginning block)
+    × (to ≡ from + length (counted_text beginning block))
+NextCounted beginning most from to old new None =
+    (told : List ℕ) → old ≡ Some told → from < 2 ^ 48 → (block more : List ℕ) → length block ≤ most
+    → IsLine 256 (beginning ++ decimal (length block))
+    → told ≡ counted_text beginning block ++ more → ⊥
+
+-- the command was taken
+pub record TakesCommand (from to : ℕ) (old new : Option (List ℕ)) (command : Command) : Type 0 where
+  pub early : from < 2 ^ 48
+  pub within_limits : IsWithinLimits command
+  pub taken : Takes old new (text_of command)
+  pub offset : to ≡ from + length (text_of command)
+
+-- no command of these comes
+abbrev pub NoneComes : (Command → Type 0) → ℕ → Option (List ℕ) → Type 0
+NoneComes IsOne from old =
+    (told : List ℕ) → old ≡ Some told → from < 2 ^ 48 → (command : Command) (more : List ℕ)
+    → IsOne command → IsWithinLimits command → told ≡ text_of command ++ more → ⊥
+
+-- the command is the header
+abbrev pub IsHeader : Command → Type 0
+IsHeader header = Unit {0}
+IsHeader (grammar block) = ⊥
+IsHeader (opens text) = ⊥
+IsHeader (has category first end) = ⊥
+
+-- the command is a grammar
+abbrev pub IsGrammar : Command → Type 0
+IsGrammar header = ⊥
+IsGrammar (grammar block) = Unit {0}
+IsGrammar (opens text) = ⊥
+IsGrammar (has category first end) = ⊥
+
+-- the command is a text
+abbrev pub IsText : Command → Type 0
+IsText header = ⊥
+IsText (grammar block) = ⊥
+IsText (opens text) = Unit {0}
+IsText (has category first end) = ⊥
+
+-- the header was taken, or does not come
+abbrev pub NextHeader : ℕ → ℕ → Option (List ℕ) → Option (List ℕ) → Bool → Type 0
+NextHeader from to old new true = TakesCommand from to old new header
+NextHeader from to old new false = NoneComes IsHeader from old
+
+-- a grammar was taken, or none comes
+abbrev pub NextGrammar : ℕ → ℕ → Option (List ℕ) → Option (List ℕ) → Option (List ℕ) → Type 0
+NextGrammar from to old new (Some block) = TakesCommand from to old new (grammar block)
+NextGrammar from to old new None = NoneComes IsGrammar from old
+
+-- a text was taken, or none comes
+abbrev pub NextText : ℕ → ℕ → Option (List ℕ) → Option (List ℕ) → Option (List ℕ) → Type 0
+NextText from to old new (Some text) = TakesCommand from to old new (opens text)
+NextText from to old new None = NoneComes IsText from old

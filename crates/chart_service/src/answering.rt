@@ -1,0 +1,111 @@
+//! Answers to questions about the spans of a text that is open.
+ghost use Rattle.std.specs.Prelude.{◌≡◌, ◌≤◌, ◌↔◌, ℕ, List, length, slice_get, Some, Contains};
+ghost use Rattle.std.specs.Prelude.{IsTrue, IsErrOf, IfOk, IfErr, OnOk, OnErr, MatchOption};
+ghost use Rattle.std.specs.Prelude.{string_bytes};
+ghost use Rattle.cyk_io.specs.Causes.{HasCause};
+ghost use Rattle.cyk_io.specs.Streams.{Grows, GrowsByPrefix};
+ghost use Rattle.spec_grammar.specs.declared.rule.Symbol.TheVariants.{Category};
+ghost use Rattle.spec_grammar.specs.Derivation.{Derives};
+ghost use Rattle.spec_lexing.specs.declared.token.Token.{Token};
+ghost use Rattle.spec_lexing.specs.Tokens.{kinds_of};
+ghost use Rattle.spec_session.specs.Replies.{IsAnswer};
+ghost use Rattle.chart_service.specs.Statuses.{IsWriteStop};
+ghost use Rattle.chart_service.specs.Opening.{IsOpened};
+ghost use Rattle.chart_service.specs.Answering.{answer_line};
+
+use crate::forms::HasQuestion;
+use crate::opening::Opened;
+use crate::status::Status;
+use crate::writing::say;
+use cyk_io::Sink;
+use lbnf_grammar::{Grammar, Symbol};
+use std::alloc::{AllocError, Global};
+
+/// The answer to whether a category derives a span.
+#[derive(Clone, Copy, Debug, PartialEq, Eq)]
+pub(crate) enum Answer {
+    /// No category has the name.
+    UnknownCategory,
+    /// The span is none of the text's, which has so many tokens.
+    SpanOutside(usize),
+    Yes,
+    No,
+}
+
+/// The number of the category of this name.
+fn category_of(grammar: &Grammar, name: &[u8]) -> Option<u16>
+    ensures { MatchOption result (Contains grammar.now.categories name.now → ⊥)
+        (λ category. slice_get grammar.now.categories category ≡ Some name.now) }
+{
+    match grammar.find(name) {
+        Some(Symbol::Category(category)) => Some(category),
+        Some(Symbol::Kind(_)) => None,
+        None => None,
+    }
+}
+
+/// Whether the category derives the span. No category derives an empty span in this form.
+fn is_derived(opened: &Opened, category: u16, first: usize, end: usize) -> bool
+    requires order { first ≤ end }
+    requires within { end ≤ length opened.now.chart }
+    ensures { (text : List ℕ) (tokens : List Token)
+        → IsOpened opened.now.grammar opened.now.chart text tokens
+        → IsTrue result
+        ↔ Derives opened.now.grammar.rules (kinds_of tokens) (Category category) first end }
+{
+    first < end && opened.chart.has(category, first, end)
+}
+
+/// The answer to the question.
+pub(crate) fn answer_of(opened: &Opened, question: &HasQuestion<'_>) -> Answer
+    ensures { (text : List ℕ) (tokens : List Token)
+        → IsOpened opened.now.grammar opened.now.chart text tokens
+        → IsAnswer opened.now.grammar tokens question.now.category.now question.now.first
+        question.now.end (answer_line result) }
+{
+    let Some(category) = category_of(&opened.grammar, question.category) else {
+        return Answer::UnknownCategory;
+    };
+    let tokens = opened.chart.len();
+    let first = question.first as usize;
+    let end = question.end as usize;
+    if end < first {
+        return Answer::SpanOutside(tokens);
+    }
+    if tokens < end {
+        return Answer::SpanOutside(tokens);
+    }
+    if is_derived(opened, category, first, end) {
+        Answer::Yes
+    } else {
+        Answer::No
+    }
+}
+
+/// The line of the answer.
+fn line_of(alloc: Global, answer: Answer) -> Result<String, AllocError>
+    ensures { IfOk result (λ text. string_bytes text ≡ answer_line answer) }
+{
+    match answer {
+        Answer::UnknownCategory => format!(in alloc; "refused category\n"),
+        Answer::SpanOutside(tokens) => format!(in alloc; "refused span {tokens}\n"),
+        Answer::Yes => format!(in alloc; "yes\n"),
+        Answer::No => format!(in alloc; "no\n"),
+    }
+}
+
+/// Writes the line of the answer.
+pub(crate) fn say_answer<K: Sink>(alloc: Global, sink: &mut K, answer: Answer) -> Result<(), Status>
+    ensures ok { OnOk result
+        (Grows (K.written sink.old) (K.written sink.new) (answer_line answer)) }
+    ensures err { OnErr result
+        (GrowsByPrefix (K.written sink.old) (K.written sink.new) (answer_line answer)) }
+    ensures stop { IfErr result IsWriteStop }
+    ensures cause { HasCause (K.faults sink.old) (K.faults sink.new)
+        (IsErrOf result Status.WriteFault) }
+{
+    match line_of(alloc, answer) {
+        Ok(text) => say(sink, text.as_bytes()),
+        Err(_) => Err(Status::OutOfMemory),
+    }
+}

@@ -1,0 +1,18 @@
+//! Sessions over a source and a sink: a grammar, a text, and questions about the spans of its tokens.
+#![tactic(auto)]
+
+mod answering;
+mod forms;
+mod lexing;
+mod opening;
+mod options;
+mod reading;
+mod serving;
+mod status;
+mod table;
+#[cfg(test)]
+mod tests;
+mod writing;
+
+pub use options::Options;
+pub use serving::serve;

@@ -1,0 +1,175 @@
+//! Accepting a grammar, and opening a text under it.
+ghost use Rattle.std.specs.Prelude.{◌≡◌, ◌+◌, ℕ, List, length, IfOk, IfErr, OnOk, OnErr, Err};
+ghost use Rattle.std.specs.Prelude.{IsErrOf, string_bytes};
+ghost use Rattle.cyk_io.specs.Causes.{HasCause};
+ghost use Rattle.cyk_io.specs.Streams.{Grows, GrowsByPrefix};
+ghost use Rattle.std.specs.Str.{IsAscii};
+ghost use Rattle.spec_lexing.specs.declared.token.Token.{Token};
+ghost use Rattle.spec_session.specs.Replies.{grammar_reply, version_reply};
+ghost use Rattle.chart_service.specs.Statuses.{IsWriteStop};
+ghost use Rattle.chart_service.specs.Opening.{ReadsLanguage, IsFit, IsRefusal, EndsAtGrammar};
+ghost use Rattle.chart_service.specs.Opening.{Accepts, IsOpened, OpensText};
+
+use crate::lexing::{kinds_of, tokens_of};
+use crate::status::Status;
+use crate::table::SpanTable;
+use crate::writing::{finish, say};
+use cyk_io::Sink;
+use lbnf_grammar::{Grammar, GrammarFault, expand};
+use lbnf_text::{TextFault, read_defs};
+use std::alloc::{AllocError, Global};
+
+/// Why a grammar is refused.
+#[derive(Debug, Drop)]
+pub(crate) enum LanguageFault {
+    Text(TextFault),
+    Grammar(GrammarFault),
+}
+
+/// The grammar that the block spells.
+fn read_language(alloc: Global, block: &[u8]) -> Result<Grammar, LanguageFault>
+    ensures { ReadsLanguage block.now result }
+{
+    let defs = match read_defs(alloc, block) {
+        Ok(defs) => defs,
+        Err(fault) => return Err(LanguageFault::Text(fault)),
+    };
+    match expand(alloc, &defs) {
+        Ok(grammar) => Ok(grammar),
+        Err(fault) => Err(LanguageFault::Grammar(fault)),
+    }
+}
+
+/// The line that refuses a grammar. There is none for want of memory.
+fn refusal_line(alloc: Global, fault: &LanguageFault) -> Result<String, AllocError>
+    ensures { IfOk result (λ text. IsRefusal fault.now (string_bytes text)) }
+{
+    match fault {
+        LanguageFault::Text(TextFault::Unbuilt { def }) => {
+            format!(in alloc; "grammar refused unbuilt {def}\n")
+        }
+        LanguageFault::Grammar(GrammarFault::UnknownCategory { name, def }) => {
+            let name = name.as_str();
+            format!(in alloc; "grammar refused category {name} {def}\n")
+        }
+        LanguageFault::Text(TextFault::Memory) => Err(AllocError),
+        LanguageFault::Grammar(GrammarFault::Memory) => Err(AllocError),
+    }
+}
+
+/// Refuses the grammar.
+fn refuse_grammar<K: Sink>(alloc: Global, sink: &mut K, fault: &LanguageFault) -> Status
+    ensures ends { (block : List ℕ) → ReadsLanguage block (Err fault.now)
+        → EndsAtGrammar block (K.written sink.old) (K.written sink.new) result }
+    ensures cause { HasCause (K.faults sink.old) (K.faults sink.new) (result ≡ Status.WriteFault) }
+{
+    match refusal_line(alloc, fault) {
+        Ok(text) => finish(sink, text.as_bytes(), Status::BadGrammar),
+        Err(_) => Status::OutOfMemory,
+    }
+}
+
+/// The line that accepts a grammar.
+fn grammar_line(alloc: Global, grammar: &Grammar) -> Result<String, AllocError>
+    ensures { IfOk result (λ text. string_bytes text ≡ grammar_reply grammar.now) }
+{
+    let rules = grammar.rule_count();
+    let categories = grammar.category_count();
+    let kinds = grammar.kind_count();
+    format!(in alloc; "grammar rules {rules} categories {categories} kinds {kinds}\n")
+}
+
+/// Writes the line that accepts a grammar.
+fn say_grammar<K: Sink>(alloc: Global, sink: &mut K, grammar: &Grammar) -> Result<(), Status>
+    ensures ok { OnOk result
+        (Grows (K.written sink.old) (K.written sink.new) (grammar_reply grammar.now)) }
+    ensures err { OnErr result
+        (GrowsByPrefix (K.written sink.old) (K.written sink.new) (grammar_reply grammar.now)) }
+    ensures stop { IfErr result IsWriteStop }
+    ensures cause { HasCause (K.faults sink.old) (K.faults sink.new)
+        (IsErrOf result Status.WriteFault) }
+{
+    match grammar_line(alloc, grammar) {
+        Ok(text) => say(sink, text.as_bytes()),
+        Err(_) => Err(Status::OutOfMemory),
+    }
+}
+
+/// Accepts the grammar that the block spells and writes its reply, or refuses it.
+pub(crate) fn accept<K: Sink>(alloc: Global, sink: &mut K, block: &[u8]) -> Result<Grammar, Status>
+    ensures ok { Accepts block.now (K.written sink.old) (K.written sink.new) result }
+    ensures cause { HasCause (K.faults sink.old) (K.faults sink.new)
+        (IsErrOf result Status.WriteFault) }
+{
+    match read_language(alloc, block) {
+        Ok(grammar) => match say_grammar(alloc, sink, &grammar) {
+            Ok(()) => Ok(grammar),
+            Err(status) => Err(status),
+        },
+        Err(fault) => Err(refuse_grammar(alloc, sink, &fault)),
+    }
+}
+
+/// A text that is open under a grammar: the categories that derive each span of its tokens.
+#[derive(Drop)]
+pub(crate) struct Opened {
+    pub(crate) grammar: Grammar,
+    pub(crate) chart: SpanTable,
+}
+
+/// The chart of the text's tokens.
+fn chart_of(alloc: Global, grammar: &Grammar, text: &[u8]) -> Result<SpanTable, AllocError>
+    requires fit { IsFit grammar.now }
+    requires ascii { IsAscii text.now }
+    ensures { IfOk result
+        (λ chart. (tokens : List Token) × IsOpened grammar.now chart text.now tokens) }
+{
+    let tokens = tokens_of(alloc, grammar.kinds(), text)?;
+    let kinds = kinds_of(alloc, tokens.as_slice())?;
+    SpanTable::of(alloc, grammar.rules(), kinds.as_slice())
+}
+
+/// The reply to a text that is opened.
+fn version_line(alloc: Global, number: u64, tokens: usize) -> Result<String, AllocError>
+    ensures { IfOk result (λ text. string_bytes text ≡ version_reply number tokens) }
+{
+    format!(in alloc; "version {number} tokens {tokens}\n")
+}
+
+/// Writes the reply to a text that is opened.
+fn say_version<K: Sink>(alloc: Global, sink: &mut K, tokens: usize) -> Result<(), Status>
+    ensures ok { OnOk result
+        (Grows (K.written sink.old) (K.written sink.new) (version_reply 0 tokens)) }
+    ensures err { OnErr result
+        (GrowsByPrefix (K.written sink.old) (K.written sink.new) (version_reply 0 tokens)) }
+    ensures stop { IfErr result IsWriteStop }
+    ensures cause { HasCause (K.faults sink.old) (K.faults sink.new)
+        (IsErrOf result Status.WriteFault) }
+{
+    match version_line(alloc, 0, tokens) {
+        Ok(text) => say(sink, text.as_bytes()),
+        Err(_) => Err(Status::OutOfMemory),
+    }
+}
+
+/// Opens the text under the grammar and writes its reply.
+pub(crate) fn open_text<K: Sink>(
+    alloc: Global,
+    sink: &mut K,
+    grammar: Grammar,
+    text: &[u8],
+) -> Result<Opened, Status>
+    requires fit { IsFit grammar }
+    requires ascii { IsAscii text.now }
+    ensures ok { OpensText grammar text.now (K.written sink.old) (K.written sink.new) result }
+    ensures cause { HasCause (K.faults sink.old) (K.faults sink.new)
+        (IsErrOf result Status.WriteFault) }
+{
+    let Ok(chart) = chart_of(alloc, &grammar, text) else {
+        return Err(Status::OutOfMemory);
+    };
+    match say_version(alloc, sink, chart.len()) {
+        Ok(()) => Ok(Opened { grammar, chart }),
+        Err(status) => Err(status),
+    }
+}

@@ -1,0 +1,30 @@
+//! How a session ends.
+ghost use Rattle.std.specs.Prelude.{◌≡◌};
+ghost use Rattle.chart_service.specs.Statuses.{number_of};
+
+/// How a session ends.
+#[derive(Clone, Copy, Debug, PartialEq, Eq)]
+pub(crate) enum Status {
+    Ok,
+    BadGrammar,
+    BadScript,
+    ReadFault,
+    WriteFault,
+    OutOfMemory,
+}
+
+impl Status {
+    /// The exit status of the program.
+    pub(crate) fn number(self) -> u8
+        ensures { result ≡ number_of self }
+    {
+        match self {
+            Status::Ok => 0,
+            Status::BadGrammar => 2,
+            Status::BadScript => 3,
+            Status::ReadFault => 4,
+            Status::WriteFault => 5,
+            Status::OutOfMemory => 6,
+        }
+    }
+}
