@@ -1,0 +1,396 @@
+#!/usr/bin/env python3
+"""Scripts and the bytes that a session writes for them, worked out by hand.
+
+    python3 tests/sessions.py CMD [ARG ..]     runs CMD on each script, and prints `N passed, M failed`
+
+CMD reads the script from standard input, as `bin/lbnfchart serve` does. The first case is the
+example of the README, whose replies stand in a file; each other one is
+(name, input bytes, output bytes, status).
+"""
+import pathlib
+import subprocess
+import sys
+
+# The beginning that most cases share, and the offsets that their breaks name:
+#   0 `script 1`   9 `grammar 33`   20 the block   53 its LF   54 `open 3`   61 the block   65 the first question
+G = b'Cat. S ::= S S ; One. S ::= "a" ;'
+H = b'script 1\n'
+HG = H + b'grammar 33\n' + G + b'\n'
+HGO = HG + b'open 3\na a\n'
+assert (len(G), len(H), len(HG), len(HGO)) == (33, 9, 54, 65)
+
+RULES = b'grammar rules 2 categories 1 kinds 1\n'
+TEXT = b'version 0 tokens 2\n'
+OPENED = RULES + TEXT
+
+
+def broken(at, before=b''):
+    return before + b'script refused ' + str(at).encode() + b'\n'
+
+
+EXAMPLES = pathlib.Path(__file__).resolve().parent.parent / 'examples'
+CASES = [
+    (
+        'the first example',
+        (EXAMPLES / 'first.script').read_bytes(),
+        (EXAMPLES / 'first.replies').read_bytes(),
+        0,
+    )
+]
+
+
+def case(name, given, wanted, status):
+    CASES.append((name, given, wanted, status))
+
+
+# ---- The header: every break is at 0.
+
+for name, line in [
+    ('the empty input', b''),
+    ('a header without its LF', b'script 1'),
+    ('a header that ends in CR LF', b'script 1\r\n'),
+    ('a header behind a space', b' script 1\n'),
+    ('a header before a space', b'script 1 \n'),
+    ('a header with two spaces', b'script  1\n'),
+    ('a header with a tab', b'script\t1\n'),
+    ('a header with a leading zero', b'script 01\n'),
+    ('a header with another number', b'script 2\n'),
+    ('a header without a number', b'script\n'),
+    ('a header in upper case', b'SCRIPT 1\n'),
+    ('a header of more digits', b'script 11\n'),
+    ('an empty first line', b'\nscript 1\n'),
+    ('a byte order mark', b'\xef\xbb\xbfscript 1\n'),
+    ('a zero byte', b'\x00'),
+    ('a first line of 256 bytes', b'x' * 256 + b'\n'),
+    ('a first line of 257 bytes', b'x' * 257 + b'\n'),
+    ('257 bytes without an LF', b'x' * 257),
+    ('a grammar before the header', b'grammar 33\n' + G + b'\n'),
+]:
+    case(name, line, broken(0), 3)
+
+# ---- The grammar's line and block: every break is at 9, also where the block is at fault.
+
+for name, more in [
+    ('the input ends behind the header', b''),
+    ('the end behind the header', b'end\n'),
+    ('a second header', b'script 1\n'),
+    ('an empty second line', b'\n'),
+    ('a text before the grammar', b'open 3\na a\n'),
+    ('a question before the grammar', b'has S 0 1\n'),
+    ('a grammar line without its LF', b'grammar 33'),
+    ('a grammar without a number', b'grammar\n' + G + b'\n'),
+    ('a grammar with a space and no number', b'grammar \n' + G + b'\n'),
+    ('a grammar with two spaces', b'grammar  33\n' + G + b'\n'),
+    ('a grammar with a space behind', b'grammar 33 \n' + G + b'\n'),
+    ('a grammar line that ends in CR LF', b'grammar 33\r\n' + G + b'\n'),
+    ('a grammar with a leading zero', b'grammar 033\n' + G + b'\n'),
+    ('a grammar with the number 00', b'grammar 00\n\n'),
+    ('a grammar with a sign', b'grammar +33\n' + G + b'\n'),
+    ('a negative grammar', b'grammar -1\n\n'),
+    ('a grammar in hexadecimal', b'grammar 0x21\n' + G + b'\n'),
+    ('a grammar with two numbers', b'grammar 33 33\n' + G + b'\n'),
+    ('a grammar of 65,537 bytes', b'grammar 65537\n' + G + b' ' * 65504 + b'\n' + b'open 3\na a\nend\n'),
+    ('a grammar of nine digits', b'grammar 999999999\n' + G + b'\n'),
+    ('a grammar of ten digits', b'grammar 1000000000\n' + G + b'\n'),
+    ('a grammar of ten digits with leading zeros', b'grammar 0000000033\n' + G + b'\n'),
+    ('the input ends behind the line of the grammar', b'grammar 33\n'),
+    ('the input ends inside the grammar', b'grammar 33\n' + G[:20]),
+    ('the input ends before the LF of the grammar', b'grammar 33\n' + G),
+    ('another byte in the place of the LF of the grammar', b'grammar 33\n' + G + b' open 3\na a\nend\n'),
+    ('a grammar that is told one byte too short', b'grammar 32\n' + G + b'\nopen 3\na a\nend\n'),
+    ('a grammar that is told one byte too long', b'grammar 34\n' + G + b'\nopen 3\na a\nend\n'),
+    ('CR before the LF of the grammar', b'grammar 33\n' + G + b'\r\nopen 3\na a\nend\n'),
+    ('an empty grammar without its LF', b'grammar 0\n'),
+    ('a bad grammar without its LF', b'grammar 9\nA. S ::= '),
+]:
+    case(name, H + more, broken(9), 3)
+
+# ---- The text's line and block: every break is at 54, behind the grammar's reply.
+
+for name, more in [
+    ('the input ends behind the grammar', b''),
+    ('the end before the text', b'end\n'),
+    ('a question before the text', b'has S 0 2\n'),
+    ('a second grammar', b'grammar 33\n' + G + b'\n'),
+    ('an empty line behind the grammar', b'\nopen 3\na a\nend\n'),
+    ('a text line without its LF', b'open 3'),
+    ('a text without a number', b'open\na a\nend\n'),
+    ('a text with two spaces', b'open  3\na a\nend\n'),
+    ('a text with a space behind', b'open 3 \na a\nend\n'),
+    ('a text line that ends in CR LF', b'open 3\r\na a\nend\n'),
+    ('a text with a leading zero', b'open 03\na a\nend\n'),
+    ('a text of 4,097 bytes', b'open 4097\n' + b'a' * 4097 + b'\nend\n'),
+    ('a text of ten digits', b'open 1000000000\na a\nend\n'),
+    ('the input ends behind the line of the text', b'open 3\n'),
+    ('the input ends inside the text', b'open 3\na '),
+    ('the input ends before the LF of the text', b'open 3\na a'),
+    ('another byte in the place of the LF of the text', b'open 3\na a end\n'),
+    ('a text that is told one byte too short', b'open 2\na a\nend\n'),
+    ('a text that is told one byte too long', b'open 4\na a\nend\n'),
+    ('an empty text without its LF', b'open 0\n'),
+    ('the byte 80 in a text', b'open 3\na\x80a\nend\n'),
+    ('the byte FF at the end of a text', b'open 3\na \xff\nend\n'),
+    ('a letter of two bytes in a text', b'open 4\na \xc3\xa9\nend\n'),
+    ('a line of 257 bytes behind the grammar', b'o' * 257 + b'\n'),
+    ('a misspelt command', b'hass S\n'),
+]:
+    case(name, HG + more, broken(54, RULES), 3)
+
+# ---- The questions and the end: every break is at 65, behind the replies to grammar and text.
+
+for name, more in [
+    ('the input ends behind the text', b''),
+    ('an end without its LF', b'end'),
+    ('an end before a space', b'end \n'),
+    ('an end behind a space', b' end\n'),
+    ('an end that ends in CR LF', b'end\r\n'),
+    ('an end in upper case', b'END\n'),
+    ('a second text', b'open 3\na a\nend\n'),
+    ('a grammar behind the text', b'grammar 33\n' + G + b'\nend\n'),
+    ('a header behind the text', b'script 1\nend\n'),
+    ('an empty line behind the text', b'\nend\n'),
+    ('an edit', b'edit 0 1 1\nb\nend\n'),
+    ('a question for a tree', b'tree S 0 2\nend\n'),
+    ('a question for tokens', b'tokens\nend\n'),
+    ('a question of one word', b'has\nend\n'),
+    ('a question without a span', b'has S\nend\n'),
+    ('a question with one number', b'has S 0\nend\n'),
+    ('a question with three numbers', b'has S 0 1 2\nend\n'),
+    ('a question with two spaces behind its word', b'has  S 0 2\nend\n'),
+    ('a question with two spaces before a number', b'has S  0 2\nend\n'),
+    ('a question with two spaces between its numbers', b'has S 0  2\nend\n'),
+    ('a question with a space behind', b'has S 0 2 \nend\n'),
+    ('a question with a tab', b'has S\t0 2\nend\n'),
+    ('a question that ends in CR LF', b'has S 0 2\r\nend\n'),
+    ('a question with a leading zero', b'has S 00 2\nend\n'),
+    ('a question with a leading zero at the end', b'has S 0 02\nend\n'),
+    ('a question with a number of ten digits', b'has S 0 1000000000\nend\n'),
+    ('a question with a first number of ten digits', b'has S 1000000000 2\nend\n'),
+    ('a question with a sign', b'has S -1 2\nend\n'),
+    ('a question with letters for a number', b'has S x 2\nend\n'),
+    ('a question without its LF', b'has S 0 2'),
+    ('a question of 257 bytes', b'has ' + b'A' * 249 + b' 0 0\nend\n'),
+    ('257 bytes of a question without an LF', b'has ' + b'A' * 249 + b' 0 0'),
+    ('256 bytes of a question without an LF', b'has ' + b'A' * 248 + b' 0 0'),
+    ('a question in upper case', b'HAS S 0 2\nend\n'),
+]:
+    case(name, HGO + more, broken(65, OPENED), 3)
+
+# ---- Breaks further on: the replies before the break stand.
+
+for name, more, wanted in [
+    ('a break behind one question', b'has S 0 2\nhas\n', b'yes\n' + broken(75)),
+    ('a break behind two questions', b'has S 0 2\nhas T 0 2\nend', b'yes\nrefused category\n' + broken(85)),
+    ('the input ends behind a question', b'has S 1 1\n', b'no\n' + broken(75)),
+    ('a second text behind a question', b'has S 0 3\nopen 1\na\nend\n', b'refused span 2\n' + broken(75)),
+]:
+    case(name, HGO + more, OPENED + wanted, 3)
+
+# ---- Sessions that end well.
+
+END = b'end\n'
+for name, more, wanted in [
+    ('no question', END, b''),
+    ('what stands behind the end has no effect', END + b'has\n\xff\x00', b''),
+    ('the first session', b'has S 0 2\nhas S 1 1\nhas T 0 1\nhas S 0 3\n' + END, b'yes\nno\nrefused category\nrefused span 2\n'),
+    ('an empty span at the text\'s end', b'has S 2 2\n' + END, b'no\n'),
+    ('an empty span behind the text', b'has S 3 3\n' + END, b'refused span 2\n'),
+    ('a span that runs backwards', b'has S 1 0\n' + END, b'refused span 2\n'),
+    ('a span that runs backwards behind the text', b'has S 9 8\n' + END, b'refused span 2\n'),
+    ('an unknown category with a bad span', b'has T 1 0\n' + END, b'refused category\n'),
+    ('a number of nine digits', b'has S 0 999999999\n' + END, b'refused span 2\n'),
+    ('two numbers of nine digits', b'has S 999999999 999999999\n' + END, b'refused span 2\n'),
+    ('a number for a category', b'has 0 0 2\n' + END, b'refused category\n'),
+    ('a category that ends in CR', b'has S\r 0 2\n' + END, b'refused category\n'),
+    ('a category that is no UTF-8', b'has \xff\xfe 0 2\n' + END, b'refused category\n'),
+    ('a category in other case', b'has s 0 2\n' + END, b'refused category\n'),
+    ('a label for a category', b'has Cat 0 2\n' + END, b'refused category\n'),
+    ('a word for a category', b'has a 0 1\n' + END, b'refused category\n'),
+    ('a list for a category', b'has [S] 0 2\n' + END, b'refused category\n'),
+    ('a question of 256 bytes', b'has ' + b'A' * 248 + b' 0 0\n' + END, b'refused category\n'),
+    ('each span of two tokens', b'has S 0 0\nhas S 0 1\nhas S 0 2\nhas S 1 1\nhas S 1 2\nhas S 2 2\n' + END, b'no\nyes\nyes\nno\nyes\nno\n'),
+]:
+    case(name, HGO + more, OPENED + wanted + b'end\n', 0)
+
+
+def open_text(text):
+    return b'open ' + str(len(text)).encode() + b'\n' + text + b'\n'
+
+
+def version(tokens):
+    return b'version 0 tokens ' + str(tokens).encode() + b'\n'
+
+
+# Texts under the grammar of one word, `a`: white space gives no token, and another byte is a stray token.
+for name, text, tokens, questions, answers in [
+    ('an empty text', b'', 0, b'has S 0 0\nhas S 0 1\n', b'no\nrefused span 0\n'),
+    ('a text of one LF', b'\n', 0, b'has S 0 0\n', b'no\n'),
+    ('a text of each white byte', b' \t\n\r\x0b\x0c', 0, b'', b''),
+    ('words side by side', b'aaa', 3, b'has S 0 3\n', b'yes\n'),
+    ('words on lines', b'a\r\na\n', 2, b'has S 0 2\n', b'yes\n'),
+    ('a stray byte between words', b'a?a', 3, b'has S 0 1\nhas S 1 2\nhas S 0 3\nhas S 2 3\n', b'yes\nno\nno\nyes\n'),
+    ('a word in upper case is stray', b'A', 1, b'has S 0 1\n', b'no\n'),
+    ('the byte 7F is stray', b'\x7f', 1, b'has S 0 1\n', b'no\n'),
+    ('zero bytes are stray', b'\x00\x00', 2, b'', b''),
+    ('the bytes 08, 0E and 1F are stray', b'\x08\x0e\x1f', 3, b'', b''),
+    ('a line `end` inside a text', b'end', 3, b'has S 0 3\n', b'no\n'),
+    ('a text of 4,096 white bytes', b' ' * 4096, 0, b'has S 0 0\n', b'no\n'),
+    ('a text of 4,096 bytes of 64 words', (b'a' + b' ' * 63) * 64, 64, b'has S 0 64\nhas S 63 64\nhas S 0 65\n', b'yes\nyes\nrefused span 64\n'),
+]:
+    case(name, HG + open_text(text) + questions + END, RULES + version(tokens) + answers + b'end\n', 0)
+
+
+def with_grammar(grammar, more):
+    return H + b'grammar ' + str(len(grammar)).encode() + b'\n' + grammar + b'\n' + more
+
+
+def counts(rules, categories, kinds):
+    return f'grammar rules {rules} categories {categories} kinds {kinds}\n'.encode()
+
+
+# Other grammars, with texts and questions.
+LONGER = b'A. S ::= "a" ; B. S ::= "ab" ; C. S ::= "b" ;'
+NESTED = (b'Nest. S ::= Open Rest ; Flat. S ::= Open Close ; Both. S ::= S S ; '
+          b'Rest. Rest ::= S Close ; Open. Open ::= "(" ; Close. Close ::= ")" ;')
+SIGNS = b'Eq. S ::= "=" ; EqEq. S ::= "==" ; Is. T ::= "::=" ;'
+case('the longest word wins', with_grammar(LONGER, open_text(b'aba bab') + b'has S 0 1\n' + END),
+     counts(3, 1, 3) + version(4) + b'yes\nend\n', 0)
+case('the longest word wins from the left', with_grammar(SIGNS, open_text(b'=== ::= ::') + b'has S 0 1\nhas T 2 3\nhas S 2 3\nhas T 3 4\n' + END),
+     counts(3, 2, 3) + version(5) + b'yes\nyes\nno\nno\nend\n', 0)
+case('nested brackets', with_grammar(NESTED, open_text(b'(())()') + b'has S 0 6\nhas S 0 4\nhas S 1 3\nhas S 1 4\nhas Rest 1 4\nhas Open 0 1\nhas S 4 6\nhas S 2 4\n' + END),
+     counts(6, 4, 2) + version(6) + b'yes\nyes\nyes\nno\nyes\nyes\nyes\nno\nend\n', 0)
+case('brackets that are not closed', with_grammar(NESTED, open_text(b'(()') + b'has S 0 3\nhas S 1 3\nhas Rest 1 3\n' + END),
+     counts(6, 4, 2) + version(3) + b'no\nyes\nno\nend\n', 0)
+case('a category that derives nothing', with_grammar(b'P. S ::= S S ;', open_text(b'a') + b'has S 0 1\nhas S 0 0\n' + END),
+     counts(1, 1, 0) + version(1) + b'no\nno\nend\n', 0)
+case('a word of two rules', with_grammar(b'A. S ::= "x" ; B. T ::= "x" ;', open_text(b'x') + b'has S 0 1\nhas T 0 1\n' + END),
+     counts(2, 2, 1) + version(1) + b'yes\nyes\nend\n', 0)
+case('an empty grammar', with_grammar(b'', open_text(b'a a') + b'has S 0 2\n' + END),
+     counts(0, 0, 0) + version(2) + b'refused category\nend\n', 0)
+case('a grammar of 65,536 bytes', with_grammar(G + b' ' * 65503, open_text(b'a a') + b'has S 0 2\n' + END),
+     RULES + TEXT + b'yes\nend\n', 0)
+
+# ---- Grammars that are accepted: with an empty text and the end behind them.
+
+N64 = b'A' * 64
+N65 = b'A' * 65
+for name, grammar, wanted in [
+    ('no last semicolon', b'One. S ::= "a"', counts(1, 1, 1)),
+    ('no white byte', b'One.S::="a"', counts(1, 1, 1)),
+    ('one white byte alone, between two categories', b'P.S::=S S;One.S::="a"', counts(2, 1, 1)),
+    ('each white byte between tokens', b'\tOne\n.\r\n S\x0b::=\x0c"a" ', counts(1, 1, 1)),
+    ('two categories on two lines', b'P. S ::= S\nS ; One. S ::= "a" ;', counts(2, 1, 1)),
+    ('a grammar of white bytes', b' \t\r\n', counts(0, 0, 0)),
+    ('a grammar of semicolons', b';; ;', counts(0, 0, 0)),
+    ('a label of 64 bytes', N64 + b'. S ::= "a" ;', counts(1, 1, 1)),
+    ('a category of 64 bytes', b'One. ' + N64 + b' ::= "a" ;', counts(1, 1, 1)),
+    ('a right side of 64 and 64 bytes', b'P. ' + N64 + b' ::= ' + N64 + b' ' + N64 + b' ;', counts(1, 1, 0)),
+    ('names with digits, underscores and apostrophes', b"A_1'. S_2'' ::= \"a\" ;", counts(1, 1, 1)),
+    ('a predefined name for a label', b'Integer. S ::= "a" ;', counts(1, 1, 1)),
+    ('a longer name than a predefined one', b'A. Integers ::= "a" ; B. Ident_ ::= "b" ; C. Str ::= "c" ;', counts(3, 3, 3)),
+    ('words of the least and the greatest byte', b'A. S ::= "!~" ;', counts(1, 1, 1)),
+    ('a word of signs', b'A. S ::= "::=." ;', counts(1, 1, 1)),
+    ('a word of 1,000 bytes', b'A. S ::= "' + b'x' * 1000 + b'" ;', counts(1, 1, 1)),
+    ('a word that stands twice', b'A. S ::= "a" ; B. T ::= "a" ;', counts(2, 2, 1)),
+    ('a rule that stands twice', b'A. S ::= "a" ; A. S ::= "a" ;', counts(2, 1, 1)),
+    ('categories that are first named among items', b'P. S ::= A B ; Q. A ::= "x" ; R. B ::= "y" ;', counts(3, 3, 2)),
+    ('a category that only a later rule has', b'P. S ::= T T ; Q. T ::= "x" ;', counts(2, 2, 1)),
+    ('1,024 pieces', b'A. S ::= "a" ;' * 1024, counts(1024, 1, 1)),
+    ('1,024 pieces and white ones', b' ;' + b'A. S ::= "a" ;' * 1024 + b'; ;', counts(1024, 1, 1)),
+]:
+    case('accepted: ' + name, with_grammar(grammar, b'open 0\n\nend\n'), wanted + b'version 0 tokens 0\nend\n', 0)
+
+# ---- Grammars that are refused: nothing behind them is read as a command, and nothing else is written.
+
+
+def unbuilt(number):
+    return b'grammar refused unbuilt ' + str(number).encode() + b'\n'
+
+
+def unknown(name, number):
+    return b'grammar refused category ' + name + b' ' + str(number).encode() + b'\n'
+
+
+for name, grammar, wanted in [
+    ('a right side of one category', b'A. S ::= "a" ; B. S ::= S ;', unbuilt(1)),
+    ('an empty right side', b'A. S ::= ;', unbuilt(0)),
+    ('a right side of three categories', b'A. S ::= S S S ;', unbuilt(0)),
+    ('a right side of two words', b'A. S ::= "a" "b" ;', unbuilt(0)),
+    ('a category and a word', b'A. S ::= S "b" ;', unbuilt(0)),
+    ('a word and a category', b'A. S ::= "b" S ;', unbuilt(0)),
+    ('two categories without a white byte', b'A. S ::= "a" ; P. S ::= SS ;', unbuilt(1)),
+    ('a label of 65 bytes', N65 + b'. S ::= "a" ;', unbuilt(0)),
+    ('a category of 65 bytes', b'One. ' + N65 + b' ::= "a" ;', unbuilt(0)),
+    ('an item of 65 bytes', b'P. S ::= S ' + N65 + b' ;', unbuilt(0)),
+    ('a label in lower case', b'one. S ::= "a" ;', unbuilt(0)),
+    ('a category in lower case', b'One. s ::= "a" ;', unbuilt(0)),
+    ('an item in lower case', b'One. S ::= S s ;', unbuilt(0)),
+    ('a label that begins with a digit', b'1A. S ::= "a" ;', unbuilt(0)),
+    ('a label that begins with an underscore', b'_. S ::= S S ;', unbuilt(0)),
+    ('a label of two bytes above 7F', b'\xc3\x89. S ::= "a" ;', unbuilt(0)),
+    ('a list for a category', b'A. [S] ::= "a" ;', unbuilt(0)),
+    ('a list label', b'[]. S ::= "a" ;', unbuilt(0)),
+    ('a predefined name for a category', b'A. Integer ::= "a" ;', unbuilt(0)),
+    ('a predefined name among the items', b'A. S ::= "a" ; B. S ::= S Char ;', unbuilt(1)),
+    ('an empty word', b'A. S ::= "" ;', unbuilt(0)),
+    ('a space in a word', b'A. S ::= "a b" ;', unbuilt(0)),
+    ('a backslash in a word', b'A. S ::= "\\\\" ;', unbuilt(0)),
+    ('a quote in a word', b'A. S ::= "a"b" ;', unbuilt(0)),
+    ('the byte 7F in a word', b'A. S ::= "\x7f" ;', unbuilt(0)),
+    ('the byte FF in a word', b'A. S ::= "\xff" ;', unbuilt(0)),
+    ('the byte FF behind a rule', b'A. S ::= "a" \xff', unbuilt(0)),
+    ('a semicolon in a word', b'A. S ::= "a" ; B. S ::= ";" ;', unbuilt(1)),
+    ('a word without its last quote', b'A. S ::= "a ;', unbuilt(0)),
+    ('a word without its first quote', b'A. S ::= a" ;', unbuilt(0)),
+    ('no label', b'S ::= "a" ;', unbuilt(0)),
+    ('no dot', b'A S ::= "a" ;', unbuilt(0)),
+    ('no category', b'A. ::= "a" ;', unbuilt(0)),
+    ('another sign for `::=`', b'A. S := "a" ;', unbuilt(0)),
+    ('a white byte inside `::=`', b'A. S : := "a" ;', unbuilt(0)),
+    ('a token behind a word', b'A. S ::= "a" . ;', unbuilt(0)),
+    ('a token behind two categories', b'A. S ::= S S . ;', unbuilt(0)),
+    ('a zero byte between tokens', b'A.\x00S ::= "a" ;', unbuilt(0)),
+    ('a line comment', b'-- one rule\nA. S ::= "a" ;', unbuilt(0)),
+    ('a terminator', b'A. S ::= "a" ; terminator S "," ;', unbuilt(1)),
+    ('coercions', b'coercions Exp 2 ;', unbuilt(0)),
+    ('white pieces are not counted', b' ; ;; A. S ::= "a" ; \n; B. S ::= S ;', unbuilt(1)),
+    ('the first of two pieces that are not built', b'A. S ::= "a" ; B. S ::= ; C. S ::= S ;', unbuilt(1)),
+    ('1,025 pieces', b'A. S ::= "a" ;' * 1025, unbuilt(1024)),
+    ('1,030 pieces', b'A. S ::= "a" ;' * 1030, unbuilt(1024)),
+    ('1,025 pieces, the fourth not built', b'A. S ::= "a" ;' * 3 + b'B. S ::= ;' + b'A. S ::= "a" ;' * 1021, unbuilt(3)),
+    ('1,025 pieces, the last not built', b'A. S ::= "a" ;' * 1024 + b'B. S ::= ;', unbuilt(1024)),
+    ('an unknown category', b'A. S ::= S T ;', unknown(b'T', 0)),
+    ('an unknown category on the left', b'A. S ::= "a" ; B. S ::= T S ;', unknown(b'T', 1)),
+    ('the leftmost of two unknown categories', b'A. S ::= U T ;', unknown(b'U', 0)),
+    ('the first definition that names an unknown category', b'A. S ::= S U ; B. S ::= T S ;', unknown(b'U', 0)),
+    ('a category in other case is unknown', b'A. Exp ::= "a" ; B. Exp ::= Exp EXP ;', unknown(b'EXP', 1)),
+    ('a label is no category', b'One. S ::= "a" ; P. S ::= S One ;', unknown(b'One', 1)),
+    ('a definition that is not built stands before an unknown category', b'A. S ::= T T ; B. S ::= ;', unbuilt(1)),
+    ('an unknown category of 64 bytes', b'P. S ::= S ' + N64 + b' ;', unknown(N64, 0)),
+]:
+    case('refused: ' + name, with_grammar(grammar, b'open 0\n\nend\n'), wanted, 2)
+
+case('refused: the input ends behind the grammar', with_grammar(b'A. S ::= ;', b''), unbuilt(0), 2)
+case('refused: a break behind the grammar has no effect', with_grammar(b'A. S ::= S T ;', b'hass S\n'), unknown(b'T', 0), 2)
+
+
+def run(command):
+    passed, failed = 0, 0
+    for name, given, wanted, status in CASES:
+        done = subprocess.run(command, input=given, stdout=subprocess.PIPE, check=False)
+        if (done.stdout, done.returncode) == (wanted, status):
+            passed += 1
+            continue
+        failed += 1
+        print(f'FAILED {name}')
+        print(f'  wanted {wanted[-200:]!r} and status {status}')
+        print(f'  got    {done.stdout[-200:]!r} and status {done.returncode}')
+    print(f'{passed} passed, {failed} failed')
+    return 1 if failed else 0
+
+
+if __name__ == '__main__':
+    if sys.argv[1:]:
+        sys.exit(run(sys.argv[1:]))
+    print(__doc__)
+    sys.exit(2)
