@@ -1,6 +1,7 @@
 -- The grammar that definitions stand for: its rules in file order, and the numbers of its categories and kinds.
-use Rattle.std.specs.Prelude.{ℕ, List, [], ◌∷◌, ◌++◌, map, filter, flat_map, not, replicate, bytes_eq}
-use Rattle.std.specs.List.{position_or_len}
+use Rattle.std.specs.Prelude.{◌≡◌, ℕ, ◌<◌, List, [], ◌∷◌, ◌++◌, length, map, filter, flat_map, All}
+use Rattle.std.specs.Prelude.{not, replicate, bytes_eq, Some, slice_get}
+use Rattle.std.specs.List.{position_or_len, sum_by}
 use Rattle.spec_grammar.specs.declared.rule.Symbol.{Symbol}
 use Rattle.spec_grammar.specs.declared.rule.Symbol.TheVariants.{Category, Kind}
 use Rattle.spec_grammar.specs.declared.rule.Rule.{Rule}
@@ -18,6 +19,21 @@ pub record Expansion : Type 0 where
   pub rules : List Rule
   pub categories : List (List ℕ)
   pub kinds : List KindDef
+
+-- the symbol is the grammar's: its number is below the count of categories, or of kinds
+abbrev pub IsSymbolOf : Expansion → Symbol → Type 0
+IsSymbolOf g (Category c) = c < length g.categories
+IsSymbolOf g (Kind k) = k < length g.kinds
+
+-- each rule of the grammar is of a category of it, and its items are symbols of it
+abbrev pub HasOwnSymbols : Expansion → Type 0
+HasOwnSymbols g =
+    (r : ℕ) (rule : Rule) → slice_get g.rules r ≡ Some rule
+    → IsSymbolOf g (Category rule.category) × All (IsSymbolOf g) rule.items
+
+-- how many items the rules have together
+abbrev pub item_count : List Rule → ℕ
+item_count rules = sum_by (λ (rule : Rule). length rule.items) rules
 
 -- the text of a category: its name inside its brackets
 abbrev pub category_text : CatName → List ℕ

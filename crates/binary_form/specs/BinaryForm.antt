@@ -1,0 +1,51 @@
+-- What a caller sees of the binary form of a grammar.
+use Rattle.std.specs.Prelude.{◌≡◌, ℕ, suc, ◌<◌, ◌↔◌, List, [], Option, Some, length, Contains}
+use Rattle.spec_grammar.specs.declared.rule.Symbol.{Symbol}
+use Rattle.spec_grammar.specs.declared.rule.Symbol.TheVariants.{Kind}
+use Rattle.spec_lbnf.specs.Expansion.{Expansion}
+use Rattle.binary_form.specs.Symbols.{BinarySymbol, plain, suffix, BinaryDerives, IsBinarySymbolOf, number_of}
+use Rattle.binary_form.specs.UnitSteps.{HasItem, Reaches}
+
+-- the number is that of a symbol of the grammar
+abbrev pub IsNumberOf : Expansion → BinarySymbol → ℕ → Type 0
+IsNumberOf g a n = IsBinarySymbolOf g a × (number_of g a ≡ n)
+
+-- the number is that of a symbol which this one reaches by unit steps
+abbrev pub IsReachedNumber : Expansion → BinarySymbol → ℕ → Type 0
+IsReachedNumber g a n = (b : BinarySymbol) × IsNumberOf g b n × Reaches g.rules a b
+
+-- the symbol of this number derives the empty span
+abbrev pub IsNullableNumber : Expansion → ℕ → Type 0
+IsNullableNumber g n = (a : BinarySymbol) × IsNumberOf g a n × BinaryDerives g.rules [] a 0 0
+
+-- the cell has just the numbers of what the symbol of this number reaches
+abbrev pub IsClosureOf : Expansion → ℕ → List ℕ → Type 0
+IsClosureOf g n cell =
+    (m : ℕ) → Contains cell m ↔ ((a : BinarySymbol) × IsNumberOf g a n × IsReachedNumber g a m)
+
+-- the cell has just the numbers of what a token of this kind reaches; a stray token reaches nothing
+abbrev pub IsTokenCell : Expansion → Option ℕ → List ℕ → Type 0
+IsTokenCell g kind cell =
+    (m : ℕ) → Contains cell m
+    ↔ ((k : ℕ) × (kind ≡ Some k) × (k < length g.kinds) × IsReachedNumber g (plain (Kind k)) m)
+
+-- two numbers make a third: one is that of item p of a rule, the other that of the suffix behind it, and the
+-- suffix from p on reaches the third
+pub record MakesNumber (g : Expansion) (left right n : ℕ) : Type 0 where
+  pub r : ℕ
+  pub p : ℕ
+  pub item : Symbol
+  pub behind : List Symbol
+  pub has : HasItem g.rules r p item behind
+  pub is_left : IsNumberOf g (plain item) left
+  pub is_right : IsNumberOf g (suffix r (suc p)) right
+  pub reaches : IsReachedNumber g (suffix r p) n
+
+-- the number is in the product of two cells: a number of one and a number of the other make it
+abbrev pub IsProductNumber : Expansion → List ℕ → List ℕ → ℕ → Type 0
+IsProductNumber g left right n =
+    (l : ℕ) × (m : ℕ) × Contains left l × Contains right m × MakesNumber g l m n
+
+-- the cell has just the numbers of the product of the two
+abbrev pub IsProductOf : Expansion → List ℕ → List ℕ → List ℕ → Type 0
+IsProductOf g left right cell = (n : ℕ) → Contains cell n ↔ IsProductNumber g left right n

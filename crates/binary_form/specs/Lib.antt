@@ -1,0 +1,4 @@
+pub mod BinaryForm
+pub mod Symbols
+pub mod UnitSteps
+pub mod Laws
