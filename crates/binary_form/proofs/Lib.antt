@@ -1,2 +1,5 @@
+pub mod ItemLemmas
 pub mod ClosureLemmas
 pub mod NumberLemmas
+pub mod ReachLemmas
+pub mod ProductLemmas

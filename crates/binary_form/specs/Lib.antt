@@ -2,3 +2,4 @@ pub mod BinaryForm
 pub mod Symbols
 pub mod UnitSteps
 pub mod Laws
+pub mod NumberSteps
