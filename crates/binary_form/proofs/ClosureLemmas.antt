@@ -11,6 +11,7 @@ use Rattle.binary_form.specs.Symbols.{BinarySymbol, plain, suffix, BinaryDerives
 use Rattle.binary_form.specs.UnitSteps.{HasItem, AreNullable, UnitStep, whole_side, last_item, passed_item, Reaches, stay, step, IsInProduct}
 use Rattle.binary_form.specs.Laws.{IsOfToken, IsOfCut, ClosureIsDerivation}
 use Rattle.binary_form.proofs.ItemLemmas.{drop_behind, same_rule, items_behind}
+use Rattle.binary_form.proofs.NullableLemmas.{items_nullable, nullable_items}
 
 -- a cut of a span lies within it, or at one of its ends
 cut_cases :
@@ -18,18 +19,6 @@ cut_cases :
 cut_cases i k j from to = grind arith
 
 module _ (rules : List Rule) where
-  -- items that derive an empty span are nullable
-  pub items_nullable :
-      (kinds : List (Option ℕ)) (items : List Symbol) (i : ℕ)
-      → DerivesAll rules kinds items i i → AreNullable rules items
-  items_nullable kinds items i d = forest_anywhere rules kinds [] d.0 items i i 0 d.1 (omega arith)
-
-  -- nullable items derive each empty span
-  pub nullable_items :
-      (kinds : List (Option ℕ)) (items : List Symbol) (i : ℕ)
-      → AreNullable rules items → DerivesAll rules kinds items i i
-  nullable_items kinds items i d = forest_anywhere rules [] kinds d.0 items 0 0 i d.1 (omega arith)
-
   module _ (kinds : List (Option ℕ)) where
     -- a suffix derives what its first item and the items behind it derive in turn
     suffix_joined :
@@ -69,7 +58,7 @@ module _ (rules : List Rule) where
         ap (λ (x : Rule). x.category) (same_rule rules r d.0 rule d.1 is) in
         (category_derives rules kinds rule.category i j).1 (r, d.0, d.1, same, d.2)
     step_derives a b i j (last_item {r = r} {p = p} {s = s} {behind = behind} has empty) d =
-        suffix_joined r p s behind i j j has d (nullable_items kinds behind j empty)
+        suffix_joined r p s behind i j j has d (nullable_items rules kinds behind j empty)
     step_derives a b i j (passed_item {r = r} {p = p} {s = s} {behind = behind} has empty) d =
         suffix_joined r p s behind i i j has ((nullable_derives rules kinds s i).0 empty)
         (behind_derives r p s behind i j has d)
@@ -153,7 +142,7 @@ module _ (rules : List Rule) where
               step_given (suffix r (suc p)) (suffix r p) i j (passed_item has empty) given
           | inr (inr at_end) ↦
               let Empty : ℕ → Type 0 = λ n. DerivesAll rules kinds behind n j in
-              let empty = items_nullable kinds behind j (subst Empty at_end others) in
+              let empty = items_nullable rules kinds behind j (subst Empty at_end others) in
               let Given : ℕ → Type 0 = λ n. IsGiven (plain s) i n in
               let given = subst Given at_end (item (omega arith)) in
               step_given (plain s) (suffix r p) i j (last_item has empty) given

@@ -70,15 +70,22 @@ module _ (rules : List Rule) where
     is_item = drop_from_get rule.items p s is_item;
   }
 
+  -- the suffix that an item begins has it, and the items behind it
+  pub items_from :
+      (r p : ℕ) (s : Symbol) (behind : List Symbol) (rule : Rule)
+      → HasItem rules r p s behind → slice_get rules r ≡ Some rule
+      → drop p rule.items ≡ s ∷ behind
+  items_from r p s behind rule has is =
+      let same : rule ≡ has.rule = same_rule r rule has.rule is has.is_rule in
+      ap (λ (x : Rule). drop p x.items) same ∙ has.is_item
+
   -- the suffix behind an item has the items behind it
   pub items_behind :
       (r p : ℕ) (s : Symbol) (behind : List Symbol) (rule : Rule)
       → HasItem rules r p s behind → slice_get rules r ≡ Some rule
       → drop (suc p) rule.items ≡ behind
   items_behind r p s behind rule has is =
-      let same : rule ≡ has.rule = same_rule r rule has.rule is has.is_rule in
-      ap (λ (x : Rule). drop (suc p) x.items) same
-      ∙ drop_behind (has.rule).items p s behind has.is_item
+      drop_behind rule.items p s behind (items_from r p s behind rule has is)
 
   -- the first of the items behind an item is the next item
   pub next_item :

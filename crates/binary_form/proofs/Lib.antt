@@ -1,5 +1,10 @@
 pub mod ItemLemmas
+pub mod NullableLemmas
 pub mod ClosureLemmas
 pub mod NumberLemmas
 pub mod ReachLemmas
 pub mod ProductLemmas
+pub mod CellLemmas
+pub mod TripleSteps
+pub mod BracketSteps
+pub mod Examples

@@ -4,4 +4,4 @@
 
 mod laws;
 
-pub use laws::{closure_is_derivation, each_symbol_has_its_number, products_agree};
+pub use laws::{closure_is_derivation, each_symbol_has_its_number, products_agree, small_cases};
