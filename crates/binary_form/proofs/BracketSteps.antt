@@ -1,23 +1,20 @@
 -- The unit steps of `S ::= ( S )`, `S ::=`, by number, and what they reach.
-use Rattle.std.proofs.Common.{◌≡◌, ℕ, ◌+◌, ◌<◌, ◌⊎◌, ◌↔◌, List, [], ◌∷◌, Option, Some, length, zero, suc, All, refl, sym, ◌∙◌, ap, subst, Contains, slice_get, slice_index_or, drop, inl, inr, arith}
-use Rattle.std.proofs.lemmas.List.Elements.{All-nil, All-cons}
+use Rattle.std.proofs.Common.{◌≡◌, ℕ, ◌<◌, ◌⊎◌, List, [], ◌∷◌, Some, zero, suc, refl, ap, slice_get, drop, inl, inr, arith}
 use Rattle.spec_grammar.specs.declared.rule.Symbol.{Symbol}
 use Rattle.spec_grammar.specs.declared.rule.Symbol.TheVariants.{Category, Kind}
 use Rattle.spec_grammar.specs.declared.rule.Rule.{Rule}
 use Rattle.spec_grammar.specs.Derivation.{IsNullable}
 use Rattle.spec_grammar.specs.Examples.{rule_of}
-use Rattle.spec_grammar.proofs.DerivationLemmas.{AreFull, derives_grows, category_derives}
-use Rattle.spec_lbnf.specs.Expansion.{Expansion, IsSymbolOf, HasOwnSymbols}
-use Rattle.binary_form.specs.Symbols.{BinarySymbol, plain, suffix, IsBinarySymbolOf, number_of}
-use Rattle.binary_form.specs.UnitSteps.{HasItem, AreNullable, UnitStep, whole_side, last_item, passed_item, Reaches, stay, step}
-use Rattle.binary_form.specs.BinaryForm.{IsNumberOf, IsReachedNumber, IsNullableNumber, IsClosureOf, IsTokenCell, MakesNumber, IsProductOf, IsProductNumber}
+use Rattle.spec_grammar.proofs.DerivationLemmas.{category_derives}
+use Rattle.spec_lbnf.specs.Expansion.{HasOwnSymbols}
+use Rattle.binary_form.specs.Symbols.{BinarySymbol, plain, suffix, number_of}
+use Rattle.binary_form.specs.UnitSteps.{HasItem, AreNullable, UnitStep, whole_side, last_item, passed_item}
 use Rattle.binary_form.specs.NumberSteps.{StepNumber, NumberReaches, stay as stay_number, step as step_number}
-use Rattle.binary_form.specs.Examples.{triples, brackets, SmallCases}
+use Rattle.binary_form.specs.Examples.{brackets}
 use Rattle.binary_form.proofs.ItemLemmas.{drop_within, items_from}
 use Rattle.binary_form.proofs.NullableLemmas.{none_nullable, some_nullable, kind_not_nullable}
-use Rattle.binary_form.proofs.NumberLemmas.{number_is_one}
-use Rattle.binary_form.proofs.ReachLemmas.{number_step, number_reaches_within, step_below, reaches_numbers}
-use Rattle.binary_form.proofs.CellLemmas.{IsOneOf, has_one, HasReached, AreReached, has_reached, token_cell, closure_of, product_of, no_product, AreOwn, own_rule}
+use Rattle.binary_form.proofs.ReachLemmas.{number_step, step_below}
+use Rattle.binary_form.proofs.CellLemmas.{IsOneOf, HasReached, has_reached, own_rule}
 
 -- the right side of `S ::= ( S )`
 abbrev pub enclosed : List Symbol

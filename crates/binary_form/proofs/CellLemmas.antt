@@ -1,22 +1,16 @@
--- Cells of small grammars: what a symbol reaches, number by number, and the cells and products with just that.
-use Rattle.std.proofs.Common.{◌≡◌, ℕ, ◌+◌, ◌<◌, ◌⊎◌, ◌↔◌, List, [], ◌∷◌, Option, Some, length, zero, suc, All, refl, sym, ◌∙◌, ap, subst, Contains, slice_get, slice_index_or, drop, inl, inr, arith}
+-- Cells with just the numbers of what a symbol reaches: closures, cells of tokens, products.
+use Rattle.std.proofs.Common.{◌≡◌, ℕ, ◌<◌, ◌⊎◌, ◌↔◌, List, [], ◌∷◌, Some, length, zero, suc, All, refl, sym, ◌∙◌, subst, Contains, slice_index_or, inl, inr, arith}
 use Rattle.std.proofs.lemmas.List.Elements.{All-nil, All-cons}
 use Rattle.spec_grammar.specs.declared.rule.Symbol.{Symbol}
 use Rattle.spec_grammar.specs.declared.rule.Symbol.TheVariants.{Category, Kind}
 use Rattle.spec_grammar.specs.declared.rule.Rule.{Rule}
-use Rattle.spec_grammar.specs.Derivation.{IsNullable}
-use Rattle.spec_grammar.specs.Examples.{rule_of}
-use Rattle.spec_grammar.proofs.DerivationLemmas.{AreFull, derives_grows, category_derives}
 use Rattle.spec_lbnf.specs.Expansion.{Expansion, IsSymbolOf, HasOwnSymbols}
-use Rattle.binary_form.specs.Symbols.{BinarySymbol, plain, suffix, IsBinarySymbolOf, number_of}
-use Rattle.binary_form.specs.UnitSteps.{HasItem, AreNullable, UnitStep, whole_side, last_item, passed_item, Reaches, stay, step}
-use Rattle.binary_form.specs.BinaryForm.{IsNumberOf, IsReachedNumber, IsNullableNumber, IsClosureOf, IsTokenCell, MakesNumber, IsProductOf, IsProductNumber}
-use Rattle.binary_form.specs.NumberSteps.{StepNumber, NumberReaches, stay as stay_number, step as step_number}
-use Rattle.binary_form.specs.Examples.{triples, brackets, SmallCases}
-use Rattle.binary_form.proofs.ItemLemmas.{drop_within, items_from}
-use Rattle.binary_form.proofs.NullableLemmas.{none_nullable, some_nullable, kind_not_nullable}
+use Rattle.binary_form.specs.Symbols.{BinarySymbol, plain, suffix}
+use Rattle.binary_form.specs.UnitSteps.{HasItem}
+use Rattle.binary_form.specs.BinaryForm.{IsNumberOf, IsReachedNumber, IsClosureOf, IsTokenCell, MakesNumber, IsProductOf, IsProductNumber}
+use Rattle.binary_form.specs.NumberSteps.{StepNumber, NumberReaches}
 use Rattle.binary_form.proofs.NumberLemmas.{number_is_one}
-use Rattle.binary_form.proofs.ReachLemmas.{number_step, number_reaches_within, reaches_numbers}
+use Rattle.binary_form.proofs.ReachLemmas.{number_reaches_within, reaches_numbers}
 
 -- the number is one of these
 abbrev pub IsOneOf : List ℕ → ℕ → Type 0
@@ -70,11 +64,9 @@ module _ (g : Expansion) where
       → HasReached a cell
   has_reached a m cell own is within closed all n =
       let by_number = reaches_numbers g a m n own is in
-      (
+      let kept = number_reaches_within (StepNumber g) (IsOneOf cell) m n closed within in (
         (λ has. by_number.1 (one_reached m cell n all (has_one cell n has))),
-        (λ reached.
-          one_has cell n
-          (number_reaches_within (StepNumber g) (IsOneOf cell) m n closed within (by_number.0 reached))),
+        (λ reached. one_has cell n (kept (by_number.0 reached))),
       )
 
   -- the cell of a token has what its kind reaches
@@ -84,8 +76,8 @@ module _ (g : Expansion) where
   token_cell k cell known reached m = (
     (λ has. (k, refl, known, (reached m).0 has)),
     (λ x.
-      let same : x.0 ≡ k = cc in
-      (reached m).1 (rw same at x.3)),
+        let same : x.0 ≡ k = cc in
+        (reached m).1 (rw same at x.3)),
   )
 
   -- the closure of a number has what its symbol reaches
@@ -95,8 +87,8 @@ module _ (g : Expansion) where
   closure_of a m cell is reached n = (
     (λ has. (a, is, (reached n).0 has)),
     (λ x.
-      let same : x.0 ≡ a = number_is_one g x.0 a m x.1 is in
-      (reached n).1 (rw same at x.2)),
+        let same : x.0 ≡ a = number_is_one g x.0 a m x.1 is in
+        (reached n).1 (rw same at x.2)),
   )
 
   -- the product of an item and the suffix behind it has what the suffix from the item on reaches

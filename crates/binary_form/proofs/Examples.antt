@@ -1,29 +1,26 @@
 -- The small cases: numbers by computation, cells by what their symbols reach.
-use Rattle.std.proofs.Common.{◌≡◌, ℕ, ◌+◌, ◌<◌, ◌⊎◌, ◌↔◌, List, [], ◌∷◌, Option, Some, None, length, zero, suc, All, refl, sym, ◌∙◌, ap, subst, Contains, slice_get, slice_index_or, drop, inl, inr, arith}
-use Rattle.std.proofs.lemmas.List.Elements.{All-nil, All-cons}
+use Rattle.std.proofs.Common.{◌≡◌, ℕ, List, [], ◌∷◌, Some, None, suc, refl, ap, drop, arith}
 use Rattle.spec_grammar.specs.declared.rule.Symbol.{Symbol}
 use Rattle.spec_grammar.specs.declared.rule.Symbol.TheVariants.{Category, Kind}
 use Rattle.spec_grammar.specs.declared.rule.Rule.{Rule}
-use Rattle.spec_grammar.specs.Derivation.{IsNullable}
 use Rattle.spec_grammar.specs.Examples.{rule_of}
-use Rattle.spec_grammar.proofs.DerivationLemmas.{AreFull, derives_grows, category_derives}
-use Rattle.spec_lbnf.specs.Expansion.{Expansion, IsSymbolOf, HasOwnSymbols}
-use Rattle.binary_form.specs.Symbols.{BinarySymbol, plain, suffix, BinaryDerives, IsBinarySymbolOf, number_of}
-use Rattle.binary_form.specs.UnitSteps.{HasItem, AreNullable, UnitStep, whole_side, last_item, passed_item, Reaches, stay, step}
-use Rattle.binary_form.specs.BinaryForm.{IsNumberOf, IsReachedNumber, IsNullableNumber, IsClosureOf, IsTokenCell, MakesNumber, IsProductOf, IsProductNumber}
-use Rattle.binary_form.specs.NumberSteps.{StepNumber, NumberReaches, stay as stay_number, step as step_number}
+use Rattle.binary_form.specs.Symbols.{plain, suffix, BinaryDerives}
+use Rattle.binary_form.specs.UnitSteps.{HasItem, whole_side, last_item, Reaches, stay, step}
+use Rattle.binary_form.specs.BinaryForm.{IsNumberOf, IsNullableNumber, IsTokenCell, IsProductOf}
 use Rattle.binary_form.specs.Examples.{triples, brackets, SmallCases}
-use Rattle.binary_form.proofs.ItemLemmas.{drop_within, items_from}
-use Rattle.binary_form.proofs.NullableLemmas.{none_nullable, some_nullable, kind_not_nullable}
+use Rattle.binary_form.proofs.NullableLemmas.{none_nullable}
 use Rattle.binary_form.proofs.NumberLemmas.{number_is_one}
-use Rattle.binary_form.proofs.ReachLemmas.{number_step, number_reaches_within, reaches_numbers}
-use Rattle.binary_form.proofs.CellLemmas.{IsOneOf, has_one, HasReached, AreReached, has_reached, token_cell, closure_of, product_of, no_product, AreOwn, own_rule}
+use Rattle.binary_form.proofs.CellLemmas.{IsOneOf, has_one, HasReached, token_cell, closure_of, product_of, no_product}
 use Rattle.binary_form.proofs.TripleSteps.{word_reached, three_reached, two_reached}
 use Rattle.binary_form.proofs.BracketSteps.{enclosed, category_is_nullable, kind_second, open_reached, close_reached, whole_reached}
 
 -- the number of the last two of three
 two_is : IsNumberOf triples (suffix 0 1) 3
 two_is = ((_, refl, omega arith), refl)
+
+-- the number of the last of three
+last_is : IsNumberOf triples (suffix 0 2) 4
+last_is = ((_, refl, omega arith), refl)
 
 -- `a` is a whole right side of `S`
 word_reaches : Reaches triples.rules (plain (Kind 0)) (plain (Category 0))
@@ -43,7 +40,8 @@ word_is_not_two reaches =
 -- `(` does not reach `S`
 open_is_not_category : Reaches brackets.rules (plain (Kind 0)) (plain (Category 0)) → ⊥
 open_is_not_category reaches =
-    none (has_one (1 ∷ []) 0 ((open_reached 0).1 (plain (Category 0), (omega arith, refl), reaches)))
+    let has = (open_reached 0).1 (plain (Category 0), (omega arith, refl), reaches) in
+    none (has_one (1 ∷ []) 0 has)
   where
     none : IsOneOf (1 ∷ []) 0 → ⊥
     none one = grind arith
@@ -93,7 +91,7 @@ small_cases = record {
   one_before_two =
       before_suffix 0 (Category 0 ∷ Category 0 ∷ []) (0 ∷ 2 ∷ 4 ∷ []) 3 first two_is three_reached;
   one_before_last =
-      before_suffix 1 (Category 0 ∷ []) (3 ∷ []) 4 second ((_, refl, omega arith), refl) two_reached;
+      before_suffix 1 (Category 0 ∷ []) (3 ∷ []) 4 second last_is two_reached;
   two_categories = no_product triples (0 ∷ []) 0 (omega arith);
   empty_side = (plain (Category 0), (omega arith, refl), category_is_nullable);
   close_is_not_nullable = close_is_full;

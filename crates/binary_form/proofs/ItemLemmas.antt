@@ -1,8 +1,7 @@
 -- The items of rules by their places, and the suffixes that they begin.
-use Rattle.std.proofs.Common.{◌≡◌, ℕ, ◌<◌, List, [], ◌∷◌, Some, length, slice_get, drop, zero, suc, All, refl, ◌∙◌, ap, arith}
+use Rattle.std.proofs.Common.{◌≡◌, ℕ, ◌<◌, List, [], ◌∷◌, Some, length, slice_get, drop, zero, suc, refl, ◌∙◌, ap, arith}
 use Rattle.std.proofs.lemmas.List.Elements.{All-drop}
 use Rattle.spec_grammar.specs.declared.rule.Symbol.{Symbol}
-use Rattle.spec_grammar.specs.declared.rule.Symbol.TheVariants.{Category}
 use Rattle.spec_grammar.specs.declared.rule.Rule.{Rule}
 use Rattle.spec_lbnf.specs.Expansion.{Expansion, IsSymbolOf, HasOwnSymbols}
 use Rattle.binary_form.specs.Symbols.{plain, suffix, IsBinarySymbolOf}
@@ -111,8 +110,7 @@ module _ (g : Expansion) where
       → IsBinarySymbolOf g (suffix r p)
       → (s : Symbol) × (behind : List Symbol) × HasItem g.rules r p s behind
   symbol_item r p is =
-      let item = drop_at (is.0).items p is.2 in
-      (
+      let item = drop_at (is.0).items p is.2 in (
         item.0,
         drop (suc p) (is.0).items,
         record { rule = is.0; is_rule = is.1; is_item = item.1 },

@@ -1,5 +1,5 @@
 -- Products of numbers are products of the symbols that they number.
-use Rattle.std.proofs.Common.{◌≡◌, ℕ, List, suc, Contains, refl, sym, subst}
+use Rattle.std.proofs.Common.{ℕ, List, suc, Contains, refl, sym, subst}
 use Rattle.spec_lbnf.specs.Expansion.{Expansion}
 use Rattle.binary_form.specs.Symbols.{BinarySymbol, plain, suffix, IsBinarySymbolOf, number_of}
 use Rattle.binary_form.specs.UnitSteps.{IsInProduct}

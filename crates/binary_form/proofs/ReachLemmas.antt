@@ -1,8 +1,8 @@
 -- What a symbol reaches by unit steps, and what its number reaches.
-use Rattle.std.proofs.Common.{◌≡◌, ℕ, ◌<◌, ◌↔◌, List, suc, refl, sym, ◌∙◌, subst}
+use Rattle.std.proofs.Common.{◌≡◌, ℕ, ◌<◌, ◌↔◌, List, refl, sym, ◌∙◌, subst}
 use Rattle.spec_grammar.specs.declared.rule.Rule.{Rule}
 use Rattle.spec_lbnf.specs.Expansion.{Expansion, HasOwnSymbols}
-use Rattle.binary_form.specs.Symbols.{BinarySymbol, plain, suffix, IsBinarySymbolOf, symbol_count, number_of}
+use Rattle.binary_form.specs.Symbols.{BinarySymbol, IsBinarySymbolOf, symbol_count, number_of}
 use Rattle.binary_form.specs.UnitSteps.{UnitStep, whole_side, last_item, passed_item, Reaches, stay, step}
 use Rattle.binary_form.specs.BinaryForm.{IsNumberOf, IsReachedNumber}
 use Rattle.binary_form.specs.NumberSteps.{StepNumber, NumberReaches, stay as stay_number, step as step_number}
@@ -25,7 +25,7 @@ number_reaches_on Step l m n before stay_number = before
 number_reaches_on Step l m n before (step_number {m = k} behind last) =
     step_number (number_reaches_on Step l m k before behind) last
 
--- where each step of one relation is one of another, what is reached by the one is reached by the other
+-- where each step is one of another relation, what is reached by the one is reached by the other
 pub number_reaches_more :
     (Step Other : ℕ → ℕ → Type 0) (m n : ℕ)
     → ((k l : ℕ) → Step k l → Other k l) → NumberReaches Step m n → NumberReaches Other m n

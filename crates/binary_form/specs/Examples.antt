@@ -1,5 +1,5 @@
--- The binary forms of two small grammars: numbers, what symbols reach, products and nullable symbols.
-use Rattle.std.specs.Prelude.{◌≡◌, ℕ, List, [], ◌∷◌, Some, None, codes}
+-- The binary forms of two small grammars: numbers, closures, products and nullable symbols.
+use Rattle.std.specs.Prelude.{◌≡◌, ℕ, [], ◌∷◌, Some, None, codes}
 use Rattle.spec_grammar.specs.declared.rule.Symbol.TheVariants.{Category, Kind}
 use Rattle.spec_grammar.specs.Examples.{rule_of}
 use Rattle.spec_lexing.specs.declared.kind_def.KindDef.TheVariants.{Word}

@@ -3,7 +3,7 @@ use Rattle.std.specs.Prelude.{◌≡◌, ℕ, ◌+◌, ◌<◌, ◌⊎◌, ◌�
 use Rattle.spec_grammar.specs.declared.rule.Symbol.TheVariants.{Kind}
 use Rattle.spec_grammar.specs.declared.rule.Rule.{Rule}
 use Rattle.spec_lbnf.specs.Expansion.{Expansion, HasOwnSymbols}
-use Rattle.binary_form.specs.Symbols.{BinarySymbol, plain, suffix, BinaryDerives, IsBinarySymbolOf, symbol_count, number_of}
+use Rattle.binary_form.specs.Symbols.{BinarySymbol, plain, BinaryDerives, IsBinarySymbolOf, symbol_count, number_of}
 use Rattle.binary_form.specs.UnitSteps.{Reaches, IsInProduct}
 use Rattle.binary_form.specs.BinaryForm.{IsProductNumber}
 
