@@ -2,3 +2,5 @@ pub mod BinaryForm
 pub mod Symbols
 pub mod UnitSteps
 pub mod Laws
+pub mod Links
+pub mod Wholes

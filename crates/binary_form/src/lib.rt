@@ -3,5 +3,6 @@
 #![tactic(auto)]
 
 mod laws;
+mod links;
 
 pub use laws::{closure_is_derivation, each_symbol_has_its_number, products_agree};
