@@ -1,1 +1,3 @@
+pub mod ClosureLemmas
+pub mod NumberLemmas
 pub mod LinkLemmas
