@@ -1,5 +1,5 @@
--- The closure of unit steps and products is derivation: what derives a span is given by its token or by a cut of
--- it, by the parse tree, and what is given so is derived, step by step.
+-- The closure of unit steps and products is derivation. By the parse tree, what derives a span is given by its
+-- token or by a cut of it; step by step, what is given so is derived.
 use Rattle.std.proofs.Common.{◌≡◌, ℕ, ◌<◌, ◌≤◌, ◌⊎◌, ◌↔◌, List, [], ◌∷◌, Option, Some, slice_get, drop, zero, suc, refl, sym, ◌∙◌, ap, subst, inl, inr, arith}
 use Rattle.spec_grammar.specs.declared.rule.Symbol.{Symbol}
 use Rattle.spec_grammar.specs.declared.rule.Symbol.TheVariants.{Category, Kind}
@@ -10,15 +10,7 @@ use Rattle.spec_grammar.proofs.DerivationLemmas.{forest_ordered, tree_ordered, f
 use Rattle.binary_form.specs.Symbols.{BinarySymbol, plain, suffix, BinaryDerives}
 use Rattle.binary_form.specs.UnitSteps.{HasItem, AreNullable, UnitStep, whole_side, last_item, passed_item, Reaches, stay, step, IsInProduct}
 use Rattle.binary_form.specs.Laws.{IsOfToken, IsOfCut, ClosureIsDerivation}
-
--- the items behind the first of a suffix are the suffix that begins one place further
-pub drop_behind :
-    (items : List Symbol) (p : ℕ) (s : Symbol) (behind : List Symbol)
-    → drop p items ≡ s ∷ behind → drop (suc p) items ≡ behind
-drop_behind [] zero s behind is = cc
-drop_behind [] (suc p) s behind is = cc
-drop_behind (item ∷ items) zero s behind is = cc
-drop_behind (item ∷ items) (suc p) s behind is = drop_behind items p s behind is
+use Rattle.binary_form.proofs.ItemLemmas.{drop_behind, same_rule, items_behind}
 
 -- a cut of a span lies within it, or at one of its ends
 cut_cases :
@@ -26,21 +18,6 @@ cut_cases :
 cut_cases i k j from to = grind arith
 
 module _ (rules : List Rule) where
-  -- a rule's number has one rule
-  pub same_rule :
-      (r : ℕ) (a b : Rule) → slice_get rules r ≡ Some a → slice_get rules r ≡ Some b → a ≡ b
-  same_rule r a b is_a is_b = cc
-
-  -- the suffix behind an item has the items behind it
-  pub items_behind :
-      (r p : ℕ) (s : Symbol) (behind : List Symbol) (rule : Rule)
-      → HasItem rules r p s behind → slice_get rules r ≡ Some rule
-      → drop (suc p) rule.items ≡ behind
-  items_behind r p s behind rule has is =
-      let same : rule ≡ has.rule = same_rule r rule has.rule is has.is_rule in
-      ap (λ (x : Rule). drop (suc p) x.items) same
-      ∙ drop_behind (has.rule).items p s behind has.is_item
-
   -- items that derive an empty span are nullable
   pub items_nullable :
       (kinds : List (Option ℕ)) (items : List Symbol) (i : ℕ)
@@ -70,7 +47,7 @@ module _ (rules : List Rule) where
         → HasItem rules r p s behind → BinaryDerives rules kinds (suffix r (suc p)) i j
         → DerivesAll rules kinds behind i j
     behind_derives r p s behind i j has d =
-        let same : drop (suc p) (d.0).items ≡ behind = items_behind r p s behind d.0 has d.1 in
+        let same : drop (suc p) (d.0).items ≡ behind = items_behind rules r p s behind d.0 has d.1 in
         rw same at d.2
 
     -- what the items behind an item derive, the suffix behind it derives
@@ -80,7 +57,7 @@ module _ (rules : List Rule) where
         → BinaryDerives rules kinds (suffix r (suc p)) i j
     derives_behind r p s behind i j has d =
         let same : drop (suc p) (has.rule).items ≡ behind =
-        items_behind r p s behind has.rule has has.is_rule in
+        items_behind rules r p s behind has.rule has has.is_rule in
         (has.rule, has.is_rule, (rw same d))
 
     -- a unit step keeps derivation
@@ -89,7 +66,7 @@ module _ (rules : List Rule) where
         → UnitStep rules a b → BinaryDerives rules kinds a i j → BinaryDerives rules kinds b i j
     step_derives a b i j (whole_side {r = r} {rule = rule} is) d =
         let same : (d.0).category ≡ rule.category =
-        ap (λ (x : Rule). x.category) (same_rule r d.0 rule d.1 is) in
+        ap (λ (x : Rule). x.category) (same_rule rules r d.0 rule d.1 is) in
         (category_derives rules kinds rule.category i j).1 (r, d.0, d.1, same, d.2)
     step_derives a b i j (last_item {r = r} {p = p} {s = s} {behind = behind} has empty) d =
         suffix_joined r p s behind i j j has d (nullable_items kinds behind j empty)

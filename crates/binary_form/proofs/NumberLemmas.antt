@@ -6,6 +6,7 @@ use Rattle.spec_grammar.specs.declared.rule.Symbol.TheVariants.{Category, Kind}
 use Rattle.spec_grammar.specs.declared.rule.Rule.{Rule}
 use Rattle.spec_lbnf.specs.Expansion.{Expansion, item_count}
 use Rattle.binary_form.specs.Symbols.{BinarySymbol, plain, suffix, IsBinarySymbolOf, symbol_count, number_of}
+use Rattle.binary_form.specs.BinaryForm.{IsNumberOf}
 use Rattle.binary_form.specs.Laws.{NumbersDiffer, NumbersAreBelow, NumbersAreUsed}
 
 -- the first of the rules has its items, and the others have the rest
@@ -164,3 +165,8 @@ numbers_used g n below =
   where
     three_parts : (c k : ℕ) → (n < c) ⊎ (((c ≤ n) × (n < c + k)) ⊎ (c + k ≤ n))
     three_parts c k = grind arith
+
+-- two symbols with one number are the same
+pub number_is_one :
+    (g : Expansion) (a b : BinarySymbol) (n : ℕ) → IsNumberOf g a n → IsNumberOf g b n → a ≡ b
+number_is_one g a b n is_a is_b = numbers_differ g a b is_a.0 is_b.0 (is_a.1 ∙ sym is_b.1)

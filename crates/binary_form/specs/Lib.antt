@@ -4,3 +4,4 @@ pub mod UnitSteps
 pub mod Laws
 pub mod Links
 pub mod Wholes
+pub mod NumberSteps
