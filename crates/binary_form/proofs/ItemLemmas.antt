@@ -104,8 +104,7 @@ module _ (g : Expansion) where
       → IsBinarySymbolOf g (suffix r p)
       → (s : Symbol) × (behind : List Symbol) × HasItem g.rules r p s behind
   symbol_item r p is =
-      let item = drop_at (is.0).items p is.2 in
-      (
+      let item = drop_at (is.0).items p is.2 in (
         item.0,
         drop (suc p) (is.0).items,
         record { rule = is.0; is_rule = is.1; is_item = item.1 },

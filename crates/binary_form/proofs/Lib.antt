@@ -1,6 +1,7 @@
 pub mod ItemLemmas
 pub mod ClosureLemmas
 pub mod NumberLemmas
-pub mod LinkLemmas
 pub mod ReachLemmas
 pub mod ProductLemmas
+pub mod LinkLemmas
+pub mod FlagLemmas

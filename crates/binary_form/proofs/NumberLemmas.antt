@@ -81,13 +81,16 @@ counted (x ∷ rules) n below =
           (0, n, record { rule = x; is_rule = refl; within = here; count = omega arith })
       | inr later ↦
           let inner = counted rules (n - length x.items) (omega (arith, count-cons x rules)) in
-          let is = inner.2 in
-          (suc inner.0, inner.1, record {
-            rule = is.rule;
-            is_rule = is.is_rule;
-            within = is.within;
-            count = omega (arith, is.count, count-cons x (take inner.0 rules));
-          })
+          let is = inner.2 in (
+            suc inner.0,
+            inner.1,
+            record {
+              rule = is.rule;
+              is_rule = is.is_rule;
+              within = is.within;
+              count = omega (arith, is.count, count-cons x (take inner.0 rules));
+            },
+          )
     ]
   where
     here_or_later : (m : ℕ) → (n < m) ⊎ (m ≤ n)

@@ -2,6 +2,7 @@
 //! products, after Lange and Leiss (2009). The grammar itself is never converted.
 #![tactic(auto)]
 
+mod closure;
 mod laws;
 mod links;
 
