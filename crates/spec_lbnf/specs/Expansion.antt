@@ -1,5 +1,5 @@
 -- The grammar that definitions stand for: its rules in file order, and the numbers of its categories and kinds.
-use Rattle.std.specs.Prelude.{ℕ, List, [], ◌∷◌, ◌++◌, map, filter, flat_map, not, replicate, bytes_eq}
+use Rattle.std.specs.Prelude.{◌≡◌, ℕ, ◌<◌, List, [], ◌∷◌, ◌++◌, length, map, filter, flat_map, not, replicate, bytes_eq, slice_get, Some, All}
 use Rattle.std.specs.List.{position_or_len}
 use Rattle.spec_grammar.specs.declared.rule.Symbol.{Symbol}
 use Rattle.spec_grammar.specs.declared.rule.Symbol.TheVariants.{Category, Kind}
@@ -18,6 +18,17 @@ pub record Expansion : Type 0 where
   pub rules : List Rule
   pub categories : List (List ℕ)
   pub kinds : List KindDef
+
+-- the symbol is one of the grammar: its number is below the count of categories, or of kinds
+abbrev pub IsSymbolOf : Expansion → Symbol → Type 0
+IsSymbolOf g (Category c) = c < length g.categories
+IsSymbolOf g (Kind k) = k < length g.kinds
+
+-- each rule of the grammar is of a category of it, and has symbols of it as its items
+abbrev pub HasOwnSymbols : Expansion → Type 0
+HasOwnSymbols g =
+    (r : ℕ) (rule : Rule) → slice_get g.rules r ≡ Some rule
+    → IsSymbolOf g (Category rule.category) × All (IsSymbolOf g) rule.items
 
 -- the text of a category: its name inside its brackets
 abbrev pub category_text : CatName → List ℕ
