@@ -128,10 +128,10 @@ are_few defs small = record {
 }
 
 -- what is numbered by the tables of the definitions is the grammar that they stand for
-pub expansion_is : (defs : List Def) (tables : Tables) (rules : List Rule) (kinds : List KindDef)
+pub expansion_is : (defs : List Def) (tables : Tables) (rules : List Rule) (names : List (List ℕ)) (kinds : List KindDef)
     → tables.categories ≡ categories_of (rules_of defs) → tables.words ≡ words_of (rules_of defs)
-    → rules ≡ map (numbered_rule tables.categories tables.words) (rules_of defs) → kinds ≡ map WordKind tables.words
-    → (let grammar : Expansion = record { rules = rules; categories = tables.categories; kinds = kinds } in grammar ≡ expansion_of defs)
-expansion_is defs tables rules kinds categories words numbered told =
+    → rules ≡ map (numbered_rule tables.categories tables.words) (rules_of defs) → names ≡ tables.categories → kinds ≡ map WordKind tables.words
+    → (let grammar : Expansion = record { rules = rules; categories = names; kinds = kinds } in grammar ≡ expansion_of defs)
+expansion_is defs tables rules names kinds categories words numbered listed told =
     let grammar : List (List ℕ) → List Rule → List KindDef → Expansion = λ cs rs ks. record { rules = rs; categories = cs; kinds = ks } in
-    λ i. grammar (categories i) ((numbered ∙ (λ j. map (numbered_rule (categories j) (words j)) (rules_of defs))) i) ((told ∙ ap (map WordKind) words) i)
+    λ i. grammar ((listed ∙ categories) i) ((numbered ∙ (λ j. map (numbered_rule (categories j) (words j)) (rules_of defs))) i) ((told ∙ ap (map WordKind) words) i)
