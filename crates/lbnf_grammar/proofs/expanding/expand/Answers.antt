@@ -43,6 +43,14 @@ of-requires-clause-kinds c =
     let few = are_few defs c.as_slice-list.ensures.few in
     rw (are, length-map (words_of (rules_of defs)) WordKind) few.words
 
+pub of-requires-clause-few : goal.of-requires-clause-few
+of-requires-clause-few c =
+    let defs = c.args.defs.now in
+    let tables = c.in_ok-tables.tables in
+    let are : c.in_ok-rules.rules.items ≡ map (numbered_rule tables.categories tables.words) (rules_of defs) = search rules in
+    let few = are_few defs c.as_slice-list.ensures.few in
+    rw are (few.items tables.categories tables.words)
+
 pub of-requires-clause-known : goal.of-requires-clause-known
 of-requires-clause-known c =
     let defs = c.args.defs.now in
