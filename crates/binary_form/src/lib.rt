@@ -5,5 +5,7 @@
 mod closure;
 mod laws;
 mod links;
+mod numbering;
 
 pub use laws::{closure_is_derivation, each_symbol_has_its_number, products_agree};
+pub use numbering::symbol_count;
