@@ -5,3 +5,4 @@ pub mod ReachLemmas
 pub mod ProductLemmas
 pub mod LinkLemmas
 pub mod FlagLemmas
+pub mod RowLemmas

@@ -6,3 +6,4 @@ pub mod NumberSteps
 pub mod Links
 pub mod Wholes
 pub mod Flags
+pub mod Rows
