@@ -8,3 +8,6 @@ pub mod CellLemmas
 pub mod TripleSteps
 pub mod BracketSteps
 pub mod Examples
+pub mod LinkLemmas
+pub mod FlagLemmas
+pub mod RowLemmas

@@ -4,3 +4,7 @@ pub mod UnitSteps
 pub mod Laws
 pub mod Examples
 pub mod NumberSteps
+pub mod Links
+pub mod Wholes
+pub mod Flags
+pub mod Rows

@@ -2,6 +2,11 @@
 //! products, after Lange and Leiss (2009). The grammar itself is never converted.
 #![tactic(auto)]
 
+mod closure;
 mod laws;
+mod links;
+mod numbering;
+mod rows;
 
 pub use laws::{closure_is_derivation, each_symbol_has_its_number, products_agree, small_cases};
+pub use numbering::symbol_count;
