@@ -1,0 +1,6 @@
+//! Sets of symbol numbers behind one trait, and the set that is a list in rising order.
+#![tactic(auto)]
+
+mod cell;
+
+pub use cell::{Cell, Room, union_into};
