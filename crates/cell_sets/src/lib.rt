@@ -2,5 +2,7 @@
 #![tactic(auto)]
 
 mod cell;
+mod laws;
 
 pub use cell::{Cell, Room, union_into};
+pub use laws::rising_lists_are_sets;
