@@ -3,6 +3,10 @@
 
 mod cell;
 mod laws;
+mod list_cell;
+mod merging;
+mod places;
 
 pub use cell::{Cell, Room, union_into};
 pub use laws::rising_lists_are_sets;
+pub use list_cell::ListCell;
