@@ -8,3 +8,5 @@ pub mod Links
 pub mod Wholes
 pub mod Flags
 pub mod Rows
+pub mod Forms
+pub mod Products

@@ -2,11 +2,19 @@
 //! products, after Lange and Leiss (2009). The grammar itself is never converted.
 #![tactic(auto)]
 
+mod build;
 mod closure;
+mod fault;
+mod form;
 mod laws;
 mod links;
 mod numbering;
+mod product;
 mod rows;
+mod suffixes;
 
+pub use build::binary;
+pub use fault::BinaryFault;
+pub use form::Binary;
 pub use laws::{closure_is_derivation, each_symbol_has_its_number, products_agree, small_cases};
 pub use numbering::symbol_count;
