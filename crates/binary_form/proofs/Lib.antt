@@ -8,6 +8,9 @@ pub mod CellLemmas
 pub mod TripleSteps
 pub mod BracketSteps
 pub mod Examples
+pub mod FormLemmas
+pub mod GivingLemmas
+pub mod WholeLemmas
 pub mod LinkLemmas
 pub mod FlagLemmas
 pub mod RowLemmas

@@ -1,6 +1,6 @@
 -- What a binary form keeps of its grammar. Serves the proofs alone.
 use Rattle.std.specs.Prelude.{◌≡◌, ℕ, ◌+◌, ◌<◌, ◌≤◌, ◌↔◌, List, [], Some, Bool, IsTrue}
-use Rattle.std.specs.Prelude.{length, slice_get, take}
+use Rattle.std.specs.Prelude.{length, slice_get, slice_index, take}
 use Rattle.spec_lbnf.specs.Expansion.{Expansion, HasOwnSymbols, item_count}
 use Rattle.binary_form.specs.declared.suffixes.Numbering.{Numbering}
 use Rattle.binary_form.specs.Symbols.{symbol_count}
@@ -16,7 +16,7 @@ pub record AreNumbers (g : Expansion) (numbers : Numbering) : Type 0 where
   pub categories : numbers.categories ≡ length g.categories
   pub kinds : numbers.kinds ≡ length g.kinds
   pub count : length numbers.first_suffixes ≡ length g.rules
-  pub suffixes : (r n : ℕ) → slice_get numbers.first_suffixes r ≡ Some n → n ≡ first_suffix g r
+  pub suffixes : (r : ℕ) → r < length g.rules → slice_index numbers.first_suffixes r ≡ first_suffix g r
 
 -- each number has a flag, which is set exactly where its symbol is nullable
 pub record AreNullableFlags (g : Expansion) (flags : List Bool) : Type 0 where

@@ -1,0 +1,9 @@
+use Rattle.std.proofs.Common.{rules, ◌≡◌, ◌<◌, ◌≤◌, ℕ, ◌+◌, length, arith}
+use Rattle.binary_form.proofs.FormLemmas.{kind_closure}
+use Rattle.binary_form.proofs.form.Binary.kind_cell.Goals as goal
+
+pub returns-then-k-self : goal.returns-then-k-self
+returns-then-k-self g c =
+    let form = rw c.self.view_is at c.self.invariant.0 in
+    kind_closure g.C.Cell.symbols c.args.self.now c.self.inside.closures.items form.closures c.args.k c.index.result.now
+    (rw form.numbers.kinds at c.if-k-self.true) (rw form.numbers.categories at c.index.ensures)
