@@ -6,3 +6,4 @@ pub mod ProductLemmas
 pub mod LinkLemmas
 pub mod FlagLemmas
 pub mod RowLemmas
+pub mod StepLemmas

@@ -7,3 +7,5 @@ pub mod Links
 pub mod Wholes
 pub mod Flags
 pub mod Rows
+pub mod NullableNumbers
+pub mod RowLinks

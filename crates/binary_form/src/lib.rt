@@ -7,6 +7,7 @@ mod laws;
 mod links;
 mod numbering;
 mod rows;
+mod steps;
 
 pub use laws::{closure_is_derivation, each_symbol_has_its_number, products_agree};
 pub use numbering::symbol_count;
