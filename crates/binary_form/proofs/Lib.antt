@@ -6,4 +6,6 @@ pub mod ProductLemmas
 pub mod LinkLemmas
 pub mod FlagLemmas
 pub mod RowLemmas
+pub mod NullableLemmas
 pub mod StepLemmas
+pub mod ReachedLemmas

@@ -13,8 +13,7 @@ use Rattle.binary_form.specs.declared.rows.SuffixRow.{SuffixRow}
 use Rattle.binary_form.specs.Symbols.{BinarySymbol, plain, suffix, symbol_count}
 use Rattle.binary_form.specs.UnitSteps.{HasItem}
 use Rattle.binary_form.specs.BinaryForm.{IsNumberOf}
-use Rattle.binary_form.specs.Rows.{IsRow, IsRowAt, AreRowsUpTo, AreRows, suffix_number}
-use Rattle.binary_form.specs.RowLinks.{IsRowWithin}
+use Rattle.binary_form.specs.Rows.{IsRow, IsRowAt, AreRowsUpTo, AreRows, IsRowWithin, suffix_number}
 use Rattle.binary_form.proofs.ItemLemmas.{drop_from_get, drop_within, same_rule, next_item, suffix_symbol}
 use Rattle.binary_form.proofs.NumberLemmas.{IsCounted, counted_once, count_within, numbers_below}
 

@@ -15,10 +15,10 @@ use Rattle.binary_form.specs.BinaryForm.{IsNumberOf}
 use Rattle.binary_form.specs.NumberSteps.{StepNumber}
 use Rattle.binary_form.specs.Rows.{IsRow, IsRowAt, AreRows, suffix_number}
 use Rattle.binary_form.specs.Wholes.{IsWhole, AreWholes}
-use Rattle.binary_form.specs.NullableNumbers.{AreNullableNumbers}
+use Rattle.binary_form.specs.NullableNumbers.{AreNullableNumbers, IsRestNullable}
 use Rattle.binary_form.specs.Flags.{IsSet}
 use Rattle.binary_form.specs.Links.{HasLink, AddsLinks, AreNoLinks}
-use Rattle.binary_form.specs.RowLinks.{IsRowWithin, IsRestNullable, IsRowStep, IsRowWhole, IsLinkOfRows, AreLinksOfRows, AreUnitSteps}
+use Rattle.binary_form.specs.RowLinks.{IsRowStep, IsRowWhole, IsLinkOfRows, AreLinksOfRows, AreUnitSteps}
 use Rattle.spec_grammar.proofs.DerivationLemmas.{none_derive}
 use Rattle.binary_form.proofs.NumberLemmas.{number_is_one, number-suffix-suc}
 use Rattle.binary_form.proofs.ItemLemmas.{items_behind, same_rule, symbol_item}

@@ -9,3 +9,4 @@ pub mod Flags
 pub mod Rows
 pub mod NullableNumbers
 pub mod RowLinks
+pub mod FirstSuffixes

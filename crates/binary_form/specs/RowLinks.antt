@@ -6,16 +6,7 @@ use Rattle.binary_form.specs.Symbols.{symbol_count}
 use Rattle.binary_form.specs.NumberSteps.{StepNumber}
 use Rattle.binary_form.specs.Links.{HasLink}
 use Rattle.binary_form.specs.Flags.{IsSet}
-
--- the numbers that a row tells are below the count, and so is the number behind the suffix if there is one
-pub record IsRowWithin (row : SuffixRow) (whole count : ℕ) : Type 0 where
-  pub whole_below : whole < count
-  pub item_below : row.item < count
-  pub next_below : IsFalse row.is_last → whole + 1 < count
-
--- what is behind the item of the suffix of this number derives the empty span, or there is nothing
-abbrev pub IsRestNullable : List Bool → SuffixRow → ℕ → Type 0
-IsRestNullable nullable row whole = IsTrue row.is_last ⊎ IsSet nullable (whole + 1)
+use Rattle.binary_form.specs.NullableNumbers.{IsRestNullable}
 
 -- the suffix of this number gives a unit step: to its category from the whole right side, to it from its item, and
 -- to it from the suffix behind its item

@@ -5,6 +5,7 @@
 mod closure;
 mod laws;
 mod links;
+mod nullable;
 mod numbering;
 mod rows;
 mod steps;

@@ -4,23 +4,16 @@ ghost use Rattle.binary_form.specs.Symbols.{symbol_count};
 ghost use Rattle.binary_form.specs.Links.{AddsLinks};
 ghost use Rattle.binary_form.specs.Wholes.{AreWholes};
 ghost use Rattle.binary_form.specs.Flags.{IsSet};
-ghost use Rattle.binary_form.specs.Rows.{AreRows};
+ghost use Rattle.binary_form.specs.Rows.{AreRows, IsRowWithin};
 ghost use Rattle.binary_form.specs.NullableNumbers.{AreNullableNumbers};
-ghost use Rattle.binary_form.specs.RowLinks.{IsRowWithin, IsRestNullable, IsRowStep, AreUnitSteps};
+ghost use Rattle.binary_form.specs.RowLinks.{IsRowStep, AreUnitSteps};
 
 use crate::links::Links;
+use crate::nullable::is_rest_nullable;
 use crate::numbering::plain_count;
 use crate::rows::SuffixRow;
 use lbnf_grammar::Grammar;
 use std::alloc::{AllocError, Global};
-
-/// Whether the items behind the one that begins this suffix derive the empty span, if there are any.
-fn is_rest_nullable(nullable: &[bool], row: &SuffixRow, whole: u16) -> bool
-    requires { IsRowWithin row.now whole (length nullable.now) }
-    ensures { IsTrue result ↔ IsRestNullable nullable.now row.now whole }
-{
-    row.is_last || nullable[whole as usize + 1]
-}
 
 /// Whether the suffix goes on behind its item, and the item derives the empty span.
 fn is_item_passed(nullable: &[bool], row: &SuffixRow) -> bool
