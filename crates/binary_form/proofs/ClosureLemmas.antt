@@ -11,7 +11,7 @@ use Rattle.binary_form.specs.Symbols.{BinarySymbol, plain, suffix, BinaryDerives
 use Rattle.binary_form.specs.UnitSteps.{HasItem, UnitStep, whole_side, last_item, passed_item, Reaches, stay, step}
 use Rattle.binary_form.specs.Laws.{IsOfToken, IsOfCut, ClosureIsDerivation}
 use Rattle.binary_form.proofs.ItemLemmas.{drop_behind, same_rule, items_behind}
-use Rattle.binary_form.proofs.NullableLemmas.{items_nullable, nullable_items}
+use Rattle.binary_form.proofs.EmptySpanLemmas.{items_nullable, nullable_items}
 
 -- a cut of a span lies within it, or at one of its ends
 cut_cases :

@@ -8,7 +8,7 @@ use Rattle.binary_form.specs.Symbols.{plain, suffix, BinaryDerives}
 use Rattle.binary_form.specs.UnitSteps.{HasItem, whole_side, last_item, Reaches, stay, step}
 use Rattle.binary_form.specs.BinaryForm.{IsNumberOf, IsNullableNumber, IsTokenCell, IsProductOf}
 use Rattle.binary_form.specs.Examples.{triples, brackets, SmallCases}
-use Rattle.binary_form.proofs.NullableLemmas.{none_nullable}
+use Rattle.binary_form.proofs.EmptySpanLemmas.{none_nullable}
 use Rattle.binary_form.proofs.NumberLemmas.{number_is_one}
 use Rattle.binary_form.proofs.CellLemmas.{IsOneOf, has_one, HasReached, token_cell, closure_of, product_of, no_product}
 use Rattle.binary_form.proofs.TripleSteps.{word_reached, three_reached, two_reached}

@@ -1,5 +1,5 @@
 pub mod ItemLemmas
-pub mod NullableLemmas
+pub mod EmptySpanLemmas
 pub mod ClosureLemmas
 pub mod NumberLemmas
 pub mod ReachLemmas
@@ -14,3 +14,6 @@ pub mod WholeLemmas
 pub mod LinkLemmas
 pub mod FlagLemmas
 pub mod RowLemmas
+pub mod NullableLemmas
+pub mod StepLemmas
+pub mod ReachedLemmas

@@ -1,11 +1,11 @@
 -- What one link more changes.
-use Rattle.std.proofs.Common.{◌≡◌, ◌≢◌, ℕ, ◌<◌, ◌↔◌, ◌⊎◌, inl, inr, List, [], ◌∷◌, ◌++◌, length, get_or, slice_set}
+use Rattle.std.proofs.Common.{◌≡◌, ◌≢◌, ℕ, zero, suc, ◌<◌, ◌↔◌, ◌⊎◌, inl, inr, List, [], ◌∷◌, ◌++◌, Bool, IsTrue, length, get_or, slice_set, replicate}
 use Rattle.std.proofs.Common.{slice_index_or, refl, sym, ap, ◌∙◌, arith, length-set, get_or-set_other, subst}
 use Rattle.std.specs.List.{Contains}
 use Rattle.std.proofs.lemmas.List.{get_or_default}
 use Rattle.std.proofs.lemmas.Grind.{get_or-set_at}
 use Rattle.std.proofs.lemmas.List.Elements.{Contains-append_left, Contains-append_right, Contains-append_cases}
-use Rattle.binary_form.specs.Links.{HasLink, AddsLink, AreNoLinks}
+use Rattle.binary_form.specs.Links.{HasLink, AddsLinks, AddsLink, AreNoLinks}
 
 -- two numbers are the same, or they differ
 pub same_or_other : (m n : ℕ) → (m ≡ n) ⊎ (m ≢ n)
@@ -60,3 +60,70 @@ module _ (links : List (List ℕ)) (from to : ℕ) (old list : List ℕ) (within
     count = length-set links from list;
     links = λ m n. (new_link m n, kept_link m n);
   }
+
+-- links that are added where one thing holds are added where another does that comes to the same
+pub adds_alike :
+    (A B : ℕ → ℕ → Type 0) (old new : List (List ℕ))
+    → ((m n : ℕ) → A m n ↔ B m n) → AddsLinks A old new → AddsLinks B old new
+adds_alike A B old new alike adds = record {
+  count = adds.count;
+  links = λ m n. (
+    (λ has. elim ((adds.links m n).0 has) [
+      | inl before ↦ inl before
+      | inr added ↦ inr ((alike m n).0 added)
+    ]),
+    (λ has. (adds.links m n).1 (more m n has)),
+  );
+}
+  where
+    more : (m n : ℕ) → HasLink old m n ⊎ B m n → HasLink old m n ⊎ A m n
+    more m n (inl before) = inl before
+    more m n (inr added) = inr ((alike m n).1 added)
+
+-- links that are added one after the other
+pub adds_both :
+    (A B : ℕ → ℕ → Type 0) (old middle new : List (List ℕ))
+    → AddsLinks A old middle → AddsLinks B middle new
+    → AddsLinks (λ m n. A m n ⊎ B m n) old new
+adds_both A B old middle new first second = record {
+  count = second.count ∙ first.count;
+  links = λ m n. (
+    (λ has. elim ((second.links m n).0 has) [
+      | inr added ↦ inr (inr added)
+      | inl before ↦ elim ((first.links m n).0 before) [
+        | inl older ↦ inl older
+        | inr added ↦ inr (inl added)
+      ]
+    ]),
+    (λ has. (second.links m n).1 (more m n has)),
+  );
+}
+  where
+    more : (m n : ℕ) → HasLink old m n ⊎ (A m n ⊎ B m n) → HasLink middle m n ⊎ B m n
+    more m n (inl before) = inl ((first.links m n).1 (inl before))
+    more m n (inr (inl added)) = inl ((first.links m n).1 (inr added))
+    more m n (inr (inr added)) = inr added
+
+-- a link that is added where a test holds is added where what it tests does
+pub adds_tested :
+    (old new : List (List ℕ)) (from to : ℕ) (Holds : Type 0) (test : Bool)
+    → IsTrue test ↔ Holds → AddsLinks (λ m n. IsTrue test × (m ≡ from) × (n ≡ to)) old new
+    → AddsLinks (λ m n. Holds × (m ≡ from) × (n ≡ to)) old new
+adds_tested old new from to Holds test tests =
+    adds_alike (λ m n. IsTrue test × (m ≡ from) × (n ≡ to)) (λ m n. Holds × (m ≡ from) × (n ≡ to)) old new
+    (λ m n. ((λ x. (tests.0 x.0, x.1, x.2)), (λ x. (tests.1 x.0, x.1, x.2))))
+
+-- one link more where a test holds
+pub adds_where :
+    (old new : List (List ℕ)) (from to : ℕ) (test : Bool)
+    → IsTrue test → AddsLink old new from to
+    → AddsLinks (λ m n. IsTrue test × (m ≡ from) × (n ≡ to)) old new
+adds_where old new from to test is =
+    adds_alike (λ m n. (m ≡ from) × (n ≡ to)) (λ m n. IsTrue test × (m ≡ from) × (n ≡ to)) old new
+    (λ m n. ((λ x. (is, x.0, x.1)), (λ x. (x.1, x.2))))
+
+-- there is no link among numbers without links
+pub no_link : (count m n : ℕ) → HasLink (replicate count []) m n → ⊥
+no_link zero m n has = omega (arith, has.1)
+no_link (suc count) zero n has = omega (arith, has.1)
+no_link (suc count) (suc m) n has = no_link count m n has

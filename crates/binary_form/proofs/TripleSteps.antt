@@ -12,7 +12,7 @@ use Rattle.binary_form.specs.UnitSteps.{HasItem, AreNullable, UnitStep, whole_si
 use Rattle.binary_form.specs.NumberSteps.{StepNumber, NumberReaches, stay as stay_number, step as step_number}
 use Rattle.binary_form.specs.Examples.{triples}
 use Rattle.binary_form.proofs.ItemLemmas.{drop_within, items_from}
-use Rattle.binary_form.proofs.NullableLemmas.{none_nullable, some_nullable}
+use Rattle.binary_form.proofs.EmptySpanLemmas.{none_nullable, some_nullable}
 use Rattle.binary_form.proofs.ReachLemmas.{number_step}
 use Rattle.binary_form.proofs.CellLemmas.{IsOneOf, HasReached, has_reached, own_rule}
 

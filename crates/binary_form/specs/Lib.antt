@@ -8,5 +8,8 @@ pub mod Links
 pub mod Wholes
 pub mod Flags
 pub mod Rows
+pub mod NullableNumbers
+pub mod RowLinks
+pub mod FirstSuffixes
 pub mod Forms
 pub mod Products

@@ -1,5 +1,5 @@
 -- One row for each suffix, in the order of their numbers. Serves the proofs alone.
-use Rattle.std.specs.Prelude.{◌≡◌, ℕ, ◌+◌, ◌↔◌, List, [], Some, IsTrue, length, slice_get, take}
+use Rattle.std.specs.Prelude.{◌≡◌, ℕ, ◌+◌, ◌↔◌, List, [], Some, IsTrue, IsFalse, ◌<◌, length, slice_get, take}
 use Rattle.spec_grammar.specs.declared.rule.Symbol.{Symbol}
 use Rattle.spec_grammar.specs.declared.rule.Symbol.TheVariants.{Category}
 use Rattle.spec_lbnf.specs.Expansion.{Expansion, item_count}
@@ -19,6 +19,10 @@ pub record IsRow (g : Expansion) (r p : ℕ) (row : SuffixRow) : Type 0 where
   pub is_first : IsTrue row.is_first ↔ (p ≡ 0)
   pub is_last : IsTrue row.is_last ↔ (behind ≡ [])
 
+-- the number of the suffix that begins at this item of the grammar, the items of all rules counted in order
+abbrev pub suffix_number : Expansion → ℕ → ℕ
+suffix_number g n = length g.categories + length g.kinds + n
+
 -- the row is that of the suffix which begins at this item of the grammar, the items of all rules counted in order
 pub record IsRowAt (g : Expansion) (n : ℕ) (row : SuffixRow) : Type 0 where
   pub r : ℕ
@@ -34,3 +38,9 @@ pub record AreRowsUpTo (g : Expansion) (many : ℕ) (rows : List SuffixRow) : Ty
 -- each item of the grammar has its row, in order
 abbrev pub AreRows : Expansion → List SuffixRow → Type 0
 AreRows g rows = AreRowsUpTo g (item_count g.rules) rows
+
+-- the numbers that a row tells are below the count, and so is the number behind the suffix if there is one
+pub record IsRowWithin (row : SuffixRow) (whole count : ℕ) : Type 0 where
+  pub whole_below : whole < count
+  pub item_below : row.item < count
+  pub next_below : IsFalse row.is_last → whole + 1 < count

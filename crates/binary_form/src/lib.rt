@@ -8,10 +8,11 @@ mod fault;
 mod form;
 mod laws;
 mod links;
+mod nullable;
 mod numbering;
 mod product;
 mod rows;
-mod suffixes;
+mod steps;
 
 pub use build::binary;
 pub use fault::BinaryFault;

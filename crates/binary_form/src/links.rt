@@ -1,6 +1,6 @@
 //! Links from numbers to numbers.
-ghost use Rattle.std.specs.Prelude.{◌≡◌, ◌<◌, [], length, slice_index_or, IfOk, OnOk, OnErr};
-ghost use Rattle.binary_form.specs.Links.{AddsLink, AreNoLinks};
+ghost use Rattle.std.specs.Prelude.{◌≡◌, ◌<◌, [], length, slice_index_or, IsTrue, IfOk, OnOk, OnErr};
+ghost use Rattle.binary_form.specs.Links.{AddsLink, AddsLinks, AreNoLinks};
 
 use sqlite_items::Items;
 use std::alloc::{AllocError, Global};
@@ -54,5 +54,17 @@ impl Links {
         ensures err { OnErr result (self.new ≡ self.old) }
     {
         self.lists[from as usize].push(to)
+    }
+
+    /// Links one number to another where the test holds.
+    pub fn add_if(&mut self, test: bool, from: u16, to: u16) -> Result<(), AllocError>
+        requires { IsTrue test → from < length self.old }
+        ensures { OnOk result
+            (AddsLinks (λ m n. IsTrue test × (m ≡ from) × (n ≡ to)) self.old self.new) }
+    {
+        if test {
+            self.add(from, to)?;
+        }
+        Ok(())
     }
 }

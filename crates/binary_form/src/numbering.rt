@@ -1,10 +1,13 @@
 //! How many symbols there are, and their numbers: categories, then kinds, then suffixes.
-ghost use Rattle.std.specs.Prelude.{◌≡◌, ◌+◌, ◌<◌, ◌^◌, length};
+ghost use Rattle.std.specs.Prelude.{◌≡◌, ◌+◌, ◌<◌, ◌^◌, length, IfOk};
 ghost use Rattle.spec_lbnf.specs.Expansion.{IsSymbolOf};
 ghost use Rattle.binary_form.specs.Symbols.{plain, symbol_count};
 ghost use Rattle.binary_form.specs.BinaryForm.{IsNumberOf};
+ghost use Rattle.binary_form.specs.FirstSuffixes.{AreFirstSuffixes};
 
 use lbnf_grammar::{Grammar, Symbol};
+use sqlite_items::Items;
+use std::alloc::{AllocError, Global};
 
 /// How many symbols the binary form of the grammar has: its categories, its kinds, and a suffix for
 /// each item of a rule. It looks at each rule, and takes no memory.
@@ -36,4 +39,18 @@ pub fn plain_count(grammar: &Grammar) -> u16
     ensures { result ≡ length grammar.now.categories + length grammar.now.kinds }
 {
     grammar.category_count() + grammar.kind_count()
+}
+
+/// For each rule, the number of its whole right side: its other suffixes are numbered behind it.
+pub fn first_suffixes(alloc: Global, grammar: &Grammar) -> Result<Items<u16>, AllocError>
+    requires { symbol_count grammar.now < 2 ^ 16 }
+    ensures { IfOk result (AreFirstSuffixes grammar.now) }
+{
+    let mut firsts = Items::new(alloc);
+    let mut next = plain_count(grammar);
+    for rule in grammar.rules() {
+        firsts.push(next)?;
+        next += rule.items.len() as u16;
+    }
+    Ok(firsts)
 }

@@ -2,3 +2,4 @@ pub mod Grammars
 pub mod Numbering
 pub mod Tables
 pub mod Checking
+pub mod Nullable
