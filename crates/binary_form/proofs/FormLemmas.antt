@@ -3,20 +3,20 @@ use Rattle.std.proofs.Common.{◌≡◌, ℕ, ◌+◌, ◌<◌, ◌↔◌, List,
 use Rattle.std.proofs.lemmas.Option.{slice_get_read, slice_get_within}
 use Rattle.spec_grammar.specs.declared.rule.Symbol.TheVariants.{Kind}
 use Rattle.spec_lbnf.specs.Expansion.{Expansion}
-use Rattle.binary_form.specs.declared.suffixes.Numbering.{Numbering}
 use Rattle.binary_form.specs.Symbols.{BinarySymbol, plain, suffix, IsBinarySymbolOf, symbol_count, number_of}
 use Rattle.binary_form.specs.BinaryForm.{IsNumberOf, IsReachedNumber, IsClosureOf, IsTokenCell}
-use Rattle.binary_form.specs.Forms.{AreNumbers, AreClosures}
+use Rattle.binary_form.specs.FirstSuffixes.{AreFirstSuffixes}
+use Rattle.binary_form.specs.Forms.{AreClosures}
 use Rattle.binary_form.proofs.NumberLemmas.{number_is_one}
 use Rattle.binary_form.proofs.CellLemmas.{HasReached, token_cell}
 
 -- the place of an item, counted from the first suffix of its rule, is the suffix's number
 pub suffix_number :
-    (g : Expansion) (numbering : Numbering) (r p : ℕ)
-    → AreNumbers g numbering → IsBinarySymbolOf g (suffix r p)
-    → slice_index numbering.first_suffixes r + p ≡ number_of g (suffix r p)
-suffix_number g numbering r p numbers is =
-    ap (λ n. n + p) (numbers.suffixes r (slice_get_within g.rules r is.0 is.1))
+    (g : Expansion) (firsts : List ℕ) (r p : ℕ)
+    → AreFirstSuffixes g firsts → IsBinarySymbolOf g (suffix r p)
+    → slice_index firsts r + p ≡ number_of g (suffix r p)
+suffix_number g firsts r p are is =
+    ap (λ n. n + p) (are.each r (slice_get_within g.rules r is.0 is.1))
 
 module _ {C : Type 0} (symbols : C → List ℕ) (g : Expansion) (cells : List C)
     (closures : AreClosures symbols g cells) where

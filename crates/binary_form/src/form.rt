@@ -4,22 +4,24 @@ ghost use Rattle.spec_lbnf.specs.Expansion.{IsSymbolOf};
 ghost use Rattle.binary_form.specs.Symbols.{plain, suffix, IsBinarySymbolOf, symbol_count, number_of};
 ghost use Rattle.binary_form.specs.BinaryForm.{IsNullableNumber, IsClosureOf, IsTokenCell};
 ghost use Rattle.binary_form.specs.BinaryForm.{IsProductOf, HasProduct};
-ghost use Rattle.binary_form.specs.Forms.{IsForm};
+ghost use Rattle.binary_form.specs.Forms.{AreParts};
 
 use crate::links::Links;
 use crate::product::{is_met, product_of};
-use crate::suffixes::Numbering;
 use cell_sets::Cell;
 use lbnf_grammar::{Grammar, Symbol};
+use sqlite_items::Items;
 use std::alloc::{AllocError, Global};
 use std::marker::Model;
 use std::snapshot::Snapshot;
 
-/// The binary form of a grammar, over one type of cell. It holds nothing of the grammar but numbers.
+/// The binary form of a grammar, over one type of cell. It keeps numbers, and nothing of the grammar.
 #[derive(Drop)]
 pub struct Binary<C: Cell> {
     grammar: Snapshot<Grammar>,
-    numbers: Numbering,
+    category_count: u16,
+    kind_count: u16,
+    first_suffixes: Items<u16>,
     nullable: Vec<bool>,
     closures: Vec<C>,
     wholes: Links,
@@ -32,30 +34,33 @@ impl<C: Cell> Model for Binary<C> {
 
     ghost Value = { Expansion };
 
-    ghost use Rattle.binary_form.specs.Forms.{IsForm};
+    ghost use Rattle.binary_form.specs.Forms.{AreParts, AreCounts};
 
     ghost view = { λ b. b.grammar.value };
 
     ghost invariant = { λ b.
-        IsForm C.symbols C.ROOM b.grammar.value b.numbers b.nullable.items b.closures.items b.wholes
+        AreParts C.symbols C.ROOM b.grammar.value b.first_suffixes b.nullable.items b.closures.items b.wholes
+        × AreCounts b.grammar.value b.category_count b.kind_count
         × (C.symbols b.none ≡ []) };
 }
 
 impl<C: Cell> Binary<C> {
-    /// The binary form of the grammar, made of its parts.
+    /// The binary form of the grammar, of its parts.
     pub(crate) fn of(
         grammar: &Grammar,
-        numbers: Numbering,
+        first_suffixes: Items<u16>,
         nullable: Vec<bool>,
         closures: Vec<C>,
         wholes: Links,
     ) -> Binary<C>
-        requires { IsForm C.symbols C.ROOM grammar.now numbers nullable.items closures.items wholes }
+        requires { AreParts C.symbols C.ROOM grammar.now first_suffixes nullable.items closures.items wholes }
         ensures { result ≡ grammar.now }
     {
         Binary {
             grammar: Snapshot::of(grammar),
-            numbers,
+            category_count: grammar.category_count(),
+            kind_count: grammar.kind_count(),
+            first_suffixes,
             nullable,
             closures,
             wholes,
@@ -80,7 +85,7 @@ impl<C: Cell> Binary<C> {
     {
         match symbol {
             Symbol::Category(c) => c,
-            Symbol::Kind(k) => self.numbers.categories + k,
+            Symbol::Kind(k) => self.category_count + k,
         }
     }
 
@@ -91,7 +96,7 @@ impl<C: Cell> Binary<C> {
         ensures number { result ≡ number_of self.now (suffix r p) }
         ensures below { result < symbol_count self.now }
     {
-        self.numbers.first_suffixes.as_slice()[r as usize] + p
+        self.first_suffixes.as_slice()[r as usize] + p
     }
 
     /// Whether the symbol of this number derives the empty span. It takes no memory.
@@ -124,8 +129,8 @@ impl<C: Cell> Binary<C> {
     fn kind_cell(&self, k: u16) -> &C
         ensures { IsTokenCell self.now (Some k) (C.symbols result.now) }
     {
-        if k < self.numbers.kinds {
-            &self.closures[(self.numbers.categories + k) as usize]
+        if k < self.kind_count {
+            &self.closures[(self.category_count + k) as usize]
         } else {
             &self.none
         }
