@@ -1,11 +1,15 @@
 -- Lists that grow by what is given: by one giver more, or by the givers below a higher limit.
-use Rattle.std.proofs.Common.{◌≡◌, ℕ, ◌+◌, ◌<◌, ◌≤◌, ◌↔◌, ◌⊎◌, List, [], ◌∷◌, ◌++◌, Some, None, inl, inr, length, slice_get, get_or, take, refl, sym, subst, arith, Contains}
+use Rattle.std.proofs.Common.{◌≡◌, ℕ, ◌+◌, ◌<◌, ◌≤◌, ◌↔◌, ◌⊎◌, List, [], ◌∷◌, ◌++◌, Some, None, false, IsTrue, inl, inr, length, slice_get, get_or, take, refl, sym, subst, arith, Contains}
 use Rattle.std.proofs.lemmas.Option.{slice_get_read}
 use Rattle.std.proofs.lemmas.List.{take_more, take_all}
 use Rattle.std.proofs.lemmas.List.Elements.{Contains-append_left, Contains-append_right, Contains-append_cases}
 use Rattle.cell_sets.specs.Cells.{IsUnion, IsNextFrom}
 use Rattle.binary_form.specs.Products.{Adds, OneGives, OneGivesBelow, GoesOn, IsInCellAt, WholeGives, IsNextBelow}
 use Rattle.binary_form.proofs.LinkLemmas.{Contains-one}
+
+-- false is not true
+pub not_true : IsTrue false → ⊥
+not_true is = absurd (cc)
 
 -- where the next number of a cell is none, there is none below the count
 pub none_next :

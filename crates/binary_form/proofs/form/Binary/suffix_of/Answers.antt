@@ -6,19 +6,19 @@ use Rattle.binary_form.proofs.form.Binary.suffix_of.Goals as goal
 
 pub overflow_add-result : goal.overflow_add-result
 overflow_add-result g c =
-    let form = rw c.self.view_is at c.self.invariant.0 in
-    let number = suffix_number c.args.self.now c.self.inside.first_suffixes c.args.r c.args.p form.firsts_are c.requires in
+    let parts = rw c.self.view_is at c.self.invariant.0 in
+    let number = suffix_number c.args.self.now c.self.inside.first_suffixes c.args.r c.args.p parts.firsts_are c.requires in
     let below = numbers_below c.args.self.now (suffix c.args.r c.args.p) c.requires in
-    let few = form.few in
+    let few = parts.few in
     rw (c.as_slice.ensures, number) (record { fits = omega (arith, below, few) })
 
 pub returns-clause-number : goal.returns-clause-number
 returns-clause-number g c =
-    let form = rw c.self.view_is at c.self.invariant.0 in
-    rw c.as_slice.ensures (suffix_number c.args.self.now c.self.inside.first_suffixes c.args.r c.args.p form.firsts_are c.requires)
+    let parts = rw c.self.view_is at c.self.invariant.0 in
+    rw c.as_slice.ensures (suffix_number c.args.self.now c.self.inside.first_suffixes c.args.r c.args.p parts.firsts_are c.requires)
 
 pub returns-clause-below : goal.returns-clause-below
 returns-clause-below g c =
-    let form = rw c.self.view_is at c.self.invariant.0 in
-    let is = suffix_number c.args.self.now c.self.inside.first_suffixes c.args.r c.args.p form.firsts_are c.requires in
+    let parts = rw c.self.view_is at c.self.invariant.0 in
+    let is = suffix_number c.args.self.now c.self.inside.first_suffixes c.args.r c.args.p parts.firsts_are c.requires in
     rw (c.as_slice.ensures, is) (numbers_below c.args.self.now (suffix c.args.r c.args.p) c.requires)
