@@ -2,3 +2,14 @@ pub mod BinaryForm
 pub mod Symbols
 pub mod UnitSteps
 pub mod Laws
+pub mod Examples
+pub mod NumberSteps
+pub mod Links
+pub mod Wholes
+pub mod Flags
+pub mod Rows
+pub mod NullableNumbers
+pub mod RowLinks
+pub mod FirstSuffixes
+pub mod Forms
+pub mod Products

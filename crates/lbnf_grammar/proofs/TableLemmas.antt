@@ -1,6 +1,7 @@
 -- The tables that are filled are the categories and the words of the definitions, and they are few.
 use Rattle.std.proofs.Common.{◌≡◌, ℕ, ◌<◌, ◌≤◌, ◌^◌, List, [], ◌∷◌, length, map, fold, refl, sym, ap, ◌∙◌, arith, length-append}
 use Rattle.std.specs.List.{flat_map}
+use Rattle.std.proofs.lemmas.List.{length-map}
 use Rattle.std.proofs.lemmas.List.Sums.{fold-append, sum_by-cons}
 use Rattle.spec_grammar.specs.declared.rule.Rule.{Rule}
 use Rattle.spec_lexing.specs.declared.kind_def.KindDef.{KindDef}
@@ -11,7 +12,7 @@ use Rattle.spec_lbnf.specs.declared.definition.RawRule.{RawRule}
 use Rattle.spec_lbnf.specs.declared.definition.Def.{Def}
 use Rattle.spec_lbnf.specs.declared.definition.Def.TheVariants.{Rule as RuleDef}
 use Rattle.spec_lbnf.specs.FirstForm.{def_size, size_of}
-use Rattle.spec_lbnf.specs.Expansion.{Expansion, category_text, rules_of, item_categories, item_words, categories_of, words_of, numbered_rule, expansion_of}
+use Rattle.spec_lbnf.specs.Expansion.{Expansion, category_text, rules_of, item_categories, item_words, categories_of, words_of, symbol_of, numbered_rule, item_count, expansion_of}
 use Rattle.lbnf_grammar.specs.declared.tables.Tables.{Tables}
 use Rattle.lbnf_grammar.specs.Numbering.{with_name, with_names}
 use Rattle.lbnf_grammar.specs.Tables.{with_item, with_rule, with_def, numbered_def}
@@ -101,6 +102,21 @@ few_rules : (defs : List Def) → length (rules_of defs) ≤ size_of defs
 few_rules [] = omega arith
 few_rules (RuleDef rule ∷ defs) = omega (arith, sum_by-cons def_size (RuleDef rule) defs, few_rules defs)
 
+-- nor more items of rules
+few_items : (categories words : List (List ℕ)) (defs : List Def)
+    → item_count (map (numbered_rule categories words) (rules_of defs)) ≤ size_of defs
+few_items categories words [] = omega arith
+few_items categories words (RuleDef rule ∷ defs) =
+    let rules : List Rule = map (numbered_rule categories words) (rules_of defs) in
+    let first : Rule = numbered_rule categories words rule in
+    omega (
+      arith,
+      sum_by-cons def_size (RuleDef rule) defs,
+      sum_by-cons (λ (x : Rule). length x.items) first rules,
+      length-map rule.items (symbol_of categories words),
+      few_items categories words defs
+    )
+
 -- nor more categories that are named
 few_category_texts : (defs : List Def) → length (category_texts (rules_of defs)) ≤ size_of defs
 few_category_texts [] = omega arith
@@ -118,6 +134,8 @@ pub record AreFew (defs : List Def) : Type 0 where
   pub rules : length (rules_of defs) < 2 ^ 16
   pub categories : length (categories_of (rules_of defs)) < 2 ^ 16
   pub words : length (words_of (rules_of defs)) < 2 ^ 16
+  pub items : (categories words : List (List ℕ))
+      → item_count (map (numbered_rule categories words) (rules_of defs)) < 2 ^ 31
 
 -- those of definitions of the size that is read can be numbered
 pub are_few : (defs : List Def) → size_of defs ≤ 32768 → AreFew defs
@@ -125,13 +143,14 @@ are_few defs small = record {
   rules = omega (arith, few_rules defs);
   categories = rw (← names_distinct (category_texts (rules_of defs))) (omega (arith, few_category_texts defs, with_names_length [] (category_texts (rules_of defs))));
   words = rw (← names_distinct (word_texts (rules_of defs))) (omega (arith, few_word_texts defs, with_names_length [] (word_texts (rules_of defs))));
+  items = λ categories words. omega (arith, few_items categories words defs);
 }
 
 -- what is numbered by the tables of the definitions is the grammar that they stand for
-pub expansion_is : (defs : List Def) (tables : Tables) (rules : List Rule) (kinds : List KindDef)
+pub expansion_is : (defs : List Def) (tables : Tables) (rules : List Rule) (names : List (List ℕ)) (kinds : List KindDef)
     → tables.categories ≡ categories_of (rules_of defs) → tables.words ≡ words_of (rules_of defs)
-    → rules ≡ map (numbered_rule tables.categories tables.words) (rules_of defs) → kinds ≡ map WordKind tables.words
-    → (let grammar : Expansion = record { rules = rules; categories = tables.categories; kinds = kinds } in grammar ≡ expansion_of defs)
-expansion_is defs tables rules kinds categories words numbered told =
+    → rules ≡ map (numbered_rule tables.categories tables.words) (rules_of defs) → names ≡ tables.categories → kinds ≡ map WordKind tables.words
+    → (let grammar : Expansion = record { rules = rules; categories = names; kinds = kinds } in grammar ≡ expansion_of defs)
+expansion_is defs tables rules names kinds categories words numbered listed told =
     let grammar : List (List ℕ) → List Rule → List KindDef → Expansion = λ cs rs ks. record { rules = rs; categories = cs; kinds = ks } in
-    λ i. grammar (categories i) ((numbered ∙ (λ j. map (numbered_rule (categories j) (words j)) (rules_of defs))) i) ((told ∙ ap (map WordKind) words) i)
+    λ i. grammar ((listed ∙ categories) i) ((numbered ∙ (λ j. map (numbered_rule (categories j) (words j)) (rules_of defs))) i) ((told ∙ ap (map WordKind) words) i)

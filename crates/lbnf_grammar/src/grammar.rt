@@ -1,5 +1,6 @@
 //! A grammar with numbers in place of names.
 ghost use Rattle.std.specs.Prelude.{◌≡◌, ◌<◌, ◌^◌, length, slice_get, Contains, MatchOption};
+ghost use Rattle.spec_lbnf.specs.Expansion.{HasOwnSymbols, item_count};
 ghost use Rattle.lbnf_grammar.specs.Grammars.{FindsCategory};
 
 use spec_grammar::{Rule, Symbol};
@@ -18,7 +19,7 @@ pub struct Grammar {
 
 impl Model for Grammar {
     ghost use Rattle.std.specs.Prelude.{◌<◌, ◌^◌, length};
-    ghost use Rattle.spec_lbnf.specs.Expansion.{Expansion};
+    ghost use Rattle.spec_lbnf.specs.Expansion.{Expansion, HasOwnSymbols, item_count};
 
     ghost Value = { Expansion };
 
@@ -26,7 +27,13 @@ impl Model for Grammar {
 
     ghost invariant = { λ g. (length g.rules.items < 2 ^ 16)
         × (length g.categories.items < 2 ^ 16)
-        × (length g.kinds.items < 2 ^ 16) };
+        × (length g.kinds.items < 2 ^ 16)
+        × (item_count g.rules.items < 2 ^ 31)
+        × HasOwnSymbols (record {
+          rules = g.rules.items;
+          categories = g.categories.items;
+          kinds = g.kinds.items;
+        }) };
 }
 
 impl Grammar {
@@ -34,6 +41,9 @@ impl Grammar {
         requires rules { length rules.items < 2 ^ 16 }
         requires categories { length categories.items < 2 ^ 16 }
         requires kinds { length kinds.items < 2 ^ 16 }
+        requires few { item_count rules.items < 2 ^ 31 }
+        requires known { HasOwnSymbols
+            (record { rules = rules.items; categories = categories.items; kinds = kinds.items }) }
         ensures { result
             ≡ record { rules = rules.items; categories = categories.items; kinds = kinds.items } }
     {
@@ -46,7 +56,10 @@ impl Grammar {
 
     /// The rules, in file order. It takes no memory.
     pub fn rules(&self) -> &[Rule]
-        ensures { result.now ≡ self.now.rules }
+        ensures items { result.now ≡ self.now.rules }
+        ensures few { length self.now.rules < 2 ^ 16 }
+        ensures few_items { item_count self.now.rules < 2 ^ 31 }
+        ensures known { HasOwnSymbols self.now }
     {
         self.rules.as_slice()
     }

@@ -5,3 +5,4 @@ pub mod ReadingLemmas
 pub mod FileLemmas
 pub mod CheckLemmas
 pub mod NameLemmas
+pub mod SymbolLemmas

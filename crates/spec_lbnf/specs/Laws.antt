@@ -5,7 +5,7 @@ use Rattle.spec_grammar.specs.declared.rule.Symbol.TheVariants.{Category, Kind}
 use Rattle.spec_grammar.specs.declared.rule.Rule.{Rule}
 use Rattle.spec_lbnf.specs.declared.definition.Def.{Def}
 use Rattle.spec_lbnf.specs.FirstForm.{Spells, IsFirstUnbuilt}
-use Rattle.spec_lbnf.specs.Expansion.{distinct, number_of, expansion_of}
+use Rattle.spec_lbnf.specs.Expansion.{distinct, number_of, expansion_of, HasOwnSymbols}
 use Rattle.spec_lbnf.specs.Checks.{AreAllKnown, IsFirstUnknown}
 
 -- no file both spells definitions and has a first piece that is not built
@@ -33,6 +33,10 @@ abbrev pub SimpleSides : Type 0
 SimpleSides =
     (bytes : List ℕ) (defs : List Def) → Spells bytes defs
     → All (λ (rule : Rule). IsSimpleSide rule.items) (expansion_of defs).rules
+
+-- the rules that definitions give have symbols of their grammar alone
+abbrev pub OwnSymbols : Type 0
+OwnSymbols = (defs : List Def) → HasOwnSymbols (expansion_of defs)
 
 -- no definitions both name known categories alone and have a first unknown one
 abbrev pub FitOrUnknown : Type 0

@@ -1,6 +1,7 @@
 //! Laws of the definitions: each function here does nothing, and its clause is a theorem.
 ghost use Rattle.spec_lbnf.specs.Laws.{SpelledOrUnbuilt, OneSpelling, OneUnbuilt, SimpleSides};
-ghost use Rattle.spec_lbnf.specs.Laws.{FitOrUnknown, OneUnknown, NumbersNameBack, DistinctNames};
+ghost use Rattle.spec_lbnf.specs.Laws.{OwnSymbols, FitOrUnknown, OneUnknown, NumbersNameBack};
+ghost use Rattle.spec_lbnf.specs.Laws.{DistinctNames};
 
 /// No file both spells definitions and has a piece that is not built.
 pub fn spelled_or_unbuilt()
@@ -17,6 +18,12 @@ pub fn one_spelling()
 /// The rules of a file in this form have one kind or two categories as their items.
 pub fn simple_sides()
     ensures { SimpleSides }
+{}
+
+/// Each rule of the grammar that definitions stand for is of a category of that grammar, and its
+/// items are categories and kinds of it, whether or not each category has a rule.
+pub fn own_symbols()
+    ensures { OwnSymbols }
 {}
 
 /// No definitions both name known categories alone and have a first unknown category, and at most

@@ -1,8 +1,9 @@
-use Rattle.std.proofs.Common.{◌≡◌, List, ℕ, map, subst, ap, ◌∙◌, rules}
+use Rattle.std.proofs.Common.{◌≡◌, map, subst, sym, ◌∙◌, rules}
 use Rattle.std.proofs.lemmas.List.{length-map}
 use Rattle.spec_lexing.specs.declared.kind_def.KindDef.TheVariants.{Word as WordKind}
-use Rattle.spec_lbnf.specs.Expansion.{Expansion, rules_of, categories_of, words_of, numbered_rule}
+use Rattle.spec_lbnf.specs.Expansion.{HasOwnSymbols, rules_of, categories_of, words_of, numbered_rule}
 use Rattle.spec_lbnf.specs.Checks.{AreAllKnown}
+use Rattle.spec_lbnf.proofs.SymbolLemmas.{own_symbols}
 use Rattle.lbnf_grammar.proofs.TableLemmas.{are_few, expansion_is}
 use Rattle.lbnf_grammar.proofs.expanding.expand.Goals as goal
 
@@ -42,6 +43,26 @@ of-requires-clause-kinds c =
     let few = are_few defs c.as_slice-list.ensures.few in
     rw (are, length-map (words_of (rules_of defs)) WordKind) few.words
 
+pub of-requires-clause-few : goal.of-requires-clause-few
+of-requires-clause-few c =
+    let defs = c.args.defs.now in
+    let tables = c.in_ok-tables.tables in
+    let are : c.in_ok-rules.rules.items ≡ map (numbered_rule tables.categories tables.words) (rules_of defs) = search rules in
+    let few = are_few defs c.as_slice-list.ensures.few in
+    rw are (few.items tables.categories tables.words)
+
+pub of-requires-clause-known : goal.of-requires-clause-known
+of-requires-clause-known c =
+    let defs = c.args.defs.now in
+    let tables = c.in_ok-tables.tables in
+    let categories : tables.categories ≡ categories_of (rules_of defs) = search rules in
+    let words : tables.words ≡ words_of (rules_of defs) = search rules in
+    let numbered : c.in_ok-rules.rules.items ≡ map (numbered_rule tables.categories tables.words) (rules_of defs) = search rules in
+    let listed : c.into_list-2.result.items ≡ tables.categories = search rules in
+    let told : c.in_ok-kinds.kinds.items ≡ map WordKind tables.words = search rules in
+    let is = expansion_is defs tables c.in_ok-rules.rules.items c.into_list-2.result.items c.in_ok-kinds.kinds.items categories words numbered listed told in
+    subst HasOwnSymbols (sym is) (own_symbols defs)
+
 pub returns : goal.returns
 returns c =
     let defs = c.args.defs.now in
@@ -49,9 +70,7 @@ returns c =
     let categories : tables.categories ≡ categories_of (rules_of defs) = search rules in
     let words : tables.words ≡ words_of (rules_of defs) = search rules in
     let numbered : c.in_ok-rules.rules.items ≡ map (numbered_rule tables.categories tables.words) (rules_of defs) = search rules in
+    let listed : c.into_list-2.result.items ≡ tables.categories = search rules in
     let told : c.in_ok-kinds.kinds.items ≡ map WordKind tables.words = search rules in
-    let list : c.into_list-2.result.items ≡ tables.categories = search rules in
-    let grammar : List (List ℕ) → Expansion = λ cs. record { rules = c.in_ok-rules.rules.items; categories = cs; kinds = c.in_ok-kinds.kinds.items } in (
-      subst AreAllKnown c.as_slice-list.ensures.list c.in_ok-check.ensures,
-      c.of.ensures ∙ ap grammar list ∙ expansion_is defs tables c.in_ok-rules.rules.items c.in_ok-kinds.kinds.items categories words numbered told,
-    )
+    let is = expansion_is defs tables c.in_ok-rules.rules.items c.into_list-2.result.items c.in_ok-kinds.kinds.items categories words numbered listed told in
+    (subst AreAllKnown c.as_slice-list.ensures.list c.in_ok-check.ensures, c.of.ensures ∙ is)

@@ -1,0 +1,189 @@
+-- Flags that are set one by one, and the search that sets them.
+use Rattle.std.proofs.Common.{◌≡◌, ◌≢◌, ℕ, zero, suc, ◌+◌, ◌<◌, ◌≤◌, ◌⊎◌, inl, inr, List, [], ◌∷◌, ◌++◌, Bool, true, false, IsTrue}
+use Rattle.std.proofs.Common.{length, get_or, slice_set, slice_index_or, replicate, refl, sym, ap, ◌∙◌, arith, subst}
+use Rattle.std.proofs.Common.{length-set, length-append, get_or-set_other}
+use Rattle.std.specs.List.{Contains}
+use Rattle.std.proofs.lemmas.Bool.{false≢true}
+use Rattle.std.proofs.lemmas.Grind.{get_or-set_at}
+use Rattle.std.proofs.lemmas.List.{length-replicate}
+use Rattle.std.proofs.lemmas.List.Elements.{Contains-append_left, Contains-append_right, Contains-append_cases}
+use Rattle.binary_form.specs.Links.{HasLink}
+use Rattle.binary_form.specs.NumberSteps.{NumberReaches, stay, step}
+use Rattle.binary_form.specs.Flags.{IsSet, AreLinksWithin, AreReachedFlags, clear_count, work_left, SetsFlags, IsSearch}
+use Rattle.binary_form.proofs.LinkLemmas.{same_or_other, Contains-one}
+
+-- of clear flags none is set
+pub none_set : (count n : ℕ) → IsSet (replicate count false) n → ⊥
+none_set zero n is = false≢true is
+none_set (suc count) zero is = false≢true is
+none_set (suc count) (suc n) is = none_set count n is
+
+-- a flag that is set is one of the flags
+pub set_within : (flags : List Bool) (n : ℕ) → IsSet flags n → n < length flags
+set_within [] n is = absurd (false≢true is)
+set_within (flag ∷ flags) zero is = omega arith
+set_within (flag ∷ flags) (suc n) is =
+    let others = set_within flags n is in
+    omega arith
+
+-- a flag that is set is clear no longer
+pub clear_count-set :
+    (flags : List Bool) (n : ℕ) → n < length flags → slice_index_or flags n false ≡ false
+    → clear_count (slice_set flags n true) < clear_count flags
+clear_count-set [] n within is = absurd (omega arith)
+clear_count-set (true ∷ flags) zero within is = absurd (false≢true (sym is))
+clear_count-set (false ∷ flags) zero within is = omega arith
+clear_count-set (true ∷ flags) (suc n) within is = clear_count-set flags n (omega arith) is
+clear_count-set (false ∷ flags) (suc n) within is =
+    let others = clear_count-set flags n (omega arith) is in
+    omega arith
+
+-- setting a flag sets it
+pub set_here : (flags : List Bool) (m n : ℕ) → m < length flags → n ≡ m → IsSet (slice_set flags m true) n
+set_here flags m n within same = get_or-set_at flags m n true false same within
+
+-- setting a flag keeps those that are set
+pub set_kept : (flags : List Bool) (m n : ℕ) → m < length flags → IsSet flags n → IsSet (slice_set flags m true) n
+set_kept flags m n within is = elim (same_or_other n m) [
+  | inl same ↦ set_here flags m n within same
+  | inr differ ↦ get_or-set_other flags m n true false differ ∙ is
+]
+
+-- a flag that is set was set before, or is the one
+pub set_before : (flags : List Bool) (m n : ℕ) → IsSet (slice_set flags m true) n → IsSet flags n ⊎ (n ≡ m)
+set_before flags m n is = elim (same_or_other n m) [
+  | inl same ↦ inr same
+  | inr differ ↦ inl (sym (get_or-set_other flags m n true false differ) ∙ is)
+]
+
+module _ (target : ℕ) (flags : List Bool) (waiting : List ℕ) where
+  -- a number that is flagged waits behind the others
+  pub flagged : target < length flags → slice_index_or flags target false ≡ false
+      → SetsFlags (target ∷ []) flags (slice_set flags target true) waiting (waiting ++ target ∷ [])
+  flagged within clear = record {
+    count = length-set flags target true;
+    kept = λ n is. set_kept flags target n within is;
+    set = λ n is. set_here flags target n within (Contains-one target n is);
+    sound = λ n is. elim (set_before flags target n is) [
+      | inl old ↦ inl old
+      | inr new ↦ inr (one n new, Contains-append_right waiting (target ∷ []) n (one n new))
+    ];
+    waits = λ n is. Contains-append_left waiting (target ∷ []) n is;
+    all_set = λ n is. Contains-append_cases waiting (target ∷ []) n is;
+    less = omega (arith, clear_count-set flags target within clear, length-append waiting (target ∷ []));
+  }
+    where
+      one : (n : ℕ) → n ≡ target → Contains (target ∷ []) n
+      one n same = (0, omega arith, sym same)
+
+-- more targets behind others
+pub flags_more : (targets others : List ℕ) (old flags new : List Bool) (start waiting rest : List ℕ)
+    → SetsFlags targets old flags start waiting → SetsFlags others flags new waiting rest
+    → SetsFlags (targets ++ others) old new start rest
+flags_more targets others old flags new start waiting rest before behind = record {
+  count = behind.count ∙ before.count;
+  kept = λ n is. behind.kept n (before.kept n is);
+  set = λ n is. elim (Contains-append_cases targets others n is) [
+    | inl first ↦ behind.kept n (before.set n first)
+    | inr later ↦ behind.set n later
+  ];
+  sound = λ n is. elim (behind.sound n is) [
+    | inr (later, waits) ↦ inr (Contains-append_right targets others n later, waits)
+    | inl flag ↦ elim (before.sound n flag) [
+      | inl old ↦ inl old
+      | inr (first, waits) ↦ inr (Contains-append_left targets others n first, behind.waits n waits)
+    ]
+  ];
+  waits = λ n is. behind.waits n (before.waits n is);
+  all_set = λ n is. elim (behind.all_set n is) [
+    | inr later ↦ inr (Contains-append_right targets others n later)
+    | inl waited ↦ elim (before.all_set n waited) [
+      | inl old ↦ inl old
+      | inr first ↦ inr (Contains-append_left targets others n first)
+    ]
+  ];
+  less = omega (arith, before.less, behind.less);
+}
+
+module _ (links : List (List ℕ)) (from : ℕ) where
+  -- a search begins at its number
+  pub search_starts : from < length links
+      → IsSearch links from (slice_set (replicate (length links) false) from true) (from ∷ [])
+  search_starts within = record {
+    count = length-set (replicate (length links) false) from true ∙ length-replicate (length links) false;
+    start = set_here clear from from is_flag refl;
+    sound = λ n is. elim (set_before clear from n is) [
+      | inl old ↦ absurd (none n old)
+      | inr same ↦ let P : ℕ → Type 0 = λ m. NumberReaches (HasLink links) from m in subst P (sym same) stay
+    ];
+    all_set = λ n is. set_here clear from n is_flag (Contains-one from n is);
+    closed = λ n is. elim (set_before clear from n is) [
+      | inl old ↦ absurd (none n old)
+      | inr same ↦ inl (0, omega arith, sym same)
+    ];
+  }
+    where
+      clear : List Bool
+      clear = replicate (length links) false
+
+      is_flag : from < length clear
+      is_flag = omega (arith, length-replicate (length links) false)
+
+      none : (n : ℕ) → IsSet clear n → ⊥
+      none n is = none_set (length links) n is
+
+  -- a search goes on behind the number that was looked at
+  pub search_goes_on : (number : ℕ) (flags new : List Bool) (waiting rest : List ℕ)
+      → IsSearch links from flags (waiting ++ number ∷ [])
+      → SetsFlags (slice_index_or links number []) flags new waiting rest → IsSearch links from new rest
+  search_goes_on number flags new waiting rest search added = record {
+    count = added.count ∙ search.count;
+    start = added.kept from search.start;
+    sound = λ n is. elim (added.sound n is) [
+      | inl old ↦ search.sound n old
+      | inr (linked, waits) ↦ step (search.sound number is_set) linked
+    ];
+    all_set = λ n is. elim (added.all_set n is) [
+      | inl old ↦ added.kept n (search.all_set n (Contains-append_left waiting (number ∷ []) n old))
+      | inr linked ↦ added.set n linked
+    ];
+    closed = λ m is. elim (added.sound m is) [
+      | inr (linked, waits) ↦ inl waits
+      | inl old ↦ elim (search.closed m old) [
+        | inr all ↦ inr (λ n has. added.kept n (all n has))
+        | inl waited ↦ elim (Contains-append_cases waiting (number ∷ []) m waited) [
+          | inl waits ↦ inl (added.waits m waits)
+          | inr one ↦
+              let same : m ≡ number = Contains-one number m one in
+              inr (λ n has. added.set n (let P : ℕ → Type 0 = λ k. HasLink links k n in subst P same has))
+        ]
+      ]
+    ];
+  }
+    where
+      is_set : IsSet flags number
+      is_set = search.all_set number (Contains-append_right waiting (number ∷ []) number (0, omega arith, refl))
+
+  -- what waits is a number that has links
+  pub next_within : (number : ℕ) (flags : List Bool) (waiting : List ℕ)
+      → IsSearch links from flags (waiting ++ number ∷ []) → number < length links
+  next_within number flags waiting search =
+      let is : IsSet flags number =
+      search.all_set number (Contains-append_right waiting (number ∷ []) number (0, omega arith, refl)) in
+      omega (arith, search.count, set_within flags number is)
+
+  -- where nothing waits, what is reached has its flag
+  reached_is_set : (flags : List Bool) (n : ℕ) → IsSearch links from flags [] → NumberReaches (HasLink links) from n → IsSet flags n
+  reached_is_set flags n search stay = search.start
+  reached_is_set flags n search (step {m = m} before last) =
+      elim (search.closed m (reached_is_set flags m search before)) [
+        | inl waits ↦ absurd (omega (arith, waits.1))
+        | inr all ↦ all n last
+      ]
+
+  -- a search where nothing waits has found what is reached
+  pub search_ends : (flags : List Bool) → IsSearch links from flags [] → AreReachedFlags links from flags
+  search_ends flags search = record {
+    count = search.count;
+    exact = λ n. (search.sound n, reached_is_set flags n search);
+  }

@@ -1,0 +1,142 @@
+-- What one link more changes.
+use Rattle.std.proofs.Common.{◌≡◌, ◌≢◌, ℕ, zero, suc, ◌<◌, ◌≤◌, ◌↔◌, ◌⊎◌, inl, inr, List, [], ◌∷◌, ◌++◌, Bool, IsTrue, length, get_or, slice_set, replicate}
+use Rattle.std.proofs.Common.{slice_index_or, refl, sym, ap, ◌∙◌, arith, length-set, get_or-set_other, subst}
+use Rattle.std.specs.List.{Contains}
+use Rattle.std.proofs.lemmas.List.{get_or_default, get_or_past}
+use Rattle.std.proofs.lemmas.Grind.{get_or-set_at}
+use Rattle.std.proofs.lemmas.List.Elements.{Contains-append_left, Contains-append_right, Contains-append_cases}
+use Rattle.binary_form.specs.Links.{HasLink, AddsLinks, AddsLink, AreNoLinks}
+
+-- two numbers are the same, or they differ
+pub same_or_other : (m n : ℕ) → (m ≡ n) ⊎ (m ≢ n)
+same_or_other m n = grind arith
+
+-- the one member of a list of one
+pub Contains-one : (x y : ℕ) → Contains (x ∷ []) y → y ≡ x
+Contains-one x y (n, within, is) = grind (arith, is, within)
+
+module _ (links : List (List ℕ)) (from to : ℕ) (old list : List ℕ) (within : from < length links)
+    (is_old : old ≡ slice_index_or links from old) (is : list ≡ old ++ to ∷ []) where
+  -- the number that gets a link has the longer list
+  own_list : (m : ℕ) → m ≡ from
+      → slice_index_or (slice_set links from list) m [] ≡ slice_index_or links m [] ++ to ∷ []
+  own_list m same =
+      let is_at : old ≡ slice_index_or links m [] =
+      is_old ∙ get_or_default links from old [] within ∙ ap (λ k. slice_index_or links k []) (sym same) in
+      get_or-set_at links from m list [] same within ∙ is ∙ ap (λ xs. xs ++ to ∷ []) is_at
+
+  -- any other number keeps its list
+  other_list : (m : ℕ) → m ≢ from → slice_index_or (slice_set links from list) m [] ≡ slice_index_or links m []
+  other_list m differ = get_or-set_other links from m list [] differ
+
+  -- a link of the new ones is old, or the one that was added
+  new_link : (m n : ℕ) → HasLink (slice_set links from list) m n → HasLink links m n ⊎ ((m ≡ from) × (n ≡ to))
+  new_link m n has = elim (same_or_other m from) [
+    | inr differ ↦ let P : List ℕ → Type 0 = λ xs. Contains xs n in inl (subst P (other_list m differ) has)
+    | inl same ↦
+        let P : List ℕ → Type 0 = λ xs. Contains xs n in
+        elim (Contains-append_cases (slice_index_or links m []) (to ∷ []) n (subst P (own_list m same) has)) [
+          | inl old ↦ inl old
+          | inr new ↦ inr (same, Contains-one to n new)
+        ]
+  ]
+
+  -- an old link, or the one that was added, is a link of the new ones
+  kept_link : (m n : ℕ) → HasLink links m n ⊎ ((m ≡ from) × (n ≡ to)) → HasLink (slice_set links from list) m n
+  kept_link m n (inl old) = elim (same_or_other m from) [
+    | inr differ ↦ let P : List ℕ → Type 0 = λ xs. Contains xs n in subst P (sym (other_list m differ)) old
+    | inl same ↦
+        let P : List ℕ → Type 0 = λ xs. Contains xs n in
+        subst P (sym (own_list m same)) (Contains-append_left (slice_index_or links m []) (to ∷ []) n old)
+  ]
+  kept_link m n (inr (same, new)) =
+      let P : List ℕ → Type 0 = λ xs. Contains xs n in
+      subst P (sym (own_list m same))
+      (Contains-append_right (slice_index_or links m []) (to ∷ []) n (0, omega arith, sym new))
+
+  -- one number more behind a list is one link more
+  pub adds_link : AddsLink links (slice_set links from list) from to
+  adds_link = record {
+    count = length-set links from list;
+    links = λ m n. (new_link m n, kept_link m n);
+  }
+
+-- links that are added where one thing holds are added where another does that comes to the same
+pub adds_alike :
+    (A B : ℕ → ℕ → Type 0) (old new : List (List ℕ))
+    → ((m n : ℕ) → A m n ↔ B m n) → AddsLinks A old new → AddsLinks B old new
+adds_alike A B old new alike adds = record {
+  count = adds.count;
+  links = λ m n. (
+    (λ has. elim ((adds.links m n).0 has) [
+      | inl before ↦ inl before
+      | inr added ↦ inr ((alike m n).0 added)
+    ]),
+    (λ has. (adds.links m n).1 (more m n has)),
+  );
+}
+  where
+    more : (m n : ℕ) → HasLink old m n ⊎ B m n → HasLink old m n ⊎ A m n
+    more m n (inl before) = inl before
+    more m n (inr added) = inr ((alike m n).1 added)
+
+-- links that are added one after the other
+pub adds_both :
+    (A B : ℕ → ℕ → Type 0) (old middle new : List (List ℕ))
+    → AddsLinks A old middle → AddsLinks B middle new
+    → AddsLinks (λ m n. A m n ⊎ B m n) old new
+adds_both A B old middle new first second = record {
+  count = second.count ∙ first.count;
+  links = λ m n. (
+    (λ has. elim ((second.links m n).0 has) [
+      | inr added ↦ inr (inr added)
+      | inl before ↦ elim ((first.links m n).0 before) [
+        | inl older ↦ inl older
+        | inr added ↦ inr (inl added)
+      ]
+    ]),
+    (λ has. (second.links m n).1 (more m n has)),
+  );
+}
+  where
+    more : (m n : ℕ) → HasLink old m n ⊎ (A m n ⊎ B m n) → HasLink middle m n ⊎ B m n
+    more m n (inl before) = inl ((first.links m n).1 (inl before))
+    more m n (inr (inl added)) = inl ((first.links m n).1 (inr added))
+    more m n (inr (inr added)) = inr added
+
+-- a link that is added where a test holds is added where what it tests does
+pub adds_tested :
+    (old new : List (List ℕ)) (from to : ℕ) (Holds : Type 0) (test : Bool)
+    → IsTrue test ↔ Holds → AddsLinks (λ m n. IsTrue test × (m ≡ from) × (n ≡ to)) old new
+    → AddsLinks (λ m n. Holds × (m ≡ from) × (n ≡ to)) old new
+adds_tested old new from to Holds test tests =
+    adds_alike (λ m n. IsTrue test × (m ≡ from) × (n ≡ to)) (λ m n. Holds × (m ≡ from) × (n ≡ to)) old new
+    (λ m n. ((λ x. (tests.0 x.0, x.1, x.2)), (λ x. (tests.1 x.0, x.1, x.2))))
+
+-- one link more where a test holds
+pub adds_where :
+    (old new : List (List ℕ)) (from to : ℕ) (test : Bool)
+    → IsTrue test → AddsLink old new from to
+    → AddsLinks (λ m n. IsTrue test × (m ≡ from) × (n ≡ to)) old new
+adds_where old new from to test is =
+    adds_alike (λ m n. (m ≡ from) × (n ≡ to)) (λ m n. IsTrue test × (m ≡ from) × (n ≡ to)) old new
+    (λ m n. ((λ x. (is, x.0, x.1)), (λ x. (x.1, x.2))))
+
+-- there is no link among numbers without links
+pub no_link : (count m n : ℕ) → HasLink (replicate count []) m n → ⊥
+no_link zero m n has = omega (arith, has.1)
+no_link (suc count) zero n has = omega (arith, has.1)
+no_link (suc count) (suc m) n has = no_link count m n has
+
+-- only the numbers within the list are linked
+pub link_within : (links : List (List ℕ)) (m n : ℕ) → HasLink links m n → m < length links
+link_within links m n has = elim (within_or_past m (length links)) [
+  | inl within ↦ within
+  | inr past ↦
+      let Has : List ℕ → Type 0 = λ xs. Contains xs n in
+      let none = subst Has (get_or_past links m [] past) has in
+      absurd (omega (arith, none.1))
+]
+  where
+    within_or_past : (k count : ℕ) → (k < count) ⊎ (count ≤ k)
+    within_or_past k count = grind arith

@@ -1,0 +1,118 @@
+-- What a symbol reaches by unit steps, and what its number reaches.
+use Rattle.std.proofs.Common.{◌≡◌, ℕ, ◌<◌, ◌↔◌, List, refl, sym, ◌∙◌, subst}
+use Rattle.spec_grammar.specs.declared.rule.Rule.{Rule}
+use Rattle.spec_lbnf.specs.Expansion.{Expansion, HasOwnSymbols}
+use Rattle.binary_form.specs.Symbols.{BinarySymbol, IsBinarySymbolOf, symbol_count, number_of}
+use Rattle.binary_form.specs.UnitSteps.{UnitStep, whole_side, last_item, passed_item, Reaches, stay, step}
+use Rattle.binary_form.specs.BinaryForm.{IsNumberOf, IsReachedNumber}
+use Rattle.binary_form.specs.NumberSteps.{StepNumber, NumberReaches, stay as stay_number, step as step_number}
+use Rattle.binary_form.proofs.ItemLemmas.{suffix_symbol}
+use Rattle.binary_form.proofs.NumberLemmas.{number_is_one, numbers_below}
+
+-- what a reached symbol reaches is reached
+pub reaches_on :
+    (rules : List Rule) (a b c : BinarySymbol)
+    → Reaches rules a b → Reaches rules b c → Reaches rules a c
+reaches_on rules a b c before stay = before
+reaches_on rules a b d before (step {b = c} behind last) =
+    step (reaches_on rules a b c before behind) last
+
+-- what a reached number reaches is reached
+pub number_reaches_on :
+    (Step : ℕ → ℕ → Type 0) (l m n : ℕ)
+    → NumberReaches Step l m → NumberReaches Step m n → NumberReaches Step l n
+number_reaches_on Step l m n before stay_number = before
+number_reaches_on Step l m n before (step_number {m = k} behind last) =
+    step_number (number_reaches_on Step l m k before behind) last
+
+-- where each step is one of another relation, what is reached by the one is reached by the other
+pub number_reaches_more :
+    (Step Other : ℕ → ℕ → Type 0) (m n : ℕ)
+    → ((k l : ℕ) → Step k l → Other k l) → NumberReaches Step m n → NumberReaches Other m n
+number_reaches_more Step Other m n more stay_number = stay_number
+number_reaches_more Step Other m n more (step_number {m = k} before last) =
+    step_number (number_reaches_more Step Other m k more before) (more k n last)
+
+-- where each step from what is within goes to what is within, so does what is reached from there
+pub number_reaches_within :
+    (Step : ℕ → ℕ → Type 0) (Within : ℕ → Type 0) (m n : ℕ)
+    → ((k l : ℕ) → Step k l → Within k → Within l) → Within m → NumberReaches Step m n → Within n
+number_reaches_within Step Within m n closed within stay_number = within
+number_reaches_within Step Within m n closed within (step_number {m = k} before last) =
+    closed k n last (number_reaches_within Step Within m k closed within before)
+
+module _ (g : Expansion) where
+  -- a unit step goes to a symbol of the grammar
+  pub step_symbol :
+      (a b : BinarySymbol)
+      → HasOwnSymbols g → UnitStep g.rules a b → IsBinarySymbolOf g b
+  step_symbol a b own (whole_side {r = r} {rule = rule} is) = (own r rule is).0
+  step_symbol a b own (last_item {r = r} {p = p} {s = s} {behind = behind} has empty) =
+      suffix_symbol g r p s behind has
+  step_symbol a b own (passed_item {r = r} {p = p} {s = s} {behind = behind} has empty) =
+      suffix_symbol g r p s behind has
+
+  -- a unit step from a symbol of the grammar is one from its number
+  pub number_step :
+      (a b : BinarySymbol)
+      → HasOwnSymbols g → IsBinarySymbolOf g a → UnitStep g.rules a b
+      → StepNumber g (number_of g a) (number_of g b)
+  number_step a b own is next = (a, b, (is, refl), (step_symbol a b own next, refl), next)
+
+  -- a symbol of the grammar reaches symbols of the grammar
+  pub reaches_symbol :
+      (a b : BinarySymbol)
+      → HasOwnSymbols g → IsBinarySymbolOf g a → Reaches g.rules a b → IsBinarySymbolOf g b
+  reaches_symbol a b own is stay = is
+  reaches_symbol a c own is (step {b = b} before last) = step_symbol b c own last
+
+  -- what reaches the number of a symbol reaches the symbol
+  pub reaches_of_number :
+      (a b : BinarySymbol) (n : ℕ)
+      → IsNumberOf g b n → IsReachedNumber g a n → Reaches g.rules a b
+  reaches_of_number a b n is x =
+      let same : x.0 ≡ b = number_is_one g x.0 b n x.1 is in
+      rw same at x.2
+
+  -- steps are between numbers of symbols
+  pub step_below :
+      (m n : ℕ) → StepNumber g m n → (m < symbol_count g) × (n < symbol_count g)
+  step_below m n x = (
+    subst Below x.2.1 (numbers_below g x.0 x.2.0),
+    subst Below x.3.1 (numbers_below g x.1 x.3.0),
+  )
+    where
+      Below : ℕ → Type 0
+      Below k = k < symbol_count g
+
+  -- the number of what a symbol reaches is reached by its number
+  number_reached :
+      (a b : BinarySymbol) (m n : ℕ)
+      → HasOwnSymbols g → IsNumberOf g a m → IsNumberOf g b n → Reaches g.rules a b
+      → NumberReaches (StepNumber g) m n
+  number_reached a b m n own is_a is_b stay =
+      let Reached : ℕ → Type 0 = λ k. NumberReaches (StepNumber g) m k in
+      subst Reached (sym is_a.1 ∙ is_b.1) stay_number
+  number_reached a c m n own is_a is_c (step {b = b} before last) =
+      let is : IsNumberOf g b (number_of g b) = (reaches_symbol a b own is_a.0 before, refl) in
+      step_number (number_reached a b m (number_of g b) own is_a is before) (b, c, is, is_c, last)
+
+  -- a symbol reaches the symbols whose numbers its number reaches
+  symbol_reached :
+      (a : BinarySymbol) (m n : ℕ)
+      → IsNumberOf g a m → NumberReaches (StepNumber g) m n → IsReachedNumber g a n
+  symbol_reached a m n is stay_number = (a, is, stay)
+  symbol_reached a m n is (step_number {m = k} before last) =
+      let x = symbol_reached a m k is before in
+      let same : x.0 ≡ last.0 = number_is_one g x.0 last.0 k x.1 last.2 in
+      (last.1, last.3, step (rw same at x.2) last.4)
+
+  -- a symbol reaches just the numbers that its number reaches
+  pub reaches_numbers :
+      (a : BinarySymbol) (m n : ℕ)
+      → HasOwnSymbols g → IsNumberOf g a m
+      → IsReachedNumber g a n ↔ NumberReaches (StepNumber g) m n
+  reaches_numbers a m n own is = (
+    (λ x. number_reached a x.0 m n own is x.1 x.2),
+    symbol_reached a m n is,
+  )

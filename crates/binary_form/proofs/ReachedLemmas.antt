@@ -1,0 +1,30 @@
+-- What is reached by the links of unit steps is what the symbols reach.
+use Rattle.std.proofs.Common.{◌≡◌, ℕ, ◌<◌, ◌↔◌, List, Bool, length, sym, subst, arith}
+use Rattle.spec_lbnf.specs.Expansion.{Expansion, HasOwnSymbols}
+use Rattle.binary_form.specs.Symbols.{BinarySymbol, symbol_count, number_of}
+use Rattle.binary_form.specs.BinaryForm.{IsNumberOf, IsReachedNumber}
+use Rattle.binary_form.specs.NumberSteps.{StepNumber, NumberReaches}
+use Rattle.binary_form.specs.Links.{HasLink}
+use Rattle.binary_form.specs.Flags.{IsSet, AreLinksWithin, AreReachedFlags}
+use Rattle.binary_form.specs.RowLinks.{AreUnitSteps}
+use Rattle.binary_form.proofs.NumberLemmas.{numbers_used}
+use Rattle.binary_form.proofs.ReachLemmas.{number_reaches_more, reaches_numbers, step_below}
+
+module _ (g : Expansion) (links : List (List ℕ)) (steps : AreUnitSteps g links) where
+  -- unit steps lead to numbers of symbols
+  pub steps_within : AreLinksWithin links
+  steps_within m n has = omega (arith, (step_below g m n ((steps.exact m n).0 has)).1, steps.count)
+
+  -- the flags of what the links reach from a number are those of what the symbol of this number reaches
+  pub reached_flags : (n : ℕ) (flags : List Bool) → HasOwnSymbols g → n < symbol_count g → AreReachedFlags links n flags
+      → (m : ℕ) → IsSet flags m ↔ ((a : BinarySymbol) × IsNumberOf g a n × IsReachedNumber g a m)
+  reached_flags n flags own below are m = (
+    (λ set.
+        let a = numbers_used g n below in
+        let is : IsNumberOf g a.0 n = (a.1, a.2) in
+        let reached = number_reaches_more (HasLink links) (StepNumber g) n m (λ k l. (steps.exact k l).0) ((are.exact m).0 set) in
+        (a.0, is, (reaches_numbers g a.0 n m own is).1 reached)),
+    (λ x.
+        let reached = (reaches_numbers g x.0 n m own x.1).0 x.2 in
+        (are.exact m).1 (number_reaches_more (StepNumber g) (HasLink links) n m (λ k l. (steps.exact k l).1) reached)),
+  )

@@ -1,0 +1,334 @@
+-- The links that rows give are those of the grammar.
+use Rattle.std.proofs.Common.{◌≡◌, ◌≢◌, ℕ, zero, suc, ◌+◌, ◌<◌, ◌≤◌, ◌↔◌, ◌⊎◌, inl, inr, List, [], ◌∷◌, Bool, true, false, not, IsTrue, IsFalse}
+use Rattle.std.proofs.Common.{Some, length, slice_get, take, drop, replicate, refl, sym, ap, ◌∙◌, subst, arith, length-drop}
+use Rattle.std.proofs.lemmas.List.{length-replicate}
+use Rattle.std.proofs.lemmas.Option.{slice_get_within}
+use Rattle.std.proofs.lemmas.Bool.{false≢true}
+use Rattle.spec_grammar.specs.declared.rule.Symbol.TheVariants.{Category}
+use Rattle.spec_grammar.specs.declared.rule.Rule.{Rule}
+use Rattle.spec_grammar.specs.Derivation.{IsNullable}
+use Rattle.spec_lbnf.specs.Expansion.{Expansion, HasOwnSymbols, item_count}
+use Rattle.binary_form.specs.declared.rows.SuffixRow.{SuffixRow}
+use Rattle.binary_form.specs.Symbols.{BinarySymbol, plain, suffix, BinaryDerives, IsBinarySymbolOf, symbol_count, number_of}
+use Rattle.binary_form.specs.UnitSteps.{HasItem, AreNullable, UnitStep, whole_side, last_item, passed_item}
+use Rattle.binary_form.specs.BinaryForm.{IsNumberOf}
+use Rattle.binary_form.specs.NumberSteps.{StepNumber}
+use Rattle.binary_form.specs.Rows.{IsRow, IsRowAt, AreRows, suffix_number}
+use Rattle.binary_form.specs.Wholes.{IsWhole, AreWholes}
+use Rattle.binary_form.specs.NullableNumbers.{AreNullableNumbers, IsRestNullable}
+use Rattle.binary_form.specs.Flags.{IsSet}
+use Rattle.binary_form.specs.Links.{HasLink, AddsLinks, AreNoLinks}
+use Rattle.binary_form.specs.RowLinks.{IsRowStep, IsRowWhole, IsLinkOfRows, AreLinksOfRows, AreUnitSteps}
+use Rattle.spec_grammar.proofs.DerivationLemmas.{none_derive}
+use Rattle.binary_form.proofs.NumberLemmas.{number_is_one, number-suffix-suc}
+use Rattle.binary_form.proofs.ItemLemmas.{items_behind, same_rule, symbol_item}
+use Rattle.binary_form.proofs.RowLemmas.{number_below, whole_number, next_number, goes_on, none_or_more, row_at, same_item}
+use Rattle.binary_form.proofs.LinkLemmas.{no_link, adds_both, adds_tested}
+
+-- one suffix's unit steps are added, those of each sort where they are there
+pub adds_steps : (nullable : List Bool) (row : SuffixRow) (whole : ℕ) (old first second new : List (List ℕ)) (empty passed : Bool)
+    → IsTrue empty ↔ IsRestNullable nullable row whole → IsTrue passed ↔ (IsFalse row.is_last × IsSet nullable row.item)
+    → AddsLinks (λ m n. IsTrue row.is_first × (m ≡ whole) × (n ≡ row.category)) old first
+    → AddsLinks (λ m n. IsTrue empty × (m ≡ row.item) × (n ≡ whole)) first second
+    → AddsLinks (λ m n. IsTrue passed × (m ≡ whole + 1) × (n ≡ whole)) second new
+    → AddsLinks (IsRowStep nullable row whole) old new
+adds_steps nullable row whole old first second new empty passed is_empty is_passed adds_first adds_second adds_third =
+    let Second : Type 0 = IsRestNullable nullable row whole in
+    let Third : Type 0 = IsFalse row.is_last × IsSet nullable row.item in
+    adds_both (λ m n. IsTrue row.is_first × (m ≡ whole) × (n ≡ row.category))
+    (λ m n. (Second × (m ≡ row.item) × (n ≡ whole)) ⊎ (Third × (m ≡ whole + 1) × (n ≡ whole))) old first new adds_first
+    (adds_both (λ m n. Second × (m ≡ row.item) × (n ≡ whole)) (λ m n. Third × (m ≡ whole + 1) × (n ≡ whole)) first second new
+    (adds_tested first second row.item whole Second empty is_empty adds_second)
+    (adds_tested second new (whole + 1) whole Third passed is_passed adds_third))
+
+module _ (Link : SuffixRow → ℕ → ℕ → ℕ → Type 0) (rows : List SuffixRow) (first count : ℕ) where
+  -- of no rows there are no links
+  pub links_of_none : (links : List (List ℕ)) → AreNoLinks count links → AreLinksOfRows Link rows first 0 count links
+  links_of_none links none = record {
+    size = ap length none ∙ length-replicate count [];
+    exact = λ m n. (
+      (λ has. let P : List (List ℕ) → Type 0 = λ xs. HasLink xs m n in absurd (no_link count m n (subst P none has))),
+      (λ link. absurd (omega (arith, link.within))),
+    );
+  }
+
+  -- with one row more there are its links besides
+  pub links_of_more : (many : ℕ) (row : SuffixRow) (old new : List (List ℕ)) → slice_get rows many ≡ Some row
+      → AreLinksOfRows Link rows first many count old → AddsLinks (Link row (first + many)) old new
+      → AreLinksOfRows Link rows first (many + 1) count new
+  links_of_more many row old new is before adds = record {
+    size = adds.count ∙ before.size;
+    exact = λ m n. (forth m n, back m n);
+  }
+    where
+      forth : (m n : ℕ) → HasLink new m n → IsLinkOfRows Link rows first (many + 1) m n
+      forth m n has = elim ((adds.links m n).0 has) [
+        | inr added ↦ record { k = many; row = row; is_row = is; within = omega arith; is_link = added }
+        | inl older ↦
+            let link = (before.exact m n).0 older in
+            record {
+              k = link.k;
+              row = link.row;
+              is_row = link.is_row;
+              within = omega (arith, link.within);
+              is_link = link.is_link;
+            }
+      ]
+
+      last_or_before : (k : ℕ) → k < many + 1 → (k < many) ⊎ (k ≡ many)
+      last_or_before k within = grind arith
+
+      same_row : (k : ℕ) (other : SuffixRow) → k ≡ many → slice_get rows k ≡ Some other → other ≡ row
+      same_row k other same is_other = cc
+
+      back : (m n : ℕ) → IsLinkOfRows Link rows first (many + 1) m n → HasLink new m n
+      back m n link = (adds.links m n).1 (elim (last_or_before link.k link.within) [
+        | inl earlier ↦ inl ((before.exact m n).1 (record {
+          k = link.k;
+          row = link.row;
+          is_row = link.is_row;
+          within = earlier;
+          is_link = link.is_link;
+        }))
+        | inr last ↦
+            let same : link.row ≡ row = same_row link.k link.row last link.is_row in
+            let P : SuffixRow → Type 0 = λ x. Link x (first + many) m n in
+            let Q : ℕ → Type 0 = λ k. Link link.row (first + k) m n in
+            inr (subst P same (subst Q last link.is_link))
+      ])
+
+-- a test is true, or false
+true_or_false : (test : Bool) → IsTrue test ⊎ IsFalse test
+true_or_false true = inl refl
+true_or_false false = inr refl
+
+-- a test's opposite is true where the test is false
+pub not_tested : (test : Bool) → IsTrue (not test) ↔ IsFalse test
+not_tested true = ((λ is. absurd (false≢true is)), (λ is. absurd (false≢true (sym is))))
+not_tested false = ((λ is. refl), (λ is. refl))
+
+-- an item with a symbol of the grammar behind it is not the last
+not_last : (g : Expansion) (r p : ℕ) (row : SuffixRow) → IsRow g r p row → IsBinarySymbolOf g (suffix r (suc p)) → IsFalse row.is_last
+not_last g r p row is next = elim (true_or_false row.is_last) [
+  | inr no_more ↦ no_more
+  | inl last ↦
+      let are_behind = items_behind g.rules r p is.item is.behind next.0 is.has next.1 in
+      let none : drop (suc p) (next.0).items ≡ [] = are_behind ∙ (is.is_last).0 last in
+      absurd (omega (arith, next.2, length-drop (suc p) (next.0).items, ap length none))
+]
+
+module _ (g : Expansion) (rows : List SuffixRow) (nullable : List Bool) (are : AreRows g rows) (flags : AreNullableNumbers g nullable) where
+  -- a flag of a symbol's number says that it derives the empty span
+  derives_empty : (a : BinarySymbol) (n : ℕ) → IsNumberOf g a n → IsSet nullable n → BinaryDerives g.rules [] a 0 0
+  derives_empty a n is set =
+      let x = (flags.exact n (number_below g a n is)).0 set in
+      let same : x.0 ≡ a = number_is_one g x.0 a n x.1 is in
+      rw same at x.2
+
+  -- the flag of a symbol that derives the empty span is set
+  empty_flagged : (a : BinarySymbol) (n : ℕ) → IsNumberOf g a n → BinaryDerives g.rules [] a 0 0 → IsSet nullable n
+  empty_flagged a n is empty = (flags.exact n (number_below g a n is)).1 (a, is, empty)
+
+  -- the items behind a row's item derive the empty span where the row and the flags say so
+  rest_empty : (n : ℕ) (row : SuffixRow) (at : IsRowAt g n row)
+      → IsRestNullable nullable row (suffix_number g n) → AreNullable g.rules (at.is_row).behind
+  rest_empty n row at rest = elim (none_or_more (at.is_row).behind) [
+    | inl none ↦ subst (AreNullable g.rules) (sym none) ((none_derive g.rules [] 0 0).1 refl)
+    | inr (t, more, is_more) ↦ elim rest [
+      | inl last ↦
+          let none = ((at.is_row).is_last).0 last in
+          absurd (cc)
+      | inr set ↦
+          let x = derives_empty (suffix at.r (suc at.p)) (suffix_number g n + 1) (next_number g n row at t more is_more) set in
+          let are_behind = items_behind g.rules at.r at.p (at.is_row).item (at.is_row).behind x.0 (at.is_row).has x.1 in
+          subst (AreNullable g.rules) are_behind x.2
+    ]
+  ]
+
+  -- where they derive it, the row or the flags say so
+  rest_flagged : (n : ℕ) (row : SuffixRow) (at : IsRowAt g n row)
+      → AreNullable g.rules (at.is_row).behind → IsRestNullable nullable row (suffix_number g n)
+  rest_flagged n row at empty = elim (none_or_more (at.is_row).behind) [
+    | inl none ↦ inl (((at.is_row).is_last).1 none)
+    | inr (t, more, is_more) ↦
+        let has = (at.is_row).has in
+        let are_behind = items_behind g.rules at.r at.p (at.is_row).item (at.is_row).behind has.rule has has.is_rule in
+        inr (empty_flagged (suffix at.r (suc at.p)) (suffix_number g n + 1) (next_number g n row at t more is_more)
+        (has.rule, has.is_rule, subst (AreNullable g.rules) (sym are_behind) empty))
+  ]
+
+  -- a step that a row gives is one of the grammar
+  pub step_of_row : (n from to : ℕ) (row : SuffixRow) → IsRowAt g n row
+      → IsRowStep nullable row (suffix_number g n) from to → StepNumber g from to
+  step_of_row n from to row at (inl (whole_rule, is_from, is_to)) =
+      let is = at.is_row in
+      let whole = whole_number g n row at in
+      let start : at.p ≡ 0 = (is.is_first).0 whole_rule in
+      let own : BinarySymbol = plain (Category ((is.has).rule).category) in
+      let P : ℕ → Type 0 = λ place. UnitStep g.rules (suffix at.r place) own in (
+        suffix at.r at.p,
+        own,
+        (whole.0, whole.1 ∙ sym is_from),
+        ((is.is_category).0, (is.is_category).1 ∙ sym is_to),
+        subst P (sym start) (whole_side (is.has).is_rule),
+      )
+  step_of_row n from to row at (inr (inl (rest, is_from, is_to))) =
+      let is = at.is_row in
+      let whole = whole_number g n row at in (
+        plain is.item,
+        suffix at.r at.p,
+        ((is.is_item).0, (is.is_item).1 ∙ sym is_from),
+        (whole.0, whole.1 ∙ sym is_to),
+        last_item is.has (rest_empty n row at rest),
+      )
+  step_of_row n from to row at (inr (inr ((more_behind, set), is_from, is_to))) =
+      let is = at.is_row in
+      let whole = whole_number g n row at in
+      let more = goes_on g at.r at.p row is more_behind in
+      let next = next_number g n row at more.0 more.1 more.2 in (
+        suffix at.r (suc at.p),
+        suffix at.r at.p,
+        (next.0, next.1 ∙ sym is_from),
+        (whole.0, whole.1 ∙ sym is_to),
+        passed_item is.has (derives_empty (plain is.item) row.item is.is_item set),
+      )
+
+  -- a step of the grammar is one that a row gives
+  pub row_of_step : (from to : ℕ) → StepNumber g from to → IsLinkOfRows (IsRowStep nullable) rows (length g.categories + length g.kinds) (length rows) from to
+  row_of_step from to step = row_of step.0 step.1 step.2 step.3 step.4
+    where
+      row_of : (a b : BinarySymbol) → IsNumberOf g a from → IsNumberOf g b to → UnitStep g.rules a b
+          → IsLinkOfRows (IsRowStep nullable) rows (length g.categories + length g.kinds) (length rows) from to
+      row_of a b is_a is_b (whole_side {r = r} {rule = rule} is_rule) =
+          let start = symbol_item g r 0 is_a.0 in
+          let x = row_at g rows are r 0 start.0 start.1 start.2 in
+          let is = x.2 in
+          let n : ℕ = item_count (take r g.rules) + 0 in
+          let at : IsRowAt g n x.0 = record { r = r; p = 0; count = refl; is_row = is } in
+          let same : rule ≡ (is.has).rule = same_rule g.rules r rule (is.has).rule is_rule (is.has).is_rule in
+          let category : to ≡ (x.0).category =
+          sym is_b.1 ∙ ap (λ (y : Rule). y.category) same ∙ (is.is_category).1 in
+          record {
+            k = n;
+            row = x.0;
+            is_row = x.1;
+            within = slice_get_within rows n x.0 x.1;
+            is_link = inl ((is.is_first).1 refl, sym is_a.1 ∙ (whole_number g n x.0 at).1, category);
+          }
+      row_of a b is_a is_b (last_item {r = r} {p = p} {s = s} {behind = behind} has empty) =
+          let x = row_at g rows are r p s behind has in
+          let is = x.2 in
+          let n : ℕ = item_count (take r g.rules) + p in
+          let at : IsRowAt g n x.0 = record { r = r; p = p; count = refl; is_row = is } in
+          let same = same_item g.rules r p s is.item behind is.behind has is.has in
+          let same_first : s ≡ is.item = cc in
+          let same_behind : behind ≡ is.behind = cc in
+          let item : from ≡ (x.0).item =
+          sym is_a.1 ∙ ap (λ y. number_of g (plain y)) same_first ∙ (is.is_item).1 in
+          let rest = rest_flagged n x.0 at (subst (AreNullable g.rules) same_behind empty) in
+          record {
+            k = n;
+            row = x.0;
+            is_row = x.1;
+            within = slice_get_within rows n x.0 x.1;
+            is_link = inr (inl (rest, item, sym is_b.1 ∙ (whole_number g n x.0 at).1));
+          }
+      row_of a b is_a is_b (passed_item {r = r} {p = p} {s = s} {behind = behind} has empty) =
+          let x = row_at g rows are r p s behind has in
+          let is = x.2 in
+          let n : ℕ = item_count (take r g.rules) + p in
+          let at : IsRowAt g n x.0 = record { r = r; p = p; count = refl; is_row = is } in
+          let same = same_item g.rules r p s is.item behind is.behind has is.has in
+          let same_first : s ≡ is.item = cc in
+          let set = empty_flagged (plain is.item) (x.0).item is.is_item (subst (IsNullable g.rules) same_first empty) in
+          let next : from ≡ suffix_number g n + 1 = sym is_a.1 ∙ number-suffix-suc g r p ∙ ap (λ m. m + 1) (whole_number g n x.0 at).1 in
+          record {
+            k = n;
+            row = x.0;
+            is_row = x.1;
+            within = slice_get_within rows n x.0 x.1;
+            is_link = inr (inr ((not_last g r p x.0 is is_a.0, set), next, sym is_b.1 ∙ (whole_number g n x.0 at).1));
+          }
+
+  -- the links that all rows give are the unit steps
+  pub unit_steps_are : (many : ℕ) (links : List (List ℕ)) → length rows ≤ many
+      → AreLinksOfRows (IsRowStep nullable) rows (length g.categories + length g.kinds) many (length nullable) links
+      → AreUnitSteps g links
+  unit_steps_are many links all given = record {
+    count = given.size ∙ flags.count;
+    exact = λ m n. (
+      (λ has.
+          let link = (given.exact m n).0 has in
+          step_of_row link.k m n link.row (are.each link.k link.row link.is_row) link.is_link),
+      (λ step.
+          let link = row_of_step m n step in
+          (given.exact m n).1 (record {
+            k = link.k;
+            row = link.row;
+            is_row = link.is_row;
+            within = omega (arith, link.within);
+            is_link = link.is_link;
+          })),
+    );
+  }
+
+module _ (g : Expansion) (rows : List SuffixRow) (are : AreRows g rows) where
+  -- a row whose suffix goes on behind its item tells an item and the suffix that it begins
+  whole_of_row : (n item_number whole : ℕ) (row : SuffixRow) → IsRowAt g n row
+      → IsRowWhole row (suffix_number g n) item_number whole → IsWhole g item_number whole
+  whole_of_row n item_number whole row at (more_behind, is_item, is_whole) =
+      let is = at.is_row in
+      let number = whole_number g n row at in
+      let more = goes_on g at.r at.p row is more_behind in
+      record {
+        r = at.r;
+        p = at.p;
+        item = is.item;
+        behind = is.behind;
+        has = is.has;
+        is_item = ((is.is_item).0, (is.is_item).1 ∙ sym is_item);
+        is_whole = (number.0, number.1 ∙ sym is_whole);
+        goes_on = (next_number g n row at more.0 more.1 more.2).0;
+      }
+
+  -- an item with an item behind it has a row whose suffix goes on
+  row_of_whole : (item_number whole : ℕ) → IsWhole g item_number whole
+      → IsLinkOfRows IsRowWhole rows (length g.categories + length g.kinds) (length rows) item_number whole
+  row_of_whole item_number whole x =
+      let found = row_at g rows are x.r x.p x.item x.behind x.has in
+      let is = found.2 in
+      let n : ℕ = item_count (take x.r g.rules) + x.p in
+      let at : IsRowAt g n found.0 = record { r = x.r; p = x.p; count = refl; is_row = is } in
+      let same = same_item g.rules x.r x.p x.item is.item x.behind is.behind x.has is.has in
+      let same_first : x.item ≡ is.item = cc in
+      let number : item_number ≡ (found.0).item =
+      sym (x.is_item).1 ∙ ap (λ y. number_of g (plain y)) same_first ∙ (is.is_item).1 in
+      record {
+        k = n;
+        row = found.0;
+        is_row = found.1;
+        within = slice_get_within rows n found.0 found.1;
+        is_link = (not_last g x.r x.p found.0 is x.goes_on, number, sym (x.is_whole).1 ∙ (whole_number g n found.0 at).1);
+      }
+
+  -- the links that all rows give lead from items to the suffixes that they begin
+  pub wholes_are : (many : ℕ) (links : List (List ℕ)) → length rows ≤ many
+      → AreLinksOfRows IsRowWhole rows (length g.categories + length g.kinds) many (length g.categories + length g.kinds + length rows) links
+      → AreWholes g links
+  wholes_are many links all given = record {
+    count = omega (arith, given.size, are.count);
+    links = λ m n. (
+      (λ has.
+          let link = (given.exact m n).0 has in
+          whole_of_row link.k m n link.row (are.each link.k link.row link.is_row) link.is_link),
+      (λ x.
+          let link = row_of_whole m n x in
+          (given.exact m n).1 (record {
+            k = link.k;
+            row = link.row;
+            is_row = link.is_row;
+            within = omega (arith, link.within);
+            is_link = link.is_link;
+          })),
+    );
+  }

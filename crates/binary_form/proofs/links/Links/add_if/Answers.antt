@@ -1,0 +1,6 @@
+use Rattle.binary_form.proofs.LinkLemmas.{adds_where}
+use Rattle.binary_form.proofs.links.Links.add_if.Goals as goal
+
+pub returns-in_ok-add : goal.returns-in_ok-add
+returns-in_ok-add c =
+    adds_where c.args.self.now c.add.new.self c.args.from c.args.to c.args.test c.if-test.true c.in_ok-add.ensures.ok

@@ -1,0 +1,6 @@
+use Rattle.std.proofs.Common.{◌≡◌, replicate, []}
+use Rattle.binary_form.proofs.links.Links.new.Given as goal
+
+-- so many numbers have a list, and it is empty
+abbrev pub invariant-loop-number : goal.invariant-loop-number
+invariant-loop-number l = (l.lists).items ≡ replicate l._number []

@@ -1,0 +1,12 @@
+-- Where the suffixes of each rule are numbered from. Serves the proofs alone.
+use Rattle.std.specs.Prelude.{◌≡◌, ℕ, ◌+◌, ◌<◌, List, length, slice_index_or, take}
+use Rattle.spec_lbnf.specs.Expansion.{Expansion, item_count}
+
+-- the suffixes of rule r are numbered from here
+abbrev pub first_suffix : Expansion → ℕ → ℕ
+first_suffix g r = length g.categories + length g.kinds + item_count (take r g.rules)
+
+-- for each rule, these tell where its suffixes are numbered from
+pub record AreFirstSuffixes (g : Expansion) (firsts : List ℕ) : Type 0 where
+  pub count : length firsts ≡ length g.rules
+  pub each : (r : ℕ) → r < length g.rules → slice_index_or firsts r 0 ≡ first_suffix g r

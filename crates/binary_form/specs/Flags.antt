@@ -1,0 +1,46 @@
+-- Flags by number, and the search that sets the flags of what a number reaches. Serves the proofs alone.
+use Rattle.std.specs.Prelude.{◌≡◌, ℕ, suc, ◌+◌, ◌*◌, ◌≤◌, ◌<◌, ◌↔◌, ◌⊎◌, List, [], ◌∷◌, Bool, true, false, IsTrue}
+use Rattle.std.specs.Prelude.{length, slice_index_or, Contains}
+use Rattle.binary_form.specs.Links.{HasLink}
+use Rattle.binary_form.specs.NumberSteps.{NumberReaches}
+
+-- the number has a flag, and it is set
+abbrev pub IsSet : List Bool → ℕ → Type 0
+IsSet flags n = IsTrue (slice_index_or flags n false)
+
+-- each number is linked to numbers below the count alone
+abbrev pub AreLinksWithin : List (List ℕ) → Type 0
+AreLinksWithin links = (m n : ℕ) → HasLink links m n → n < length links
+
+-- each number has a flag, which is set exactly where the number is reached by links
+pub record AreReachedFlags (links : List (List ℕ)) (from : ℕ) (flags : List Bool) : Type 0 where
+  pub count : length flags ≡ length links
+  pub exact : (n : ℕ) → IsSet flags n ↔ NumberReaches (HasLink links) from n
+
+-- how many flags are clear
+abbrev pub clear_count : List Bool → ℕ
+clear_count [] = 0
+clear_count (true ∷ flags) = clear_count flags
+clear_count (false ∷ flags) = suc (clear_count flags)
+
+-- how much a search has left to do: two steps for each clear flag, one for each number that waits
+abbrev pub work_left : List Bool → List ℕ → ℕ
+work_left flags waiting = 2 * clear_count flags + length waiting
+
+-- these numbers have their flags, and those that had none wait
+pub record SetsFlags (targets : List ℕ) (old new : List Bool) (old_waiting waiting : List ℕ) : Type 0 where
+  pub count : length new ≡ length old
+  pub kept : (n : ℕ) → IsSet old n → IsSet new n
+  pub set : (n : ℕ) → Contains targets n → IsSet new n
+  pub sound : (n : ℕ) → IsSet new n → IsSet old n ⊎ (Contains targets n × Contains waiting n)
+  pub waits : (n : ℕ) → Contains old_waiting n → Contains waiting n
+  pub all_set : (n : ℕ) → Contains waiting n → Contains old_waiting n ⊎ Contains targets n
+  pub less : work_left new waiting ≤ work_left old old_waiting
+
+-- a search is under way: what has a flag is reached, what waits has one, and what has a flag and does not wait is linked to what has one
+pub record IsSearch (links : List (List ℕ)) (from : ℕ) (flags : List Bool) (waiting : List ℕ) : Type 0 where
+  pub count : length flags ≡ length links
+  pub start : IsSet flags from
+  pub sound : (n : ℕ) → IsSet flags n → NumberReaches (HasLink links) from n
+  pub all_set : (n : ℕ) → Contains waiting n → IsSet flags n
+  pub closed : (m : ℕ) → IsSet flags m → Contains waiting m ⊎ ((n : ℕ) → HasLink links m n → IsSet flags n)

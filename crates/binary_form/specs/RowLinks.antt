@@ -1,0 +1,39 @@
+-- The links that the rows of suffixes give. Serves the proofs alone.
+use Rattle.std.specs.Prelude.{◌≡◌, ℕ, ◌+◌, ◌<◌, ◌↔◌, ◌⊎◌, List, Bool, Some, IsTrue, IsFalse, length, slice_get}
+use Rattle.spec_lbnf.specs.Expansion.{Expansion}
+use Rattle.binary_form.specs.declared.rows.SuffixRow.{SuffixRow}
+use Rattle.binary_form.specs.Symbols.{symbol_count}
+use Rattle.binary_form.specs.NumberSteps.{StepNumber}
+use Rattle.binary_form.specs.Links.{HasLink}
+use Rattle.binary_form.specs.Flags.{IsSet}
+use Rattle.binary_form.specs.NullableNumbers.{IsRestNullable}
+
+-- the suffix of this number gives a unit step: to its category from the whole right side, to it from its item, and
+-- to it from the suffix behind its item
+abbrev pub IsRowStep : List Bool → SuffixRow → ℕ → ℕ → ℕ → Type 0
+IsRowStep nullable row whole from to =
+    (IsTrue row.is_first × (from ≡ whole) × (to ≡ row.category))
+    ⊎ ((IsRestNullable nullable row whole × (from ≡ row.item) × (to ≡ whole))
+    ⊎ ((IsFalse row.is_last × IsSet nullable row.item) × (from ≡ whole + 1) × (to ≡ whole)))
+
+-- the suffix of this number goes on behind its item
+abbrev pub IsRowWhole : SuffixRow → ℕ → ℕ → ℕ → Type 0
+IsRowWhole row whole from to = IsFalse row.is_last × (from ≡ row.item) × (to ≡ whole)
+
+-- one of so many rows gives the link
+pub record IsLinkOfRows (Link : SuffixRow → ℕ → ℕ → ℕ → Type 0) (rows : List SuffixRow) (first many from to : ℕ) : Type 0 where
+  pub k : ℕ
+  pub row : SuffixRow
+  pub is_row : slice_get rows k ≡ Some row
+  pub within : k < many
+  pub is_link : Link row (first + k) from to
+
+-- the links are those that so many rows give
+pub record AreLinksOfRows (Link : SuffixRow → ℕ → ℕ → ℕ → Type 0) (rows : List SuffixRow) (first many count : ℕ) (links : List (List ℕ)) : Type 0 where
+  pub size : length links ≡ count
+  pub exact : (m n : ℕ) → HasLink links m n ↔ IsLinkOfRows Link rows first many m n
+
+-- the links are the unit steps of the grammar
+pub record AreUnitSteps (g : Expansion) (links : List (List ℕ)) : Type 0 where
+  pub count : length links ≡ symbol_count g
+  pub exact : (m n : ℕ) → HasLink links m n ↔ StepNumber g m n

@@ -1,0 +1,26 @@
+-- Where an item of a rule has a suffix behind it: the number of the item is linked to that of the suffix which it
+-- begins. Serves the proofs alone.
+use Rattle.std.specs.Prelude.{◌≡◌, ℕ, suc, ◌↔◌, List, length}
+use Rattle.spec_grammar.specs.declared.rule.Symbol.{Symbol}
+use Rattle.spec_lbnf.specs.Expansion.{Expansion}
+use Rattle.binary_form.specs.Symbols.{plain, suffix, IsBinarySymbolOf, symbol_count}
+use Rattle.binary_form.specs.UnitSteps.{HasItem}
+use Rattle.binary_form.specs.BinaryForm.{IsNumberOf}
+use Rattle.binary_form.specs.Links.{HasLink}
+
+-- the number is that of item p of a rule which has an item behind it, and the whole is the number of the suffix
+-- from p on; the suffix behind the item has the next number
+pub record IsWhole (g : Expansion) (item_number whole : ℕ) : Type 0 where
+  pub r : ℕ
+  pub p : ℕ
+  pub item : Symbol
+  pub behind : List Symbol
+  pub has : HasItem g.rules r p item behind
+  pub is_item : IsNumberOf g (plain item) item_number
+  pub is_whole : IsNumberOf g (suffix r p) whole
+  pub goes_on : IsBinarySymbolOf g (suffix r (suc p))
+
+-- the links lead from each item that has an item behind it to the suffix that it begins
+pub record AreWholes (g : Expansion) (wholes : List (List ℕ)) : Type 0 where
+  pub count : length wholes ≡ symbol_count g
+  pub links : (item_number whole : ℕ) → HasLink wholes item_number whole ↔ IsWhole g item_number whole

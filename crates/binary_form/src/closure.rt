@@ -1,0 +1,51 @@
+//! What a number reaches by links.
+ghost use Rattle.std.specs.Prelude.{ℕ, ◌<◌, ◌∷◌, [], length, Contains, IfOk, OnOk};
+ghost use Rattle.binary_form.specs.Flags.{AreLinksWithin, AreReachedFlags, SetsFlags};
+
+use crate::links::Links;
+use std::alloc::{AllocError, Global};
+
+/// Flags the number, which then waits to be looked at, unless it has its flag.
+fn flag(target: u16, flags: &mut Vec<bool>, waiting: &mut Vec<u16>) -> Result<(), AllocError>
+    requires { target < length flags.old.items }
+    ensures { OnOk result
+        (SetsFlags (target ∷ []) flags.old.items flags.new.items waiting.old.items waiting.new.items) }
+{
+    if flags[target as usize] {
+        return Ok(());
+    }
+    flags[target as usize] = true;
+    waiting.push(target)?;
+    Ok(())
+}
+
+fn flag_all(
+    targets: &[u16],
+    flags: &mut Vec<bool>,
+    waiting: &mut Vec<u16>,
+) -> Result<(), AllocError>
+    requires { (n : ℕ) → Contains targets.now n → n < length flags.old.items }
+    ensures { OnOk result
+        (SetsFlags targets.now flags.old.items flags.new.items waiting.old.items waiting.new.items) }
+{
+    for target in targets {
+        flag(*target, flags, waiting)?;
+    }
+    Ok(())
+}
+
+/// For each number, whether it is reached by links from this one, which is reached by none. It
+/// looks at each number that is reached, and at each of its links, once.
+pub fn reached_from(alloc: Global, links: &Links, from: u16) -> Result<Vec<bool>, AllocError>
+    requires from { from < length links.now }
+    requires within { AreLinksWithin links.now }
+    ensures { IfOk result (λ flags. AreReachedFlags links.now from flags.items) }
+{
+    let mut flags = vec![in alloc; false; links.count()]?;
+    flags[from as usize] = true;
+    let mut waiting = vec![in alloc; from]?;
+    while let Some(number) = waiting.pop() {
+        flag_all(links.from(number), &mut flags, &mut waiting)?;
+    }
+    Ok(flags)
+}

@@ -1,0 +1,70 @@
+//! Links from numbers to numbers.
+ghost use Rattle.std.specs.Prelude.{◌≡◌, ◌<◌, [], length, slice_index_or, IsTrue, IfOk, OnOk, OnErr};
+ghost use Rattle.binary_form.specs.Links.{AddsLink, AddsLinks, AreNoLinks};
+
+use sqlite_items::Items;
+use std::alloc::{AllocError, Global};
+use std::marker::Model;
+
+/// For each number, the numbers that it is linked to.
+#[derive(Debug, Drop)]
+pub struct Links {
+    lists: Vec<Items<u16>>,
+}
+
+impl Model for Links {
+    ghost use Rattle.std.specs.Prelude.{List, ℕ};
+
+    ghost Value = { List (List ℕ) };
+
+    ghost view = { λ links. links.lists.items };
+}
+
+impl Links {
+    /// No links, among so many numbers.
+    pub fn new(alloc: Global, count: usize) -> Result<Links, AllocError>
+        ensures { IfOk result (AreNoLinks count) }
+    {
+        let mut lists = Vec::with_capacity(alloc, count)?;
+        for _number in 0..count {
+            lists.push(Items::new(alloc))?;
+        }
+        Ok(Links { lists })
+    }
+
+    /// How many numbers there are.
+    pub fn count(&self) -> usize
+        ensures { result ≡ length self.now }
+    {
+        self.lists.len()
+    }
+
+    /// The numbers that this one is linked to.
+    pub fn from(&self, number: u16) -> &[u16]
+        requires { number < length self.now }
+        ensures { result.now ≡ slice_index_or self.now number [] }
+    {
+        self.lists[number as usize].as_slice()
+    }
+
+    /// Links one number to another.
+    pub fn add(&mut self, from: u16, to: u16) -> Result<(), AllocError>
+        requires { from < length self.old }
+        ensures ok { OnOk result (AddsLink self.old self.new from to) }
+        ensures err { OnErr result (self.new ≡ self.old) }
+    {
+        self.lists[from as usize].push(to)
+    }
+
+    /// Links one number to another where the test holds.
+    pub fn add_if(&mut self, test: bool, from: u16, to: u16) -> Result<(), AllocError>
+        requires { IsTrue test → from < length self.old }
+        ensures { OnOk result
+            (AddsLinks (λ m n. IsTrue test × (m ≡ from) × (n ≡ to)) self.old self.new) }
+    {
+        if test {
+            self.add(from, to)?;
+        }
+        Ok(())
+    }
+}

@@ -1,0 +1,79 @@
+//! The unit steps of a grammar, and where its suffixes go on, as links between numbers.
+ghost use Rattle.std.specs.Prelude.{◌↔◌, ◌≡◌, ◌<◌, ◌^◌, ◌+◌, length, IsTrue, IsFalse, IfOk, OnOk};
+ghost use Rattle.binary_form.specs.Symbols.{symbol_count};
+ghost use Rattle.binary_form.specs.Links.{AddsLinks};
+ghost use Rattle.binary_form.specs.Wholes.{AreWholes};
+ghost use Rattle.binary_form.specs.Flags.{IsSet};
+ghost use Rattle.binary_form.specs.Rows.{AreRows, IsRowWithin};
+ghost use Rattle.binary_form.specs.NullableNumbers.{AreNullableNumbers};
+ghost use Rattle.binary_form.specs.RowLinks.{IsRowStep, AreUnitSteps};
+
+use crate::links::Links;
+use crate::nullable::is_rest_nullable;
+use crate::numbering::plain_count;
+use crate::rows::SuffixRow;
+use lbnf_grammar::Grammar;
+use std::alloc::{AllocError, Global};
+
+/// Whether the suffix goes on behind its item, and the item derives the empty span.
+fn is_item_passed(nullable: &[bool], row: &SuffixRow) -> bool
+    requires { row.now.item < length nullable.now }
+    ensures { IsTrue result ↔ (IsFalse row.now.is_last × IsSet nullable.now row.now.item) }
+{
+    !row.is_last && nullable[row.item as usize]
+}
+
+/// Adds the unit steps of the suffix of this number.
+fn add_steps(
+    links: &mut Links,
+    nullable: &[bool],
+    row: &SuffixRow,
+    whole: u16,
+) -> Result<(), AllocError>
+    requires few { length nullable.now < 2 ^ 16 }
+    requires links { length links.old ≡ length nullable.now }
+    requires row { IsRowWithin row.now whole (length nullable.now) }
+    ensures { OnOk result (AddsLinks (IsRowStep nullable.now row.now whole) links.old links.new) }
+{
+    let passed = is_item_passed(nullable, row);
+    let empty = is_rest_nullable(nullable, row, whole);
+    links.add_if(row.is_first, whole, row.category)?;
+    links.add_if(empty, row.item, whole)?;
+    links.add_if(passed, whole + 1, whole)?;
+    Ok(())
+}
+
+/// The unit steps between the symbols: each suffix gives three at most.
+pub fn unit_steps(
+    alloc: Global,
+    grammar: &Grammar,
+    rows: &[SuffixRow],
+    nullable: &[bool],
+) -> Result<Links, AllocError>
+    requires few { symbol_count grammar.now < 2 ^ 16 }
+    requires rows { AreRows grammar.now rows.now }
+    requires nullable { AreNullableNumbers grammar.now nullable.now }
+    ensures { IfOk result (AreUnitSteps grammar.now) }
+{
+    let first = plain_count(grammar);
+    let mut links = Links::new(alloc, nullable.len())?;
+    for (number, row) in rows.iter().enumerate() {
+        add_steps(&mut links, nullable, row, first + number as u16)?;
+    }
+    Ok(links)
+}
+
+/// Where suffixes go on behind their items: the number of such an item is linked to that of the
+/// suffix which it begins.
+pub fn wholes_of(alloc: Global, grammar: &Grammar, rows: &[SuffixRow]) -> Result<Links, AllocError>
+    requires few { symbol_count grammar.now < 2 ^ 16 }
+    requires rows { AreRows grammar.now rows.now }
+    ensures { IfOk result (AreWholes grammar.now) }
+{
+    let first = plain_count(grammar);
+    let mut links = Links::new(alloc, first as usize + rows.len())?;
+    for (number, row) in rows.iter().enumerate() {
+        links.add_if(!row.is_last, row.item, first + number as u16)?;
+    }
+    Ok(links)
+}
