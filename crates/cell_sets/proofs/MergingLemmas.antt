@@ -22,8 +22,10 @@ pub nothing_merged :
 nothing_merged left right rising_left rising_right = record {
   rising_left = rising_left;
   rising_right = rising_right;
-  union = λ s. (Contains-append_cases left right s,
-    elim [ inl has ↦ Contains-append_left left right s has | inr has ↦ Contains-append_right left right s has ]);
+  union = λ s. (
+    Contains-append_cases left right s,
+    elim [ inl has ↦ Contains-append_left left right s has | inr has ↦ Contains-append_right left right s has ],
+  );
 }
 
 -- a lower number than the first that is left comes before it
@@ -59,8 +61,8 @@ has_once both x y xs ys s same =
     ap (λ l. l ++ ys) (append_assoc both (x ∷ []) xs) in
     let old = has_between (both ++ x ∷ xs) ys y s in
     let first : s ≡ y → Contains ((both ++ x ∷ xs) ++ ys) s = λ e.
-      Contains-append_left (both ++ x ∷ xs) ys s
-      (Contains-append_right both (x ∷ xs) s (rw (e ∙ sym same) (has_first x xs))) in
+    Contains-append_left (both ++ x ∷ xs) ys s
+    (Contains-append_right both (x ∷ xs) s (rw (e ∙ sym same) (has_first x xs))) in
     rw parts ((λ has. old.1 (inl has)), (λ has. elim (old.0 has) [ inl one ↦ one | inr e ↦ first e ]))
 
 module _ (left right both : List ℕ) (x y : ℕ) (xs ys : List ℕ) (merging : IsMerging left right both (x ∷ xs) (y ∷ ys)) where
@@ -78,9 +80,9 @@ module _ (left right both : List ℕ) (x y : ℕ) (xs ys : List ℕ) (merging : 
     rising_left = lower_before both y x ys xs merging.rising_right merging.rising_left lower;
     rising_right = rw (append_assoc both (y ∷ []) ys) merging.rising_right;
     union = λ s.
-      let moved = has_moved both (x ∷ xs) ys y s in
-      let old = merging.union s in
-      ((λ has. old.0 (moved.0 has)), (λ has. moved.1 (old.1 has)));
+        let moved = has_moved both (x ∷ xs) ys y s in
+        let old = merging.union s in
+        ((λ has. old.0 (moved.0 has)), (λ has. moved.1 (old.1 has)));
   }
 
   -- the same number is taken once from both lists
@@ -89,9 +91,9 @@ module _ (left right both : List ℕ) (x y : ℕ) (xs ys : List ℕ) (merging : 
     rising_left = rw (append_assoc both (x ∷ []) xs) merging.rising_left;
     rising_right = rw (append_assoc both (x ∷ []) ys, same) merging.rising_right;
     union = λ s.
-      let once = has_once both x y xs ys s same in
-      let old = merging.union s in
-      ((λ has. old.0 (once.0 has)), (λ has. once.1 (old.1 has)));
+        let once = has_once both x y xs ys s same in
+        let old = merging.union s in
+        ((λ has. old.0 (once.0 has)), (λ has. once.1 (old.1 has)));
   }
 
 -- two lists are merged up to a place of each
@@ -109,12 +111,12 @@ module _ (left right both : List ℕ) (i j : ℕ) (in_left : i < length left) (i
   -- the left list gives its next number, which is lower
   pub left_taken : Less ≡ nat_cmp x y → IsMerging left right (both ++ x ∷ []) (drop (i + 1) left) (drop j right)
   left_taken is = rw (drop_more right j 0 in_right)
-    (left_merged left right both x y (drop (i + 1) left) (drop (j + 1) right) next (ranked x y Less is))
+      (left_merged left right both x y (drop (i + 1) left) (drop (j + 1) right) next (ranked x y Less is))
 
   -- the right list gives its next number, which is lower
   pub right_taken : Greater ≡ nat_cmp x y → IsMerging left right (both ++ y ∷ []) (drop i left) (drop (j + 1) right)
   right_taken is = rw (drop_more left i 0 in_left)
-    (right_merged left right both x y (drop (i + 1) left) (drop (j + 1) right) next (ranked x y Greater is))
+      (right_merged left right both x y (drop (i + 1) left) (drop (j + 1) right) next (ranked x y Greater is))
 
   -- both lists give the same number
   pub both_taken : Equal ≡ nat_cmp x y → IsMerging left right (both ++ x ∷ []) (drop (i + 1) left) (drop (j + 1) right)

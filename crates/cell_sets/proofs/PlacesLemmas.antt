@@ -62,4 +62,4 @@ pub place_searched :
 place_searched xs symbol (Ok at) rising search = searched xs symbol (Ok at) search (never_falls xs rising)
 place_searched xs symbol (Err at) rising search =
     let found = searched xs symbol (Err at) search (never_falls xs rising) in
-    record { within = found.0; below = found.1; above = found.2; }
+    record { within = found.0; below = found.1; above = found.2 }

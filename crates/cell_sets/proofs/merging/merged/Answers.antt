@@ -8,7 +8,7 @@ loop-i-init c = record {
   left = omega arith;
   right = omega arith;
   merging = rw c.in_ok-both.ensures.items
-    (nothing_merged c.args.left.now c.args.right.now c.requires.left c.requires.right);
+      (nothing_merged c.args.left.now c.args.right.now c.requires.left c.requires.right);
 }
 
 pub loop-i-preserved-in-Less : goal.loop-i-preserved-in-Less
@@ -16,7 +16,7 @@ loop-i-preserved-in-Less c = record {
   left = omega (arith, c.loop-i-test.true);
   right = c.loop-i.invariant.right;
   merging = rw c.in_ok-push-in-Less.ensures.items
-    (left_taken c.args.left.now c.args.right.now c.loop-i.both.items c.loop-i.i c.loop-i.j c.loop-i-test.true c.if-j-right.true c.loop-i.invariant.merging c.in-Less.ensures);
+      (left_taken c.args.left.now c.args.right.now c.loop-i.both.items c.loop-i.i c.loop-i.j c.loop-i-test.true c.if-j-right.true c.loop-i.invariant.merging c.in-Less.ensures);
 }
 
 pub loop-i-preserved-in-Equal : goal.loop-i-preserved-in-Equal
@@ -24,7 +24,7 @@ loop-i-preserved-in-Equal c = record {
   left = omega (arith, c.loop-i-test.true);
   right = omega (arith, c.if-j-right.true);
   merging = rw c.in_ok-push-in-Equal.ensures.items
-    (both_taken c.args.left.now c.args.right.now c.loop-i.both.items c.loop-i.i c.loop-i.j c.loop-i-test.true c.if-j-right.true c.loop-i.invariant.merging c.in-Equal.ensures);
+      (both_taken c.args.left.now c.args.right.now c.loop-i.both.items c.loop-i.i c.loop-i.j c.loop-i-test.true c.if-j-right.true c.loop-i.invariant.merging c.in-Equal.ensures);
 }
 
 pub loop-i-preserved : goal.loop-i-preserved
@@ -32,7 +32,7 @@ loop-i-preserved c = record {
   left = c.loop-i.invariant.left;
   right = omega (arith, c.if-j-right.true);
   merging = rw c.in_ok-push-in-Greater.ensures.items
-    (right_taken c.args.left.now c.args.right.now c.loop-i.both.items c.loop-i.i c.loop-i.j c.loop-i-test.true c.if-j-right.true c.loop-i.invariant.merging c.in-Greater.ensures);
+      (right_taken c.args.left.now c.args.right.now c.loop-i.both.items c.loop-i.i c.loop-i.j c.loop-i-test.true c.if-j-right.true c.loop-i.invariant.merging c.in-Greater.ensures);
 }
 
 pub returns-clause-ok : goal.returns-clause-ok
