@@ -1,5 +1,5 @@
 -- Laws of two lists in rising order that are being merged.
-use Rattle.std.proofs.Common.{◌≡◌, ℕ, ◌+◌, ◌-◌, ◌<◌, ◌≤◌, ◌⊎◌, ◌↔◌, List, [], ◌∷◌, ◌++◌, length, get_or, take, drop, Less, Equal, Greater, refl, sym, ◌∙◌, ap, subst, append_assoc, inl, inr, arith}
+use Rattle.std.proofs.Common.{◌≡◌, ℕ, ◌+◌, ◌-◌, ◌<◌, ◌≤◌, ◌⊎◌, ◌↔◌, List, [], ◌∷◌, ◌++◌, length, get_or, take, drop, Less, Equal, Greater, refl, sym, ◌∙◌, ap, append_assoc, inl, inr, arith}
 use Rattle.std.specs.List.{Contains}
 use Rattle.std.specs.Ordering.{nat_cmp}
 use Rattle.std.proofs.lemmas.Cmp.{ranked}
@@ -8,7 +8,7 @@ use Rattle.std.proofs.lemmas.List.{drop_more, take_rest, append-nil}
 use Rattle.std.proofs.lemmas.List.Elements.{Contains-append_left, Contains-append_right, Contains-append_cases}
 use Rattle.cell_sets.specs.Cells.{IsRising, IsUnion}
 use Rattle.cell_sets.proofs.CellsLemmas.{first_below, has_first, first_or_behind}
-use Rattle.cell_sets.proofs.RisingLemmas.{IsBefore, rising_front, rising_rest, rising_before, rising_between, has_between}
+use Rattle.cell_sets.proofs.RisingLemmas.{rising_rest, rising_before, rising_between, has_between}
 
 -- what is merged stands in rising order before what is left of each list, and with that it has what the lists have
 pub record IsMerging (left right both rest_left rest_right : List ℕ) : Type 0 where
