@@ -5,6 +5,12 @@ use crate::{Cell, ListCell, union_into};
 use std::alloc::{AllocError, Global};
 use std::test::Fail;
 
+fn room_of<C: Cell>() -> u32
+    ensures { result ≡ C.ROOM }
+{
+    C::ROOM
+}
+
 /// A cell with these symbols, and whether each was new.
 fn filled<C: Cell>(alloc: Global, symbols: &[u16]) -> Result<(C, Vec<bool>), AllocError>
     requires { C.ROOM ≡ 65536 }
@@ -73,6 +79,11 @@ fn emptiness<C: Cell>(alloc: Global) -> Result<(bool, bool, bool), AllocError>
     let empty = C::empty();
     let (one, _) = filled::<C>(alloc, &[0])?;
     Ok((empty.is_empty(), empty.has(0), one.is_empty()))
+}
+
+#[test]
+fn a_list_cell_has_room_for_each_number_of_16_bits(rt: HostRuntime) {
+    assert_eq!(rt; room_of::<ListCell>(), 65536);
 }
 
 #[test]
