@@ -10,7 +10,8 @@ use Rattle.cell_sets.specs.Cells.{IsRising, IsUnion}
 use Rattle.cell_sets.proofs.CellsLemmas.{first_below, has_first, first_or_behind}
 use Rattle.cell_sets.proofs.RisingLemmas.{rising_rest, rising_before, rising_between, has_between}
 
--- what is merged stands in rising order before what is left of each list, and with that it has what the lists have
+-- what is merged stands in rising order before what is left of each list, and with that it has what
+-- the lists have
 pub record IsMerging (left right both rest_left rest_right : List ℕ) : Type 0 where
   pub rising_left : IsRising (both ++ rest_left)
   pub rising_right : IsRising (both ++ rest_right)
@@ -30,13 +31,17 @@ nothing_merged left right rising_left rising_right = record {
 
 -- a lower number than the first that is left comes before it
 lower_before :
-    (both : List ℕ) (x y : ℕ) (xs ys : List ℕ) → IsRising (both ++ x ∷ xs) → IsRising (both ++ y ∷ ys) → x < y
+    (both : List ℕ) (x y : ℕ) (xs ys : List ℕ)
+    → IsRising (both ++ x ∷ xs) → IsRising (both ++ y ∷ ys) → x < y
     → IsRising ((both ++ x ∷ []) ++ y ∷ ys)
 lower_before both x y xs ys rising_x rising_y lower =
-    let below : (s : ℕ) → Contains both s → s < x = λ s has. rising_before both (x ∷ xs) rising_x s x has (has_first x xs) in
+    let below : (s : ℕ) → Contains both s → s < x =
+    λ s has. rising_before both (x ∷ xs) rising_x s x has (has_first x xs) in
     let above : (t : ℕ) → Contains (y ∷ ys) t → x < t = λ t has. elim (first_or_behind y ys t has) [
       | inl first ↦ omega (arith, lower, first)
-      | inr behind ↦ let far : y < t = first_below y ys t (rising_rest both (y ∷ ys) rising_y) behind in omega (arith, lower)
+      | inr behind ↦
+          let far : y < t = first_below y ys t (rising_rest both (y ∷ ys) rising_y) behind in
+          omega (arith, lower)
     ] in
     rw (append_assoc both (x ∷ []) (y ∷ ys)) (rising_between both (y ∷ ys) x rising_y below above)
 
@@ -65,7 +70,10 @@ has_once both x y xs ys s same =
     (Contains-append_right both (x ∷ xs) s (rw (e ∙ sym same) (has_first x xs))) in
     rw parts ((λ has. old.1 (inl has)), (λ has. elim (old.0 has) [ inl one ↦ one | inr e ↦ first e ]))
 
-module _ (left right both : List ℕ) (x y : ℕ) (xs ys : List ℕ) (merging : IsMerging left right both (x ∷ xs) (y ∷ ys)) where
+-- two lists are merged, and these are the numbers that are left of each
+module _
+    (left right both : List ℕ) (x y : ℕ) (xs ys : List ℕ)
+    (merging : IsMerging left right both (x ∷ xs) (y ∷ ys)) where
   -- the lower number is taken from the left list
   pub left_merged : x < y → IsMerging left right (both ++ x ∷ []) xs (y ∷ ys)
   left_merged lower = record {
@@ -97,7 +105,9 @@ module _ (left right both : List ℕ) (x y : ℕ) (xs ys : List ℕ) (merging : 
   }
 
 -- two lists are merged up to a place of each
-module _ (left right both : List ℕ) (i j : ℕ) (in_left : i < length left) (in_right : j < length right) (merging : IsMerging left right both (drop i left) (drop j right)) where
+module _
+    (left right both : List ℕ) (i j : ℕ) (in_left : i < length left) (in_right : j < length right)
+    (merging : IsMerging left right both (drop i left) (drop j right)) where
   abbrev x : ℕ
   x = get_or left i 0
 
@@ -109,22 +119,32 @@ module _ (left right both : List ℕ) (i j : ℕ) (in_left : i < length left) (i
   next = rw (drop_more left i 0 in_left, drop_more right j 0 in_right) at merging
 
   -- the left list gives its next number, which is lower
-  pub left_taken : Less ≡ nat_cmp x y → IsMerging left right (both ++ x ∷ []) (drop (i + 1) left) (drop j right)
+  pub left_taken :
+      Less ≡ nat_cmp x y
+      → IsMerging left right (both ++ x ∷ []) (drop (i + 1) left) (drop j right)
   left_taken is = rw (drop_more right j 0 in_right)
       (left_merged left right both x y (drop (i + 1) left) (drop (j + 1) right) next (ranked x y Less is))
 
   -- the right list gives its next number, which is lower
-  pub right_taken : Greater ≡ nat_cmp x y → IsMerging left right (both ++ y ∷ []) (drop i left) (drop (j + 1) right)
+  pub right_taken :
+      Greater ≡ nat_cmp x y
+      → IsMerging left right (both ++ y ∷ []) (drop i left) (drop (j + 1) right)
   right_taken is = rw (drop_more left i 0 in_left)
       (right_merged left right both x y (drop (i + 1) left) (drop (j + 1) right) next (ranked x y Greater is))
 
   -- both lists give the same number
-  pub both_taken : Equal ≡ nat_cmp x y → IsMerging left right (both ++ x ∷ []) (drop (i + 1) left) (drop (j + 1) right)
+  pub both_taken :
+      Equal ≡ nat_cmp x y
+      → IsMerging left right (both ++ x ∷ []) (drop (i + 1) left) (drop (j + 1) right)
   both_taken is =
       both_merged left right both x y (drop (i + 1) left) (drop (j + 1) right) next (ranked x y Equal is)
 
--- two lists are merged up to a place of each, and then what is left of the left list and of the right one is put behind
-module _ (left right both more all : List ℕ) (i j : ℕ) (with_left : more ≡ both ++ take (length left - i) (drop i left)) (with_right : all ≡ more ++ take (length right - j) (drop j right)) (merging : IsMerging left right both (drop i left) (drop j right)) where
+-- two lists are merged up to a place of each, and then what is left of each is put behind
+module _
+    (left right both more all : List ℕ) (i j : ℕ)
+    (with_left : more ≡ both ++ take (length left - i) (drop i left))
+    (with_right : all ≡ more ++ take (length right - j) (drop j right))
+    (merging : IsMerging left right both (drop i left) (drop j right)) where
   -- the whole is what is merged and what is left of each
   whole : all ≡ (both ++ drop i left) ++ drop j right
   whole = rw (with_right, with_left, take_rest left i, take_rest right j) refl
@@ -135,6 +155,7 @@ module _ (left right both more all : List ℕ) (i j : ℕ) (with_left : more ≡
 
   -- where one list is at its end, the whole is in rising order
   pub rising_merged : (length left ≤ i) ⊎ (length right ≤ j) → IsRising all
-  rising_merged (inl end) = rw (whole, drop_of_length-le left end, append-nil both) merging.rising_right
+  rising_merged (inl end) =
+      rw (whole, drop_of_length-le left end, append-nil both) merging.rising_right
   rising_merged (inr end) =
       rw (whole, drop_of_length-le right end, append-nil (both ++ drop i left)) merging.rising_left

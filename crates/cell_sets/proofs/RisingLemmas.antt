@@ -48,12 +48,14 @@ pub rising_before : (xs ys : List ℕ) → IsRising (xs ++ ys) → IsBefore xs y
 rising_before [] ys rising s t (n, within, at) has = absurd (omega (arith, within))
 rising_before (x ∷ xs) ys rising s t has_s has_t = elim (first_or_behind x xs s has_s) [
   | inl first ↦
-      let below : x < t = first_below x (xs ++ ys) t rising (Contains-append_right xs ys t has_t) in omega (arith, first)
+      let below : x < t =
+      first_below x (xs ++ ys) t rising (Contains-append_right xs ys t has_t) in omega (arith, first)
   | inr behind ↦ rising_before xs ys (rising_tail x (xs ++ ys) rising) s t behind has_t
 ]
 
 -- a list in rising order stays so with a number before it that is below all of it
-pub rising_first : (y : ℕ) (ys : List ℕ) → IsRising ys → ((t : ℕ) → Contains ys t → y < t) → IsRising (y ∷ ys)
+pub rising_first :
+    (y : ℕ) (ys : List ℕ) → IsRising ys → ((t : ℕ) → Contains ys t → y < t) → IsRising (y ∷ ys)
 rising_first y ys rising above = rising_append (y ∷ []) ys one rising before where
   one : IsRising (y ∷ [])
   one i j order within = absurd (omega arith)
@@ -67,7 +69,8 @@ rising_first y ys rising above = rising_append (y ∷ []) ys one rising before w
 -- a list in rising order stays so with a number between what is below it and what is above it
 pub rising_between :
     (xs ys : List ℕ) (y : ℕ) → IsRising (xs ++ ys)
-    → ((s : ℕ) → Contains xs s → s < y) → ((t : ℕ) → Contains ys t → y < t) → IsRising (xs ++ y ∷ ys)
+    → ((s : ℕ) → Contains xs s → s < y) → ((t : ℕ) → Contains ys t → y < t)
+    → IsRising (xs ++ y ∷ ys)
 rising_between xs ys y rising below above =
     let rest : IsRising (y ∷ ys) = rising_first y ys (rising_rest xs ys rising) above in
     let before : IsBefore xs (y ∷ ys) = λ s t has_s has_t. elim (first_or_behind y ys t has_t) [
