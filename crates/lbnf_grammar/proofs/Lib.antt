@@ -3,3 +3,5 @@ pub mod TextLemmas
 pub mod DistinctLemmas
 pub mod TableLemmas
 pub mod CheckingLemmas
+pub mod NullableLemmas
+pub mod PushedLemmas

@@ -1,5 +1,6 @@
 pub mod Grammars
+pub mod Nullable
 pub mod Numbering
 pub mod Tables
 pub mod Checking
-pub mod Nullable
+pub mod NullablePasses

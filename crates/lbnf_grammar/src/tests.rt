@@ -1,4 +1,6 @@
 //! Grammars that are expanded and that are refused, with numbers by hand.
+mod empty_spans;
+
 use super::*;
 use lbnf_text::{Label, Name, read_defs};
 use std::alloc::Global;
@@ -131,5 +133,18 @@ fn no_definitions_are_a_grammar(rt: HostRuntime) -> Result<(), Fail> {
     assert_eq!(rt; grammar.category_count(), 0);
     assert_eq!(rt; grammar.kind_count(), 0);
     assert_eq!(rt; grammar.find(b"E".as_slice()), None);
+    Ok(())
+}
+
+#[test]
+fn no_category_is_nullable_where_each_side_has_a_word_or_two_categories(
+    rt: HostRuntime,
+) -> Result<(), Fail> {
+    let grammar = expanded(rt.alloc(), SUMS)
+        .ok_or("the form")?
+        .ok()
+        .ok_or("a grammar")?;
+    let flags = nullable_categories(rt.alloc(), &grammar)?;
+    assert_eq!(rt; flags.as_slice(), [false, false, false].as_slice());
     Ok(())
 }

@@ -1,5 +1,6 @@
 -- Laws of derivation: how far a tree reaches, empty spans, and one step down a tree.
-use Rattle.std.proofs.Common.{◌≡◌, ℕ, ◌+◌, ◌-◌, ◌<◌, ◌≤◌, ◌⊎◌, ◌↔◌, List, [], ◌∷◌, Option, Some, length, slice_get, refl, sym, ◌∙◌, ap, inl, inr, arith}
+use Rattle.std.proofs.Common.{◌≡◌, ℕ, ◌+◌, ◌-◌, ◌<◌, ◌≤◌, ◌⊎◌, ◌↔◌, List, [], ◌∷◌, Option, Some, length, slice_get, refl, sym, subst, ◌∙◌, ap, inl, inr, arith}
+use Rattle.std.specs.List.{AllByRecursion}
 use Rattle.std.proofs.lemmas.Option.{slice_get_within}
 use Rattle.spec_grammar.specs.declared.rule.Symbol.{Symbol}
 use Rattle.spec_grammar.specs.declared.rule.Symbol.TheVariants.{Category, Kind}
@@ -201,3 +202,22 @@ module _ (rules : List Rule) where
     (λ d. tree_anywhere [] kinds d.0 s 0 0 i d.1 (omega arith)),
     (λ d. tree_anywhere kinds [] d.0 s i i 0 d.1 (omega arith)),
   )
+
+  -- items derive the empty span exactly where each of them is nullable
+  pub nullable_items :
+      (items : List Symbol)
+      → DerivesAll rules [] items 0 0 ↔ AllByRecursion (IsNullable rules) items
+  nullable_items [] = ((λ d. tt), (λ each. (none_derive [] 0 0).1 refl))
+  nullable_items (s ∷ rest) = (
+    (λ d.
+        let parts = parts_of ((some_derive [] s rest 0 0).0 d) in
+        (parts.0, (nullable_items rest).0 parts.1)),
+    (λ each. (some_derive [] s rest 0 0).1 (0, each.0, (nullable_items rest).1 each.1)),
+  )
+    where
+      parts_of : DeriveInTurn rules [] s rest 0 0 → IsNullable rules s × DerivesAll rules [] rest 0 0
+      parts_of d =
+          let here : d.0 ≡ 0 = omega (arith, (derives_all_within [] rest d.0 0 d.2).0) in
+          let first : ℕ → Type 0 = λ k. Derives rules [] s 0 k in
+          let others : ℕ → Type 0 = λ k. DerivesAll rules [] rest k 0 in
+          (subst first here d.1, subst others here d.2)

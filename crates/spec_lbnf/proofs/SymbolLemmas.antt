@@ -1,16 +1,15 @@
 -- The symbols of the rules that definitions give are symbols of their grammar.
-use Rattle.std.proofs.Common.{◌≡◌, ℕ, zero, suc, ◌<◌, List, [], ◌∷◌, length, map, Some, All, Contains, slice_get, sym, subst, ap, option_map, ◌∙◌, arith}
+use Rattle.std.proofs.Common.{◌≡◌, ℕ, zero, suc, ◌<◌, List, [], ◌∷◌, length, map, Some, Contains, slice_get, sym, subst, ap, option_map, ◌∙◌, arith}
 use Rattle.std.specs.List.{flat_map, AllByRecursion}
 use Rattle.std.proofs.lemmas.List.{length-map}
 use Rattle.std.proofs.lemmas.List.Elements.{All-from_recursion, Contains-append_left, Contains-append_right, Contains-get_or}
 use Rattle.std.proofs.lemmas.Option.{slice_get_within, slice_get-map, none-some, same_Some}
-use Rattle.spec_grammar.specs.declared.rule.Symbol.TheVariants.{Category}
 use Rattle.spec_grammar.specs.declared.rule.Rule.{Rule}
 use Rattle.spec_lbnf.specs.declared.definition.RawItem.{RawItem}
 use Rattle.spec_lbnf.specs.declared.definition.RawItem.TheVariants.{Cat, Word}
 use Rattle.spec_lbnf.specs.declared.definition.RawRule.{RawRule}
 use Rattle.spec_lbnf.specs.declared.definition.Def.{Def}
-use Rattle.spec_lbnf.specs.Expansion.{IsSymbolOf, category_text, rules_of, item_categories, item_words, categories_of, words_of, distinct, number_of, symbol_of, numbered_rule, expansion_of}
+use Rattle.spec_lbnf.specs.Expansion.{IsSymbolOf, HasSymbolsOf, category_text, rules_of, item_categories, item_words, categories_of, words_of, distinct, number_of, symbol_of, numbered_rule, expansion_of}
 use Rattle.spec_lbnf.specs.Laws.{OwnSymbols}
 use Rattle.spec_lbnf.proofs.NameLemmas.{numbers_name_back, distinct_names}
 use Rattle.spec_lbnf.proofs.FileLemmas.{item_at}
@@ -64,12 +63,8 @@ module _ (defs : List Def) where
     items_own items named (λ name there. told name (behind_there word name (item_words items) there)),
   )
 
-  -- the rule is of a category of the grammar, and has symbols of it as its items
-  abbrev IsOwnRule : Rule → Type 0
-  IsOwnRule rule = IsSymbolOf (expansion_of defs) (Category rule.category) × All (IsSymbolOf (expansion_of defs)) rule.items
-
-  -- each rule as it is written gives such a rule
-  rule_own : (r : ℕ) (rule : RawRule) → slice_get (rules_of defs) r ≡ Some rule → IsOwnRule (numbered_rule categories words rule)
+  -- each rule as it is written gives one with symbols of the grammar
+  rule_own : (r : ℕ) (rule : RawRule) → slice_get (rules_of defs) r ≡ Some rule → HasSymbolsOf (expansion_of defs) (numbered_rule categories words rule)
   rule_own r rule is =
       let meets : RawRule → List (List ℕ) = λ (raw : RawRule). category_text raw.cat ∷ item_categories raw.items in
       let tells : RawRule → List (List ℕ) = λ (raw : RawRule). item_words raw.items in
@@ -89,4 +84,4 @@ own_symbols defs r rule is =
     let within : r < length raws = omega (arith, length-map raws numbered, slice_get_within (map numbered raws) r rule is) in
     let raw = item_at raws r within in
     let same : numbered raw.0 ≡ rule = same_Some _ _ (sym (slice_get-map numbered raws r ∙ ap (option_map numbered) raw.1) ∙ is) in
-    subst (IsOwnRule defs) same (rule_own defs r raw.0 raw.1)
+    subst (HasSymbolsOf (expansion_of defs)) same (rule_own defs r raw.0 raw.1)

@@ -25,11 +25,13 @@ abbrev pub IsSymbolOf : Expansion → Symbol → Type 0
 IsSymbolOf g (Category c) = c < length g.categories
 IsSymbolOf g (Kind k) = k < length g.kinds
 
--- each rule of the grammar is of a category of it, and its items are symbols of it
+-- the rule's category is one of the grammar, and its items are symbols of it
+abbrev pub HasSymbolsOf : Expansion → Rule → Type 0
+HasSymbolsOf g rule = IsSymbolOf g (Category rule.category) × All (IsSymbolOf g) rule.items
+
+-- each rule of the grammar has symbols of the grammar
 abbrev pub HasOwnSymbols : Expansion → Type 0
-HasOwnSymbols g =
-    (r : ℕ) (rule : Rule) → slice_get g.rules r ≡ Some rule
-    → IsSymbolOf g (Category rule.category) × All (IsSymbolOf g) rule.items
+HasOwnSymbols g = (r : ℕ) (rule : Rule) → slice_get g.rules r ≡ Some rule → HasSymbolsOf g rule
 
 -- how many items the rules have together
 abbrev pub item_count : List Rule → ℕ

@@ -1,0 +1,158 @@
+-- What flags say of the symbols that derive the empty span, and flags that are set rule by rule.
+use Rattle.std.proofs.Common.{◌≡◌, ◌≢◌, ℕ, zero, suc, ◌+◌, ◌<◌, ◌⊎◌, List, [], ◌∷◌, Bool, true, false, ◌&&◌, IsTrue, length, slice_get, slice_set, slice_index_or, Some, refl, sym, ◌∙◌, ap, subst, inl, inr, arith, get_or-set_other}
+use Rattle.std.specs.List.{list_all, AllByRecursion}
+use Rattle.std.proofs.lemmas.Bool.{false≢true}
+use Rattle.std.proofs.lemmas.List.{length-set}
+use Rattle.std.proofs.lemmas.List.Elements.{recursion_from_All}
+use Rattle.std.proofs.lemmas.Option.{none-some, same_Some, slice_get_within}
+use Rattle.spec_grammar.specs.declared.rule.Symbol.{Symbol}
+use Rattle.spec_grammar.specs.declared.rule.Symbol.TheVariants.{Category, Kind}
+use Rattle.spec_grammar.specs.declared.rule.Rule.{Rule}
+use Rattle.spec_grammar.specs.Trees.{Tree, leaf, node, Forest, no_trees, trees}
+use Rattle.spec_grammar.specs.Derivation.{IsParseTree, AreParseTrees, DerivesAll, IsNullable}
+use Rattle.spec_grammar.proofs.DerivationLemmas.{kind_derives, category_derives, nullable_items}
+use Rattle.spec_lbnf.specs.Expansion.{Expansion, IsSymbolOf}
+use Rattle.lbnf_grammar.specs.Nullable.{AreNullableFlags, flag_of, TellsNullable, TellsAllNullable}
+use Rattle.lbnf_grammar.specs.NullablePasses.{AreSound, IsMet, AreMet, HaveFlags, MeetsRule, ArePassed, clear_count}
+
+-- both of two tests pass
+both : (a b : Bool) → IsTrue a → IsTrue b → IsTrue (a && b)
+both a b e f = rw (e, f) refl
+
+-- where both of two tests pass, each does
+each_of : (a b : Bool) → IsTrue (a && b) → IsTrue a × IsTrue b
+each_of true b e = (refl, e)
+each_of false b e = absurd (false≢true e)
+
+-- no kind derives the empty span
+kind_not_nullable : (rules : List Rule) (k : ℕ) → IsNullable rules (Kind k) → ⊥
+kind_not_nullable rules k d = none-some _ ((kind_derives rules [] k 0 0).0 d).0
+
+-- the flag of a symbol says whether it derives the empty span
+pub flag_tells : (flags : List Bool) (symbol : Symbol) → TellsNullable flags symbol (flag_of flags symbol)
+flag_tells flags (Category c) g are own = are.exact c own
+flag_tells flags (Kind k) g are own = ((λ e. absurd (false≢true e)), (λ d. absurd (kind_not_nullable g.rules k d)))
+
+module _ (g : Expansion) (flags : List Bool) (are : AreNullableFlags g flags) where
+  -- flagged items are nullable
+  flagged_nullable : (items : List Symbol) → AllByRecursion (IsSymbolOf g) items
+      → IsTrue (list_all (flag_of flags) items) → AllByRecursion (IsNullable g.rules) items
+  flagged_nullable [] own e = tt
+  flagged_nullable (s ∷ items) own e =
+      let parts = each_of (flag_of flags s) (list_all (flag_of flags) items) e in
+      ((flag_tells flags s g are own.0).0 parts.0, flagged_nullable items own.1 parts.1)
+
+  -- nullable items are flagged
+  nullable_flagged : (items : List Symbol) → AllByRecursion (IsSymbolOf g) items
+      → AllByRecursion (IsNullable g.rules) items → IsTrue (list_all (flag_of flags) items)
+  nullable_flagged [] own each = refl
+  nullable_flagged (s ∷ items) own each =
+      both (flag_of flags s) (list_all (flag_of flags) items)
+      ((flag_tells flags s g are own.0).1 each.0) (nullable_flagged items own.1 each.1)
+
+-- the flags of items say whether they derive the empty span
+pub flags_tell : (flags : List Bool) (items : List Symbol) → TellsAllNullable flags items (list_all (flag_of flags) items)
+flags_tell flags items g are own =
+    let each = recursion_from_All (IsSymbolOf g) items own in (
+      (λ e. (nullable_items g.rules items).1 (flagged_nullable g flags are items each e)),
+      (λ d. nullable_flagged g flags are items each ((nullable_items g.rules items).0 d)),
+    )
+
+module _ (rules : List Rule) (flags : List Bool) where
+  -- the items of sound flags that are set are nullable
+  sound_items : AreSound rules flags → (items : List Symbol) → IsTrue (list_all (flag_of flags) items)
+      → AllByRecursion (IsNullable rules) items
+  sound_items sound [] e = tt
+  sound_items sound (Category c ∷ items) e =
+      let parts = each_of (slice_index_or flags c false) (list_all (flag_of flags) items) e in
+      (sound c parts.0, sound_items sound items parts.1)
+  sound_items sound (Kind k ∷ items) e = absurd (false≢true e)
+
+  -- a rule of flagged items makes its category nullable
+  rule_nullable : AreSound rules flags → (r : ℕ) (rule : Rule) → slice_get rules r ≡ Some rule
+      → IsTrue (list_all (flag_of flags) rule.items) → IsNullable rules (Category rule.category)
+  rule_nullable sound r rule is e =
+      let derive : DerivesAll rules [] rule.items 0 0 = (nullable_items rules rule.items).1 (sound_items sound rule.items e) in
+      (category_derives rules [] rule.category 0 0).1 (r, rule, is, refl, derive)
+
+  -- so its category may be flagged
+  sound_set : AreSound rules flags → (r : ℕ) (rule : Rule) → slice_get rules r ≡ Some rule
+      → IsTrue (list_all (flag_of flags) rule.items) → AreSound rules (slice_set flags rule.category true)
+  sound_set sound r rule is e c set = elim (same_or_other rule.category c) [
+    | inl same ↦
+        let P : ℕ → Type 0 = λ n. IsNullable rules (Category n) in
+        subst P same (rule_nullable sound r rule is e)
+    | inr other ↦ sound c (rw get_or-set_other at set)
+  ]
+    where
+      same_or_other : (a b : ℕ) → (a ≡ b) ⊎ (b ≢ a)
+      same_or_other a b = grind arith
+
+  -- where each rule is met, the symbol of a tree over no token is flagged
+  module _ (met : AreMet rules flags (length rules)) where
+    mutual
+      tree_flagged : (t : Tree) (s : Symbol) (i j : ℕ) → IsParseTree rules [] t s i j → IsTrue (flag_of flags s)
+      tree_flagged (leaf kind first end) s i j is = absurd (none-some _ is.1)
+      tree_flagged (node r first end subtrees) s i j is =
+          let within : r < length rules = slice_get_within rules r is.0 is.1 in
+          rw is.2 (met r is.0 within is.1 (forest_flagged subtrees (is.0).items i j is.3))
+
+      -- and so are the items of trees side by side
+      forest_flagged : (ts : Forest) (items : List Symbol) (i j : ℕ) → AreParseTrees rules [] ts items i j → IsTrue (list_all (flag_of flags) items)
+      forest_flagged no_trees items i j are = rw are.0 refl
+      forest_flagged (trees t ts) items i j are =
+          rw are.3 (both (flag_of flags are.0) (list_all (flag_of flags) are.1) (tree_flagged t are.0 i are.2 are.4) (forest_flagged ts are.1 are.2 j are.5))
+
+-- sound flags by which each rule is met are those of the nullable categories
+pub exact_flags : (g : Expansion) (flags : List Bool) → length flags ≡ length g.categories
+    → AreSound g.rules flags → AreMet g.rules flags (length g.rules) → AreNullableFlags g flags
+exact_flags g flags count sound met = record {
+  count = count;
+  exact = λ c lt. (sound c, λ d. tree_flagged g.rules flags met d.0 (Category c) 0 0 d.1);
+}
+
+-- one clear flag less, where a clear one is set
+fewer_clear : (flags : List Bool) (c : ℕ) → c < length flags → slice_index_or flags c false ≡ false
+    → clear_count (slice_set flags c true) < clear_count flags
+fewer_clear [] c lt clear = absurd (omega arith)
+fewer_clear (true ∷ flags) zero lt clear = absurd (false≢true (sym clear))
+fewer_clear (false ∷ flags) zero lt clear = omega arith
+fewer_clear (true ∷ flags) (suc c) lt clear = fewer_clear flags c (omega arith) clear
+fewer_clear (false ∷ flags) (suc c) lt clear = let fewer = fewer_clear flags c (omega arith) clear in omega arith
+
+-- one more rule is met
+met_more : (rules : List Rule) (flags : List Bool) (n : ℕ) (rule : Rule) → slice_get rules n ≡ Some rule
+    → IsMet flags rule → AreMet rules flags n → AreMet rules flags (n + 1)
+met_more rules flags n rule is met before r x lt at = elim (before_or_last r n lt) [
+  | inl less ↦ before r x less at
+  | inr last ↦
+      let same : rule ≡ x = same_Some _ _ (sym is ∙ ap (slice_get rules) (sym last) ∙ at) in
+      subst (IsMet flags) same met
+]
+  where
+    before_or_last : (r n : ℕ) → r < n + 1 → (r < n) ⊎ (r ≡ n)
+    before_or_last r n lt = grind arith
+
+module _ (rules : List Rule) (start old new : List Bool) (n : ℕ) (rule : Rule) (has_set : Bool) (is : slice_get rules n ≡ Some rule) where
+  -- the rule set a flag
+  pub passed_setting : HaveFlags rules (length start) → MeetsRule old new rule true → ArePassed rules start old n has_set → ArePassed rules start new (n + 1) true
+  passed_setting have meets passed =
+      let within : rule.category < length old = rw passed.len (have n rule is) in
+      let fewer : clear_count new < clear_count old = rw meets.2 (fewer_clear old rule.category within meets.0) in
+      record {
+        sound = rw meets.2 (sound_set rules old passed.sound n rule is meets.1);
+        len = rw meets.2 (length-set old rule.category true ∙ passed.len);
+        falls = omega (arith, fewer, passed.falls);
+        some = λ e. omega (arith, fewer, passed.falls);
+        none = λ e. absurd (false≢true (sym e));
+      }
+
+  -- the rule was met before
+  pub passed_met : MeetsRule old new rule false → ArePassed rules start old n has_set → ArePassed rules start new (n + 1) has_set
+  passed_met meets passed = rw meets.1 (record {
+    sound = passed.sound;
+    len = passed.len;
+    falls = passed.falls;
+    some = passed.some;
+    none = λ e. met_more rules old n rule is meets.0 (passed.none e);
+  })

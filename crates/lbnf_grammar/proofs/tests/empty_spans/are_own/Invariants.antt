@@ -1,0 +1,10 @@
+use Rattle.std.proofs.Common.{ℕ, ◌<◌, [], slice_index_or}
+use Rattle.spec_grammar.specs.declared.rule.Symbol.{Symbol}
+use Rattle.spec_lbnf.specs.Expansion.{IsSymbolOf}
+use Rattle.lbnf_grammar.proofs.tests.empty_spans.are_own.Given as goal
+
+-- the items so far are symbols of the grammar
+abbrev pub invariant-loop-item : goal.invariant-loop-item
+invariant-loop-item l =
+    (k : ℕ) (other : Symbol) → k < l.item-index
+    → IsSymbolOf (record { rules = []; categories = l.categories; kinds = l.kinds }) (slice_index_or l.items k other)

@@ -1,0 +1,46 @@
+-- Flags on the way to those of the nullable categories. Serves the proofs alone.
+use Rattle.std.specs.Prelude.{◌≡◌, ℕ, ◌<◌, ◌≤◌, List, Bool, true, false, not, filter, IsTrue, IsFalse, Some, length, slice_get, slice_set, slice_index_or}
+use Rattle.std.specs.List.{list_all}
+use Rattle.spec_grammar.specs.declared.rule.Symbol.TheVariants.{Category}
+use Rattle.spec_grammar.specs.declared.rule.Rule.{Rule}
+use Rattle.spec_grammar.specs.Derivation.{IsNullable}
+use Rattle.lbnf_grammar.specs.Nullable.{flag_of}
+
+-- each flag that is set is that of a category that derives the empty span
+abbrev pub AreSound : List Rule → List Bool → Type 0
+AreSound rules flags =
+    (c : ℕ) → IsTrue (slice_index_or flags c false) → IsNullable rules (Category c)
+
+-- the flag of the rule's category is set, if those of its items are
+abbrev pub IsMet : List Bool → Rule → Type 0
+IsMet flags rule =
+    IsTrue (list_all (flag_of flags) rule.items) → IsTrue (slice_index_or flags rule.category false)
+
+-- each of the first n rules is met
+abbrev pub AreMet : List Rule → List Bool → ℕ → Type 0
+AreMet rules flags n =
+    (r : ℕ) (rule : Rule) → r < n → slice_get rules r ≡ Some rule → IsMet flags rule
+
+-- each rule's category has a flag
+abbrev pub HaveFlags : List Rule → ℕ → Type 0
+HaveFlags rules count = (r : ℕ) (rule : Rule) → slice_get rules r ≡ Some rule → rule.category < count
+
+-- how many flags are clear
+abbrev pub clear_count : List Bool → ℕ
+clear_count flags = length (filter not flags)
+
+-- the rule was not met, and its category's flag alone was set; or it was met, and none was
+abbrev pub MeetsRule : List Bool → List Bool → Rule → Bool → Type 0
+MeetsRule old new rule true =
+    (slice_index_or old rule.category false ≡ false) × IsTrue (list_all (flag_of old) rule.items)
+    × (new ≡ slice_set old rule.category true)
+MeetsRule old new rule false = IsMet old rule × (new ≡ old)
+
+-- the flags after the first n rules of a pass, which began with these and has set one or none
+pub record ArePassed
+    (rules : List Rule) (start flags : List Bool) (n : ℕ) (has_set : Bool) : Type 0 where
+  pub sound : AreSound rules flags
+  pub len : length flags ≡ length start
+  pub falls : clear_count flags ≤ clear_count start
+  pub some : IsTrue has_set → clear_count flags < clear_count start
+  pub none : IsFalse has_set → AreMet rules flags n

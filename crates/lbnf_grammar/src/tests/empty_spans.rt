@@ -1,0 +1,217 @@
+//! Nullable categories of small grammars, whose rules are built by hand.
+ghost use Rattle.std.specs.Prelude.{◌↔◌, IsTrue, [], IfSome, All};
+ghost use Rattle.spec_lbnf.specs.Expansion.{IsSymbolOf, HasSymbolsOf};
+
+use crate::*;
+use lbnf_text::{Label, Name};
+use std::alloc::Global;
+use std::test::*;
+
+fn is_own(categories: &[Name], kinds: &[KindDef], symbol: Symbol) -> bool
+    ensures { IsTrue result ↔ IsSymbolOf
+        (record { rules = []; categories = categories.now; kinds = kinds.now }) symbol }
+{
+    match symbol {
+        Symbol::Category(c) => (c as usize) < categories.len(),
+        Symbol::Kind(k) => (k as usize) < kinds.len(),
+    }
+}
+
+fn are_own(categories: &[Name], kinds: &[KindDef], items: &[Symbol]) -> bool
+    ensures { IsTrue result → All (IsSymbolOf
+        (record { rules = []; categories = categories.now; kinds = kinds.now })) items.now }
+{
+    for item in items {
+        if !is_own(categories, kinds, *item) {
+            return false;
+        }
+    }
+    true
+}
+
+/// The rule without a name, and `None` where a symbol has no name or memory ran out.
+fn rule_of(
+    alloc: Global,
+    categories: &[Name],
+    kinds: &[KindDef],
+    category: u16,
+    items: &[Symbol],
+) -> Option<Rule>
+    ensures { IfSome result (HasSymbolsOf
+        (record { rules = []; categories = categories.now; kinds = kinds.now })) }
+{
+    if !is_own(categories, kinds, Symbol::Category(category)) {
+        return None;
+    }
+    if !are_own(categories, kinds, items) {
+        return None;
+    }
+    let label = Label::Wild;
+    let items = Items::from_slice(alloc, items).ok()?;
+    Some(Rule {
+        label,
+        category,
+        items,
+    })
+}
+
+fn unnamed(alloc: Global) -> Name {
+    Name::of(Vec::new(alloc))
+}
+
+/// The grammar of these rules over the categories 0 to 3 and the kind 0, whose names are empty.
+fn grammar_of(alloc: Global, sides: &[(u16, &[Symbol])]) -> Option<Grammar> {
+    let categories = vec![in alloc;
+        unnamed(alloc),
+        unnamed(alloc),
+        unnamed(alloc),
+        unnamed(alloc),
+    ]
+    .ok()?;
+    let kinds = vec![in alloc; KindDef::Word(unnamed(alloc))].ok()?;
+    let mut rules = Vec::new(alloc);
+    for (category, items) in sides {
+        let rule = rule_of(
+            alloc,
+            categories.as_slice(),
+            kinds.as_slice(),
+            *category,
+            items,
+        )?;
+        rules.push(rule).ok()?;
+    }
+    if rules.len() > 100 {
+        return None;
+    }
+    Some(Grammar::of(rules, categories, kinds))
+}
+
+const A: Symbol = Symbol::Category(0);
+
+const B: Symbol = Symbol::Category(1);
+
+const C: Symbol = Symbol::Category(2);
+
+const D: Symbol = Symbol::Category(3);
+
+const WORD: Symbol = Symbol::Kind(0);
+
+const EMPTY: &[Symbol] = &[];
+
+/// A grammar as it is written, with "w" for the word; its rules; and which of A, B, C and D are
+/// nullable by them.
+type Case = (&'static str, &'static [(u16, &'static [Symbol])], [bool; 4]);
+
+const CASES: &[Case] = &[
+    ("", &[], [false, false, false, false]),
+    ("A ::= ;", &[(0, EMPTY)], [true, false, false, false]),
+    (
+        "A ::= \"w\";",
+        &[(0, &[WORD])],
+        [false, false, false, false],
+    ),
+    (
+        "A ::= B C; B ::= ; C ::= ; D ::= \"w\";",
+        &[(0, &[B, C]), (1, EMPTY), (2, EMPTY), (3, &[WORD])],
+        [true, true, true, false],
+    ),
+    (
+        "A ::= B C; B ::= ; C ::= \"w\";",
+        &[(0, &[B, C]), (1, EMPTY), (2, &[WORD])],
+        [false, true, false, false],
+    ),
+    (
+        "A ::= C B; B ::= ; C ::= \"w\";",
+        &[(0, &[C, B]), (1, EMPTY), (2, &[WORD])],
+        [false, true, false, false],
+    ),
+    (
+        "A ::= B B B; B ::= ;",
+        &[(0, &[B, B, B]), (1, EMPTY)],
+        [true, true, false, false],
+    ),
+    (
+        "A ::= B \"w\" B; B ::= ;",
+        &[(0, &[B, WORD, B]), (1, EMPTY)],
+        [false, true, false, false],
+    ),
+    ("A ::= A;", &[(0, &[A])], [false, false, false, false]),
+    (
+        "A ::= B; B ::= A;",
+        &[(0, &[B]), (1, &[A])],
+        [false, false, false, false],
+    ),
+    (
+        "A ::= A A; A ::= ;",
+        &[(0, &[A, A]), (0, EMPTY)],
+        [true, false, false, false],
+    ),
+    (
+        "A ::= \"w\"; A ::= B; B ::= ;",
+        &[(0, &[WORD]), (0, &[B]), (1, EMPTY)],
+        [true, true, false, false],
+    ),
+    (
+        "A ::= B; B ::= C; C ::= D; D ::= ;",
+        &[(0, &[B]), (1, &[C]), (2, &[D]), (3, EMPTY)],
+        [true, true, true, true],
+    ),
+    (
+        "D ::= ; C ::= D; B ::= C; A ::= B;",
+        &[(3, EMPTY), (2, &[D]), (1, &[C]), (0, &[B])],
+        [true, true, true, true],
+    ),
+    (
+        "A ::= B; B ::= C; C ::= D; D ::= \"w\" D;",
+        &[(0, &[B]), (1, &[C]), (2, &[D]), (3, &[WORD, D])],
+        [false, false, false, false],
+    ),
+];
+
+#[test]
+fn a_category_is_nullable_where_a_rule_of_it_has_nullable_items_alone(
+    rt: HostRuntime,
+) -> Result<(), Fail> {
+    for (text, rules, want) in CASES {
+        let grammar = grammar_of(rt.alloc(), rules).ok_or("a grammar")?;
+        let flags = nullable_categories(rt.alloc(), &grammar)?;
+        assert_eq!(rt; flags.as_slice(), want.as_slice(), "at {text:?}");
+    }
+    Ok(())
+}
+
+const FLAGS: [bool; 3] = [true, false, true];
+
+#[test]
+fn a_kind_is_not_nullable_and_a_category_is_where_its_flag_is_set(
+    rt: HostRuntime,
+) -> Result<(), Fail> {
+    for (symbol, want) in [(A, true), (B, false), (C, true), (D, false), (WORD, false)] {
+        assert_eq!(rt;
+            is_nullable(FLAGS.as_slice(), symbol),
+            want,
+            "at {symbol:?}"
+        );
+    }
+    Ok(())
+}
+
+#[test]
+fn a_side_is_nullable_where_each_of_its_items_is(rt: HostRuntime) -> Result<(), Fail> {
+    let cases = [
+        (EMPTY, true),
+        ([A].as_slice(), true),
+        ([B].as_slice(), false),
+        ([WORD].as_slice(), false),
+        ([A, C].as_slice(), true),
+        ([A, C, A].as_slice(), true),
+        ([A, B].as_slice(), false),
+        ([B, C].as_slice(), false),
+        ([A, WORD].as_slice(), false),
+        ([A, WORD, C].as_slice(), false),
+    ];
+    for (items, want) in cases {
+        assert_eq!(rt; are_nullable(FLAGS.as_slice(), items), want, "at {items:?}");
+    }
+    Ok(())
+}
