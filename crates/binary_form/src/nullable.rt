@@ -9,7 +9,7 @@ ghost use Rattle.binary_form.specs.NullableNumbers.{IsRestNullable};
 
 use crate::numbering::{plain_count, symbol_count};
 use crate::rows::SuffixRow;
-use lbnf_grammar::Grammar;
+use lbnf_grammar::{Grammar, nullable_categories};
 use std::alloc::{AllocError, Global};
 
 /// Whether the items behind the one that begins this suffix derive the empty span, if there are any.
@@ -58,4 +58,19 @@ fn with_suffixes(
     flags.resize(symbol_count(grammar) as usize, false)?;
     flag_suffixes(grammar, rows, &mut flags);
     Ok(flags)
+}
+
+/// For each symbol, whether it derives the empty span. It looks at each suffix once, behind what
+/// the flags of the categories cost.
+pub fn nullable_numbers(
+    alloc: Global,
+    grammar: &Grammar,
+    rows: &[SuffixRow],
+) -> Result<Vec<bool>, AllocError>
+    requires few { symbol_count grammar.now < 2 ^ 16 }
+    requires rows { AreRows grammar.now rows.now }
+    ensures { IfOk result (λ flags. AreNullableNumbers grammar.now flags.items) }
+{
+    let categories = nullable_categories(alloc, grammar)?;
+    with_suffixes(grammar, rows, categories)
 }
