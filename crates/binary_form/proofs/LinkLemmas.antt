@@ -1,11 +1,11 @@
 -- What one link more changes.
-use Rattle.std.proofs.Common.{◌≡◌, ◌≢◌, ℕ, zero, suc, ◌<◌, ◌↔◌, ◌⊎◌, inl, inr, List, [], ◌∷◌, ◌++◌, Bool, IsTrue, length, get_or, slice_set, replicate}
-use Rattle.std.proofs.Common.{slice_index_or, refl, sym, ap, ◌∙◌, arith, length-set, get_or-set_other, subst}
+use Rattle.std.proofs.Common.{◌≡◌, ◌≢◌, ℕ, zero, suc, ◌<◌, ◌↔◌, ◌⊎◌, inl, inr, List, [], ◌∷◌, ◌++◌, Bool, IsTrue, length, slice_set, replicate}
+use Rattle.std.proofs.Common.{slice_index_or, sym, ap, ◌∙◌, arith, length-set, get_or-set_other, subst}
 use Rattle.std.specs.List.{Contains}
 use Rattle.std.proofs.lemmas.List.{get_or_default}
 use Rattle.std.proofs.lemmas.Grind.{get_or-set_at}
 use Rattle.std.proofs.lemmas.List.Elements.{Contains-append_left, Contains-append_right, Contains-append_cases}
-use Rattle.binary_form.specs.Links.{HasLink, AddsLinks, AddsLink, AreNoLinks}
+use Rattle.binary_form.specs.Links.{HasLink, AddsLinks, AddsLink}
 
 -- two numbers are the same, or they differ
 pub same_or_other : (m n : ℕ) → (m ≡ n) ⊎ (m ≢ n)

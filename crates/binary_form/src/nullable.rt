@@ -12,7 +12,8 @@ use crate::rows::SuffixRow;
 use lbnf_grammar::{Grammar, nullable_categories};
 use std::alloc::{AllocError, Global};
 
-/// Whether the items behind the one that begins this suffix derive the empty span, if there are any.
+/// Whether the items behind the one that begins this suffix derive the empty span, if there are
+/// any.
 pub fn is_rest_nullable(flags: &[bool], row: &SuffixRow, whole: u16) -> bool
     requires { IsRowWithin row.now whole (length flags.now) }
     ensures { IsTrue result ↔ IsRestNullable flags.now row.now whole }
