@@ -1,16 +1,17 @@
--- The closure of unit steps and products is derivation. By the parse tree, what derives a span is given by its
--- token or by a cut of it; step by step, what is given so is derived.
-use Rattle.std.proofs.Common.{◌≡◌, ℕ, ◌<◌, ◌≤◌, ◌⊎◌, ◌↔◌, List, [], ◌∷◌, Option, Some, slice_get, drop, zero, suc, refl, sym, ◌∙◌, ap, subst, inl, inr, arith}
+-- The closure of unit steps and products is derivation: what derives a span is given by its token or by
+-- a cut of it, by the parse tree, and what is given so is derived, step by step.
+use Rattle.std.proofs.Common.{◌≡◌, ℕ, ◌<◌, ◌≤◌, ◌⊎◌, List, ◌∷◌, Option, Some, slice_get, drop, suc, refl, ◌∙◌, ap, subst, inl, inr, arith}
 use Rattle.spec_grammar.specs.declared.rule.Symbol.{Symbol}
 use Rattle.spec_grammar.specs.declared.rule.Symbol.TheVariants.{Category, Kind}
 use Rattle.spec_grammar.specs.declared.rule.Rule.{Rule}
 use Rattle.spec_grammar.specs.Trees.{Tree, leaf, node, Forest, no_trees, trees}
-use Rattle.spec_grammar.specs.Derivation.{IsParseTree, AreParseTrees, Derives, DerivesAll, IsNullable}
-use Rattle.spec_grammar.proofs.DerivationLemmas.{forest_ordered, tree_ordered, forest_anywhere, tree_anywhere, kind_derives, category_derives, some_derive, nullable_derives}
+use Rattle.spec_grammar.specs.Derivation.{IsParseTree, AreParseTrees, Derives, DerivesAll}
+use Rattle.spec_grammar.proofs.DerivationLemmas.{forest_ordered, tree_ordered, kind_derives, category_derives, some_derive, nullable_derives}
 use Rattle.binary_form.specs.Symbols.{BinarySymbol, plain, suffix, BinaryDerives}
-use Rattle.binary_form.specs.UnitSteps.{HasItem, AreNullable, UnitStep, whole_side, last_item, passed_item, Reaches, stay, step, IsInProduct}
+use Rattle.binary_form.specs.UnitSteps.{HasItem, UnitStep, whole_side, last_item, passed_item, Reaches, stay, step}
 use Rattle.binary_form.specs.Laws.{IsOfToken, IsOfCut, ClosureIsDerivation}
 use Rattle.binary_form.proofs.ItemLemmas.{drop_behind, same_rule, items_behind}
+use Rattle.binary_form.proofs.EmptySpanLemmas.{items_nullable, nullable_items}
 
 -- a cut of a span lies within it, or at one of its ends
 cut_cases :
@@ -18,18 +19,6 @@ cut_cases :
 cut_cases i k j from to = grind arith
 
 module _ (rules : List Rule) where
-  -- items that derive an empty span are nullable
-  pub items_nullable :
-      (kinds : List (Option ℕ)) (items : List Symbol) (i : ℕ)
-      → DerivesAll rules kinds items i i → AreNullable rules items
-  items_nullable kinds items i d = forest_anywhere rules kinds [] d.0 items i i 0 d.1 (omega arith)
-
-  -- nullable items derive each empty span
-  pub nullable_items :
-      (kinds : List (Option ℕ)) (items : List Symbol) (i : ℕ)
-      → AreNullable rules items → DerivesAll rules kinds items i i
-  nullable_items kinds items i d = forest_anywhere rules [] kinds d.0 items 0 0 i d.1 (omega arith)
-
   module _ (kinds : List (Option ℕ)) where
     -- a suffix derives what its first item and the items behind it derive in turn
     suffix_joined :
@@ -47,8 +36,9 @@ module _ (rules : List Rule) where
         → HasItem rules r p s behind → BinaryDerives rules kinds (suffix r (suc p)) i j
         → DerivesAll rules kinds behind i j
     behind_derives r p s behind i j has d =
-        let same : drop (suc p) (d.0).items ≡ behind = items_behind rules r p s behind d.0 has d.1 in
-        rw same at d.2
+        let items : drop (suc p) (d.0).items ≡ behind =
+        items_behind rules r p s behind d.0 has d.1 in
+        rw items at d.2
 
     -- what the items behind an item derive, the suffix behind it derives
     derives_behind :
@@ -69,7 +59,7 @@ module _ (rules : List Rule) where
         ap (λ (x : Rule). x.category) (same_rule rules r d.0 rule d.1 is) in
         (category_derives rules kinds rule.category i j).1 (r, d.0, d.1, same, d.2)
     step_derives a b i j (last_item {r = r} {p = p} {s = s} {behind = behind} has empty) d =
-        suffix_joined r p s behind i j j has d (nullable_items kinds behind j empty)
+        suffix_joined r p s behind i j j has d (nullable_items rules kinds behind j empty)
     step_derives a b i j (passed_item {r = r} {p = p} {s = s} {behind = behind} has empty) d =
         suffix_joined r p s behind i i j has ((nullable_derives rules kinds s i).0 empty)
         (behind_derives r p s behind i j has d)
@@ -121,7 +111,7 @@ module _ (rules : List Rule) where
           },
         )
 
-    -- a suffix is given where its first item and the suffix behind it are, each if its part is not empty
+    -- a suffix is given where its first item and the suffix behind it are, each over a part with a token
     suffix_given :
         (r p : ℕ) (s : Symbol) (behind : List Symbol) (i k j : ℕ)
         → HasItem rules r p s behind → Derives rules kinds s i k
@@ -153,7 +143,7 @@ module _ (rules : List Rule) where
               step_given (suffix r (suc p)) (suffix r p) i j (passed_item has empty) given
           | inr (inr at_end) ↦
               let Empty : ℕ → Type 0 = λ n. DerivesAll rules kinds behind n j in
-              let empty = items_nullable kinds behind j (subst Empty at_end others) in
+              let empty = items_nullable rules kinds behind j (subst Empty at_end others) in
               let Given : ℕ → Type 0 = λ n. IsGiven (plain s) i n in
               let given = subst Given at_end (item (omega arith)) in
               step_given (plain s) (suffix r p) i j (last_item has empty) given
@@ -167,7 +157,8 @@ module _ (rules : List Rule) where
       tree_given (leaf kind first end) s i j is order = inl (kind, is.1, is.2, (rw is.0 stay))
       tree_given (node r first end subtrees) s i j is order =
           let whole = forest_given subtrees r 0 is.0 is.1 (is.0).items refl i j is.3 order in
-          rw is.2 (step_given (suffix r 0) (plain (Category (is.0).category)) i j (whole_side is.1) whole)
+          let category : BinarySymbol = plain (Category (is.0).category) in
+          rw is.2 (step_given (suffix r 0) category i j (whole_side is.1) whole)
 
       -- so is the suffix whose items have trees side by side there
       forest_given :

@@ -1,8 +1,7 @@
 -- The items of rules by their places, and the suffixes that they begin.
-use Rattle.std.proofs.Common.{◌≡◌, ℕ, ◌<◌, List, [], ◌∷◌, Some, length, slice_get, drop, zero, suc, All, refl, ◌∙◌, ap, arith}
+use Rattle.std.proofs.Common.{◌≡◌, ℕ, ◌<◌, List, [], ◌∷◌, Some, length, slice_get, drop, zero, suc, refl, ◌∙◌, ap, arith}
 use Rattle.std.proofs.lemmas.List.Elements.{All-drop}
 use Rattle.spec_grammar.specs.declared.rule.Symbol.{Symbol}
-use Rattle.spec_grammar.specs.declared.rule.Symbol.TheVariants.{Category}
 use Rattle.spec_grammar.specs.declared.rule.Rule.{Rule}
 use Rattle.spec_lbnf.specs.Expansion.{Expansion, IsSymbolOf, HasOwnSymbols}
 use Rattle.binary_form.specs.Symbols.{plain, suffix, IsBinarySymbolOf}
@@ -70,15 +69,22 @@ module _ (rules : List Rule) where
     is_item = drop_from_get rule.items p s is_item;
   }
 
+  -- the suffix that an item begins has it, and the items behind it
+  pub items_from :
+      (r p : ℕ) (s : Symbol) (behind : List Symbol) (rule : Rule)
+      → HasItem rules r p s behind → slice_get rules r ≡ Some rule
+      → drop p rule.items ≡ s ∷ behind
+  items_from r p s behind rule has is =
+      let same : rule ≡ has.rule = same_rule r rule has.rule is has.is_rule in
+      ap (λ (x : Rule). drop p x.items) same ∙ has.is_item
+
   -- the suffix behind an item has the items behind it
   pub items_behind :
       (r p : ℕ) (s : Symbol) (behind : List Symbol) (rule : Rule)
       → HasItem rules r p s behind → slice_get rules r ≡ Some rule
       → drop (suc p) rule.items ≡ behind
   items_behind r p s behind rule has is =
-      let same : rule ≡ has.rule = same_rule r rule has.rule is has.is_rule in
-      ap (λ (x : Rule). drop (suc p) x.items) same
-      ∙ drop_behind (has.rule).items p s behind has.is_item
+      drop_behind rule.items p s behind (items_from r p s behind rule has is)
 
   -- the first of the items behind an item is the next item
   pub next_item :

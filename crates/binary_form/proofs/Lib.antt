@@ -1,8 +1,16 @@
 pub mod ItemLemmas
+pub mod EmptySpanLemmas
 pub mod ClosureLemmas
 pub mod NumberLemmas
 pub mod ReachLemmas
 pub mod ProductLemmas
+pub mod CellLemmas
+pub mod TripleSteps
+pub mod BracketSteps
+pub mod Examples
+pub mod FormLemmas
+pub mod GivingLemmas
+pub mod WholeLemmas
 pub mod LinkLemmas
 pub mod FlagLemmas
 pub mod RowLemmas

@@ -1,8 +1,8 @@
 -- What one link more changes.
-use Rattle.std.proofs.Common.{◌≡◌, ◌≢◌, ℕ, zero, suc, ◌<◌, ◌↔◌, ◌⊎◌, inl, inr, List, [], ◌∷◌, ◌++◌, Bool, IsTrue, length, slice_set, replicate}
-use Rattle.std.proofs.Common.{slice_index_or, sym, ap, ◌∙◌, arith, length-set, get_or-set_other, subst}
+use Rattle.std.proofs.Common.{◌≡◌, ◌≢◌, ℕ, zero, suc, ◌<◌, ◌≤◌, ◌↔◌, ◌⊎◌, inl, inr, List, [], ◌∷◌, ◌++◌, Bool, IsTrue, length, get_or, slice_set, replicate}
+use Rattle.std.proofs.Common.{slice_index_or, refl, sym, ap, ◌∙◌, arith, length-set, get_or-set_other, subst}
 use Rattle.std.specs.List.{Contains}
-use Rattle.std.proofs.lemmas.List.{get_or_default}
+use Rattle.std.proofs.lemmas.List.{get_or_default, get_or_past}
 use Rattle.std.proofs.lemmas.Grind.{get_or-set_at}
 use Rattle.std.proofs.lemmas.List.Elements.{Contains-append_left, Contains-append_right, Contains-append_cases}
 use Rattle.binary_form.specs.Links.{HasLink, AddsLinks, AddsLink}
@@ -127,3 +127,16 @@ pub no_link : (count m n : ℕ) → HasLink (replicate count []) m n → ⊥
 no_link zero m n has = omega (arith, has.1)
 no_link (suc count) zero n has = omega (arith, has.1)
 no_link (suc count) (suc m) n has = no_link count m n has
+
+-- only the numbers within the list are linked
+pub link_within : (links : List (List ℕ)) (m n : ℕ) → HasLink links m n → m < length links
+link_within links m n has = elim (within_or_past m (length links)) [
+  | inl within ↦ within
+  | inr past ↦
+      let Has : List ℕ → Type 0 = λ xs. Contains xs n in
+      let none = subst Has (get_or_past links m [] past) has in
+      absurd (omega (arith, none.1))
+]
+  where
+    within_or_past : (k count : ℕ) → (k < count) ⊎ (count ≤ k)
+    within_or_past k count = grind arith

@@ -1,5 +1,5 @@
 -- Products of numbers are products of the symbols that they number.
-use Rattle.std.proofs.Common.{◌≡◌, ℕ, List, suc, Contains, refl, sym, subst}
+use Rattle.std.proofs.Common.{ℕ, List, suc, Contains, refl, sym, subst}
 use Rattle.spec_lbnf.specs.Expansion.{Expansion}
 use Rattle.binary_form.specs.Symbols.{BinarySymbol, plain, suffix, IsBinarySymbolOf, number_of}
 use Rattle.binary_form.specs.UnitSteps.{IsInProduct}
@@ -58,7 +58,7 @@ module _ (g : Expansion) where
 
 -- the product of numbers is the product of the symbols that they number
 pub products_agree : ProductsAgree
-products_agree g left right a own is = (
+products_agree g left right a is = (
   (λ x. makes_product g left right x.0 x.1 a is x.2 x.3 x.4),
   product_makes g left right a is,
 )

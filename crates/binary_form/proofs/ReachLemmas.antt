@@ -1,8 +1,8 @@
 -- What a symbol reaches by unit steps, and what its number reaches.
-use Rattle.std.proofs.Common.{◌≡◌, ℕ, ◌<◌, ◌↔◌, List, suc, refl, sym, ◌∙◌, subst}
+use Rattle.std.proofs.Common.{◌≡◌, ℕ, ◌<◌, ◌↔◌, List, refl, sym, ◌∙◌, subst}
 use Rattle.spec_grammar.specs.declared.rule.Rule.{Rule}
 use Rattle.spec_lbnf.specs.Expansion.{Expansion, HasOwnSymbols}
-use Rattle.binary_form.specs.Symbols.{BinarySymbol, plain, suffix, IsBinarySymbolOf, symbol_count, number_of}
+use Rattle.binary_form.specs.Symbols.{BinarySymbol, IsBinarySymbolOf, symbol_count, number_of}
 use Rattle.binary_form.specs.UnitSteps.{UnitStep, whole_side, last_item, passed_item, Reaches, stay, step}
 use Rattle.binary_form.specs.BinaryForm.{IsNumberOf, IsReachedNumber}
 use Rattle.binary_form.specs.NumberSteps.{StepNumber, NumberReaches, stay as stay_number, step as step_number}
@@ -25,13 +25,21 @@ number_reaches_on Step l m n before stay_number = before
 number_reaches_on Step l m n before (step_number {m = k} behind last) =
     step_number (number_reaches_on Step l m k before behind) last
 
--- where each step of one relation is one of another, what is reached by the one is reached by the other
+-- where each step is one of another relation, what is reached by the one is reached by the other
 pub number_reaches_more :
     (Step Other : ℕ → ℕ → Type 0) (m n : ℕ)
     → ((k l : ℕ) → Step k l → Other k l) → NumberReaches Step m n → NumberReaches Other m n
 number_reaches_more Step Other m n more stay_number = stay_number
 number_reaches_more Step Other m n more (step_number {m = k} before last) =
     step_number (number_reaches_more Step Other m k more before) (more k n last)
+
+-- where each step from what is within goes to what is within, so does what is reached from there
+pub number_reaches_within :
+    (Step : ℕ → ℕ → Type 0) (Within : ℕ → Type 0) (m n : ℕ)
+    → ((k l : ℕ) → Step k l → Within k → Within l) → Within m → NumberReaches Step m n → Within n
+number_reaches_within Step Within m n closed within stay_number = within
+number_reaches_within Step Within m n closed within (step_number {m = k} before last) =
+    closed k n last (number_reaches_within Step Within m k closed within before)
 
 module _ (g : Expansion) where
   -- a unit step goes to a symbol of the grammar
@@ -43,6 +51,13 @@ module _ (g : Expansion) where
       suffix_symbol g r p s behind has
   step_symbol a b own (passed_item {r = r} {p = p} {s = s} {behind = behind} has empty) =
       suffix_symbol g r p s behind has
+
+  -- a unit step from a symbol of the grammar is one from its number
+  pub number_step :
+      (a b : BinarySymbol)
+      → HasOwnSymbols g → IsBinarySymbolOf g a → UnitStep g.rules a b
+      → StepNumber g (number_of g a) (number_of g b)
+  number_step a b own is next = (a, b, (is, refl), (step_symbol a b own next, refl), next)
 
   -- a symbol of the grammar reaches symbols of the grammar
   pub reaches_symbol :

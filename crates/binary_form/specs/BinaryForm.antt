@@ -1,9 +1,13 @@
 -- What a caller sees of the binary form of a grammar.
-use Rattle.std.specs.Prelude.{◌≡◌, ℕ, suc, ◌<◌, ◌↔◌, List, [], Option, Some, length, Contains}
+use Rattle.std.specs.Prelude.{◌≡◌, ℕ, suc, ◌<◌, ◌≤◌, ◌↔◌, List, [], Option, Some, length, Contains}
+use Rattle.std.specs.Prelude.{Result, Ok, Err}
 use Rattle.spec_grammar.specs.declared.rule.Symbol.{Symbol}
 use Rattle.spec_grammar.specs.declared.rule.Symbol.TheVariants.{Kind}
 use Rattle.spec_lbnf.specs.Expansion.{Expansion}
-use Rattle.binary_form.specs.Symbols.{BinarySymbol, plain, suffix, BinaryDerives, IsBinarySymbolOf, number_of}
+use Rattle.binary_form.specs.declared.fault.BinaryFault.{BinaryFault}
+use Rattle.binary_form.specs.declared.fault.BinaryFault.TheVariants.{Memory, TooManySymbols}
+use Rattle.binary_form.specs.Symbols.{BinarySymbol, plain, suffix, BinaryDerives, IsBinarySymbolOf}
+use Rattle.binary_form.specs.Symbols.{symbol_count, number_of}
 use Rattle.binary_form.specs.UnitSteps.{HasItem, Reaches}
 
 -- the number is that of a symbol of the grammar
@@ -49,3 +53,14 @@ IsProductNumber g left right n =
 -- the cell has just the numbers of the product of the two
 abbrev pub IsProductOf : Expansion → List ℕ → List ℕ → List ℕ → Type 0
 IsProductOf g left right cell = (n : ℕ) → Contains cell n ↔ IsProductNumber g left right n
+
+-- the product of the two cells has a symbol
+abbrev pub HasProduct : Expansion → List ℕ → List ℕ → Type 0
+HasProduct g left right = (n : ℕ) × IsProductNumber g left right n
+
+-- the answer on the grammar is its binary form, which is seen as the grammar, or that it has too many symbols; want
+-- of memory comes at no grammar of too many
+abbrev pub MakesBinary : Expansion → Result Expansion BinaryFault → Type 0
+MakesBinary g (Ok binary) = (symbol_count g ≤ 2048) × (binary ≡ g)
+MakesBinary g (Err Memory) = symbol_count g ≤ 2048
+MakesBinary g (Err (TooManySymbols count)) = (count ≡ symbol_count g) × (2048 < count)

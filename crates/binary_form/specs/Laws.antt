@@ -2,8 +2,8 @@
 use Rattle.std.specs.Prelude.{◌≡◌, ℕ, ◌+◌, ◌<◌, ◌⊎◌, ◌↔◌, List, Option, Some, slice_get, Contains}
 use Rattle.spec_grammar.specs.declared.rule.Symbol.TheVariants.{Kind}
 use Rattle.spec_grammar.specs.declared.rule.Rule.{Rule}
-use Rattle.spec_lbnf.specs.Expansion.{Expansion, HasOwnSymbols}
-use Rattle.binary_form.specs.Symbols.{BinarySymbol, plain, suffix, BinaryDerives, IsBinarySymbolOf, symbol_count, number_of}
+use Rattle.spec_lbnf.specs.Expansion.{Expansion}
+use Rattle.binary_form.specs.Symbols.{BinarySymbol, plain, BinaryDerives, IsBinarySymbolOf, symbol_count, number_of}
 use Rattle.binary_form.specs.UnitSteps.{Reaches, IsInProduct}
 use Rattle.binary_form.specs.BinaryForm.{IsProductNumber}
 
@@ -48,6 +48,6 @@ HasSymbol g numbers a = IsBinarySymbolOf g a × Contains numbers (number_of g a)
 -- the product of numbers is the product of the symbols that they number
 abbrev pub ProductsAgree : Type 0
 ProductsAgree =
-    (g : Expansion) (left right : List ℕ) (a : BinarySymbol) → HasOwnSymbols g → IsBinarySymbolOf g a
+    (g : Expansion) (left right : List ℕ) (a : BinarySymbol) → IsBinarySymbolOf g a
     → IsProductNumber g left right (number_of g a)
     ↔ IsInProduct g.rules (HasSymbol g left) (HasSymbol g right) a

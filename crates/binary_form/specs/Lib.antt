@@ -2,6 +2,7 @@ pub mod BinaryForm
 pub mod Symbols
 pub mod UnitSteps
 pub mod Laws
+pub mod Examples
 pub mod NumberSteps
 pub mod Links
 pub mod Wholes
@@ -10,3 +11,5 @@ pub mod Rows
 pub mod NullableNumbers
 pub mod RowLinks
 pub mod FirstSuffixes
+pub mod Forms
+pub mod Products

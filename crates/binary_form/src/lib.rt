@@ -2,13 +2,20 @@
 //! products, after Lange and Leiss (2009). The grammar itself is never converted.
 #![tactic(auto)]
 
+mod build;
 mod closure;
+mod fault;
+mod form;
 mod laws;
 mod links;
 mod nullable;
 mod numbering;
+mod product;
 mod rows;
 mod steps;
 
-pub use laws::{closure_is_derivation, each_symbol_has_its_number, products_agree};
+pub use build::binary;
+pub use fault::BinaryFault;
+pub use form::Binary;
+pub use laws::{closure_is_derivation, each_symbol_has_its_number, products_agree, small_cases};
 pub use numbering::symbol_count;

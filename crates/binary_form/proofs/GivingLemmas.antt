@@ -1,0 +1,228 @@
+-- Lists that grow by what is given: by one giver more, or by the givers below a higher limit.
+use Rattle.std.proofs.Common.{◌≡◌, ℕ, ◌+◌, ◌<◌, ◌≤◌, ◌↔◌, ◌⊎◌, List, [], ◌∷◌, ◌++◌, Some, None, false, IsTrue, inl, inr, length, slice_get, get_or, take, refl, sym, subst, arith, Contains}
+use Rattle.std.proofs.lemmas.Option.{slice_get_read}
+use Rattle.std.proofs.lemmas.List.{take_more, take_all}
+use Rattle.std.proofs.lemmas.List.Elements.{Contains-append_left, Contains-append_right, Contains-append_cases}
+use Rattle.cell_sets.specs.Cells.{IsUnion, IsNextFrom}
+use Rattle.binary_form.specs.Products.{Adds, OneGives, OneGivesBelow, GoesOn, IsInCellAt, WholeGives, IsNextBelow}
+use Rattle.binary_form.proofs.LinkLemmas.{Contains-one}
+
+-- false is not true
+pub not_true : IsTrue false → ⊥
+not_true is = absurd (cc)
+
+-- where the next number of a cell is none, there is none below the count
+pub none_next :
+    (count from : ℕ) (xs : List ℕ) → IsNextFrom xs from None → IsNextBelow count xs from None
+none_next count from xs next s has order below =
+    let under : s < from = next s has in
+    absurd (omega arith)
+
+-- where it is not below the count, no number from there on is
+pub past_next :
+    (count from n : ℕ) (xs : List ℕ)
+    → IsNextFrom xs from (Some n) → count ≤ n → IsNextBelow count xs from None
+past_next count from n xs next past s has order below =
+    let least : n ≤ s = next.2 s has order in
+    absurd (omega arith)
+
+-- a place has one item
+same_item :
+    {C : Type 0} (cells : List C) (n : ℕ) (a b : C)
+    → slice_get cells n ≡ Some a → slice_get cells n ≡ Some b → a ≡ b
+same_item cells n a b is_a is_b = cc
+
+-- the union with the closure of a whole that goes on has what the whole gives
+pub adds_closure :
+    {C : Type 0} (symbols : C → List ℕ) (cells : List C) (right : List ℕ) (whole : ℕ) (closure : C)
+    (old new : List ℕ)
+    → GoesOn right whole → whole < length cells → closure ≡ get_or cells whole closure
+    → IsUnion old (symbols closure) new → Adds (WholeGives symbols cells right whole) old new
+adds_closure {C = C} symbols cells right whole closure old new goes_on within is union n = (to, from)
+  where
+    at : slice_get cells whole ≡ Some closure
+    at = slice_get_read cells (length cells) whole closure refl within is
+
+    to : Contains new n → Contains old n ⊎ WholeGives symbols cells right whole n
+    to has = elim ((union n).0 has) [
+      | inl kept ↦ inl kept
+      | inr added ↦ inr (goes_on, (closure, at, added))
+    ]
+
+    from : Contains old n ⊎ WholeGives symbols cells right whole n → Contains new n
+    from (inl kept) = (union n).1 (inl kept)
+    from (inr given) =
+        let inner = given.1 in
+        let same = same_item cells whole inner.0 closure inner.1 at in
+        let Has : C → Type 0 = λ c. Contains (symbols c) n in
+        (union n).1 (inr (subst Has same inner.2))
+
+-- a whole that does not go on gives nothing
+pub adds_nothing :
+    {C : Type 0} (symbols : C → List ℕ) (cells : List C) (right : List ℕ) (whole : ℕ) (old : List ℕ)
+    → (GoesOn right whole → ⊥) → Adds (WholeGives symbols cells right whole) old old
+adds_nothing symbols cells right whole old stops n =
+    ((λ has. inl has), elim [ inl kept ↦ kept | inr given ↦ absurd (stops given.0) ])
+
+module _ (Fits : ℕ → Type 0) (xs : List ℕ) where
+  -- none of the numbers before the place fits
+  abbrev pub NoneBefore : ℕ → Type 0
+  NoneBefore place = (n : ℕ) → Contains (take place xs) n → Fits n → ⊥
+
+  -- where the number at the place does not fit either, none before the next place does
+  pub none_more :
+      (place : ℕ)
+      → place < length xs → NoneBefore place → (Fits (get_or xs place 0) → ⊥)
+      → NoneBefore (place + 1)
+  none_more place within before last n has fits =
+      elim (Contains-append_cases (take place xs) (get_or xs place 0 ∷ []) n (subst Has front has)) [
+        | inl earlier ↦ before n earlier fits
+        | inr it ↦ last (subst Fits (Contains-one (get_or xs place 0) n it) fits)
+      ]
+    where
+      Has : List ℕ → Type 0
+      Has ys = Contains ys n
+
+      front : take (place + 1) xs ≡ take place xs ++ get_or xs place 0 ∷ []
+      front = take_more xs place 0 within
+
+  -- where all are before the place, none of them fits
+  pub none_of_all :
+      (place : ℕ)
+      → length xs ≤ place → NoneBefore place → (n : ℕ) × Contains xs n × Fits n → ⊥
+  none_of_all place past before found =
+      let Has : List ℕ → Type 0 = λ ys. Contains ys found.0 in
+      before found.0 (subst Has (sym (take_all place xs past)) found.1) found.2
+
+  -- none of the numbers that are below the limit fits
+  abbrev pub NoneBelow : ℕ → Type 0
+  NoneBelow limit = (n : ℕ) → n < limit → Contains xs n → Fits n → ⊥
+
+  -- where the next number does not fit either, none up to it does
+  pub none_up_to :
+      (count from next : ℕ)
+      → IsNextBelow count xs from (Some next) → NoneBelow from → (Fits next → ⊥)
+      → NoneBelow (next + 1)
+  none_up_to count from next is before last n below has fits =
+      elim (earlier_or_it n below) [
+        | inl earlier ↦ before n earlier has fits
+        | inr between ↦
+            let least : next ≤ n = is.3 n has between.0 in
+            let same : n ≡ next = omega (arith, between.1) in
+            last (subst Fits same fits)
+      ]
+    where
+      earlier_or_it : (m : ℕ) → m < next + 1 → (m < from) ⊎ ((from ≤ m) × (m ≤ next))
+      earlier_or_it m under = grind arith
+
+  -- where there is no next number below the count, none below it fits
+  pub none_at_all :
+      (count from : ℕ)
+      → IsNextBelow count xs from None → NoneBelow from → ((n : ℕ) → Fits n → n < count)
+      → (n : ℕ) × Contains xs n × Fits n → ⊥
+  none_at_all count from none before within found =
+      elim (under_or_not found.0) [
+        | inl under ↦ before found.0 under found.1 found.2
+        | inr not_under ↦ none found.0 found.1 not_under (within found.0 found.2)
+      ]
+    where
+      under_or_not : (m : ℕ) → (m < from) ⊎ (from ≤ m)
+      under_or_not m = grind arith
+
+module _ (Gives : ℕ → ℕ → Type 0) where
+  -- no giver gives nothing
+  pub adds_none : (old : List ℕ) → Adds (OneGives Gives []) old old
+  adds_none old n =
+      ((λ has. inl has), elim [ inl kept ↦ kept | inr given ↦ absurd (omega (arith, given.1.1)) ])
+
+  -- one giver more gives its numbers too
+  pub adds_more :
+      (front : List ℕ) (giver : ℕ) (start old new : List ℕ)
+      → Adds (OneGives Gives front) start old → Adds (Gives giver) old new
+      → Adds (OneGives Gives (front ++ giver ∷ [])) start new
+  adds_more front giver start old new before last n = (to, from)
+    where
+      earlier : Contains old n → Contains start n ⊎ OneGives Gives (front ++ giver ∷ []) n
+      earlier has = elim ((before n).0 has) [
+        | inl first ↦ inl first
+        | inr given ↦
+            inr (given.0, Contains-append_left front (giver ∷ []) given.0 given.1, given.2)
+      ]
+
+      to : Contains new n → Contains start n ⊎ OneGives Gives (front ++ giver ∷ []) n
+      to has = elim ((last n).0 has) [
+        | inl kept ↦ earlier kept
+        | inr given ↦
+            inr (giver, Contains-append_right front (giver ∷ []) giver (0, omega arith, refl), given)
+      ]
+
+      from : Contains start n ⊎ OneGives Gives (front ++ giver ∷ []) n → Contains new n
+      from (inl first) = (last n).1 (inl ((before n).1 (inl first)))
+      from (inr given) = elim (Contains-append_cases front (giver ∷ []) given.0 given.1) [
+        | inl in_front ↦ (last n).1 (inl ((before n).1 (inr (given.0, in_front, given.2))))
+        | inr is_last ↦
+            let same : given.0 ≡ giver = Contains-one giver given.0 is_last in
+            let ByGiver : ℕ → Type 0 = λ m. Gives m n in
+            (last n).1 (inr (subst ByGiver same given.2))
+      ]
+
+  module _ (givers : List ℕ) where
+    -- the list has what the givers below the limit give
+    abbrev pub IsGivenBelow : ℕ → List ℕ → Type 0
+    IsGivenBelow limit xs = (n : ℕ) → Contains xs n ↔ OneGivesBelow Gives givers limit n
+
+    -- below 0 there is no giver
+    pub given_start : IsGivenBelow 0 []
+    given_start n =
+        ((λ has. absurd (omega (arith, has.1))), (λ given. absurd (omega (arith, given.1))))
+
+    -- where a giver is the next, the limit goes past it
+    pub given_more :
+        (count from giver : ℕ) (old new : List ℕ)
+        → IsNextBelow count givers from (Some giver) → IsGivenBelow from old
+        → Adds (Gives giver) old new → IsGivenBelow (giver + 1) new
+    given_more count from giver old new next before last n = (to, back)
+      where
+        to : Contains new n → OneGivesBelow Gives givers (giver + 1) n
+        to has = elim ((last n).0 has) [
+          | inl kept ↦
+              let given = (before n).0 kept in
+              (given.0, omega (arith, given.1, next.2), given.2, given.3)
+          | inr given ↦ (giver, omega arith, next.0, given)
+        ]
+
+        earlier_or_it : (m : ℕ) → m < giver + 1 → (m < from) ⊎ ((from ≤ m) × (m ≤ giver))
+        earlier_or_it m below = grind arith
+
+        back : OneGivesBelow Gives givers (giver + 1) n → Contains new n
+        back given = elim (earlier_or_it given.0 given.1) [
+          | inl earlier ↦ (last n).1 (inl ((before n).1 (given.0, earlier, given.2, given.3)))
+          | inr between ↦
+              let least : giver ≤ given.0 = next.3 given.0 given.2 between.0 in
+              let same : given.0 ≡ giver = omega (arith, between.1) in
+              let ByGiver : ℕ → Type 0 = λ m. Gives m n in
+              (last n).1 (inr (subst ByGiver same given.3))
+        ]
+
+    -- where there is no next giver below the count of givers, all have given
+    pub given_all :
+        (count from : ℕ) (xs : List ℕ)
+        → IsNextBelow count givers from None → ((giver n : ℕ) → Gives giver n → giver < count)
+        → IsGivenBelow from xs → (n : ℕ) → Contains xs n ↔ OneGives Gives givers n
+    given_all count from xs none within before n = (
+      (λ has.
+          let given = (before n).0 has in
+          (given.0, given.2, given.3)),
+      (λ given.
+          let below : given.0 < from = under given.0 given.1 (within given.0 n given.2) in
+          (before n).1 (given.0, below, given.1, given.2)),
+    )
+      where
+        under_or_not : (m : ℕ) → (m < from) ⊎ (from ≤ m)
+        under_or_not m = grind arith
+
+        under : (m : ℕ) → Contains givers m → m < count → m < from
+        under m has below = elim (under_or_not m) [
+          | inl is ↦ is
+          | inr not_under ↦ absurd (none m has not_under below)
+        ]

@@ -1,0 +1,137 @@
+-- The product of cells is what the wholes of items give.
+use Rattle.std.proofs.Common.{◌≡◌, ℕ, ◌+◌, ◌<◌, ◌↔◌, List, Some, inl, inr, suc, length, slice_get, refl, sym, ◌∙◌, ap, subst, arith, Contains}
+use Rattle.std.proofs.lemmas.Option.{slice_get_cases}
+use Rattle.spec_lbnf.specs.Expansion.{Expansion}
+use Rattle.binary_form.specs.Symbols.{BinarySymbol, suffix, symbol_count, number_of}
+use Rattle.binary_form.specs.UnitSteps.{stay}
+use Rattle.binary_form.specs.BinaryForm.{IsNumberOf, IsReachedNumber, MakesNumber, IsProductNumber, IsProductOf, HasProduct}
+use Rattle.binary_form.specs.Links.{HasLink}
+use Rattle.binary_form.specs.Wholes.{IsWhole, AreWholes}
+use Rattle.binary_form.specs.Forms.{AreClosures}
+use Rattle.binary_form.specs.Products.{OneGives, GoesOn, IsInCellAt, WholeGives, ItemGives, IsItemMet, LinksGoOnBelow}
+use Rattle.binary_form.proofs.ItemLemmas.{suffix_symbol}
+use Rattle.binary_form.proofs.NumberLemmas.{number_is_one, numbers_below, number-suffix-suc}
+
+-- the suffix behind the item of a whole has the next number
+next_number :
+    (g : Expansion) (item whole : ℕ) (is : IsWhole g item whole)
+    → number_of g (suffix is.r (suc is.p)) ≡ whole + 1
+next_number g item whole is =
+    let at : number_of g (suffix is.r is.p) ≡ whole = is.is_whole.1 in
+    omega (arith, at, number-suffix-suc g is.r is.p)
+
+-- wholes go on with a number below the count of symbols
+pub links_go_on :
+    (g : Expansion) (links : List (List ℕ))
+    → AreWholes g links → LinksGoOnBelow (symbol_count g) links
+links_go_on g links wholes item whole has =
+    let is = (wholes.links item whole).0 has in
+    let below = numbers_below g (suffix is.r (suc is.p)) is.goes_on in
+    omega (arith, below, next_number g item whole is)
+
+module _ {C : Type 0} (symbols : C → List ℕ) (g : Expansion) (cells : List C) (links : List (List ℕ))
+    (closures : AreClosures symbols g cells) (wholes : AreWholes g links) where
+  -- the cell at the place of a number has what the symbol of the number reaches
+  in_cell :
+      (a : BinarySymbol) (at n : ℕ)
+      → IsNumberOf g a at → IsReachedNumber g a n → IsInCellAt symbols cells at n
+  in_cell a at n is reached =
+      elim (slice_get_cases cells at).1 [
+        | inl found ↦
+            (found.0, found.2, (closures.each at found.0 found.2 n).1 (a, is, reached))
+        | inr past ↦
+            let below = numbers_below g a is.0 in
+            absurd (omega (arith, below, is.1, past.0, closures.count))
+      ]
+
+  -- what is in the cell at the place of a symbol's number is reached from the symbol
+  reached_from_cell :
+      (a : BinarySymbol) (at n : ℕ)
+      → IsNumberOf g a at → IsInCellAt symbols cells at n → IsReachedNumber g a n
+  reached_from_cell a at n is found =
+      let x = (closures.each at found.0 found.1 n).0 found.2 in
+      let same : x.0 ≡ a = number_is_one g x.0 a at x.1 is in
+      rw same at x.2
+
+  -- two numbers make what a whole gives
+  makes_given :
+      (right : List ℕ) (l m n : ℕ)
+      → Contains right m → MakesNumber g l m n → ItemGives symbols cells links right l n
+  makes_given right l m n on_right makes =
+      let whole = number_of g (suffix makes.r makes.p) in
+      let is : IsWhole g l whole = record {
+        r = makes.r;
+        p = makes.p;
+        item = makes.item;
+        behind = makes.behind;
+        has = makes.has;
+        is_item = makes.is_left;
+        is_whole = (suffix_symbol g makes.r makes.p makes.item makes.behind makes.has, refl);
+        goes_on = makes.is_right.0;
+      } in
+      let next : m ≡ whole + 1 = sym makes.is_right.1 ∙ next_number g l whole is in
+      let Has : ℕ → Type 0 = λ k. Contains right k in (
+        whole,
+        (wholes.links l whole).1 is,
+        (
+          subst Has next on_right,
+          in_cell (suffix makes.r makes.p) whole n is.is_whole makes.reaches
+        )
+      )
+
+  -- what a whole gives, its item and the suffix behind it make
+  given_makes :
+      (l whole n : ℕ)
+      → HasLink links l whole → IsInCellAt symbols cells whole n → MakesNumber g l (whole + 1) n
+  given_makes l whole n link found =
+      let is = (wholes.links l whole).0 link in
+      record {
+        r = is.r;
+        p = is.p;
+        item = is.item;
+        behind = is.behind;
+        has = is.has;
+        is_left = is.is_item;
+        is_right = (is.goes_on, next_number g l whole is);
+        reaches = reached_from_cell (suffix is.r is.p) whole n is.is_whole found;
+      }
+
+  -- a number of the product is one that an item of the left cell gives
+  product_number :
+      (left right : List ℕ) (n : ℕ)
+      → OneGives (ItemGives symbols cells links right) left n ↔ IsProductNumber g left right n
+  product_number left right n = (
+    (λ x.
+        let given = x.2 in
+        let whole = given.0 in
+        (x.0, whole + 1, x.1, given.2.0, given_makes x.0 whole n given.1 given.2.1)),
+    (λ x. (x.0, x.2, makes_given right x.0 x.1 n x.3 x.4)),
+  )
+
+  -- a cell with what the items of the left cell give is the product
+  pub product_is :
+      (left right cell : List ℕ)
+      → ((n : ℕ) → Contains cell n ↔ OneGives (ItemGives symbols cells links right) left n)
+      → IsProductOf g left right cell
+  product_is left right cell given n = (
+    (λ has. (product_number left right n).0 ((given n).0 has)),
+    (λ x. (given n).1 ((product_number left right n).1 x)),
+  )
+
+  -- the product has a symbol exactly where an item of the left cell is met
+  pub met_is :
+      (left right : List ℕ)
+      → ((item : ℕ) × Contains left item × IsItemMet links right item) ↔ HasProduct g left right
+  met_is left right = (
+    (λ x.
+        let met = x.2 in
+        let whole = met.0 in
+        let is = (wholes.links x.0 whole).0 met.1 in
+        let a = suffix is.r is.p in
+        let own = in_cell a whole whole is.is_whole (a, is.is_whole, stay) in
+        (whole, (product_number left right whole).0 (x.0, x.1, (whole, met.1, (met.2, own))))),
+    (λ y.
+        let x = (product_number left right y.0).1 y.1 in
+        let given = x.2 in
+        (x.0, x.1, (given.0, given.1, given.2.0))),
+  )

@@ -1,0 +1,28 @@
+-- What a binary form keeps of its grammar. Serves the proofs alone.
+use Rattle.std.specs.Prelude.{◌≡◌, ℕ, ◌≤◌, List, [], Some, Bool, length, slice_get}
+use Rattle.spec_lbnf.specs.Expansion.{Expansion, HasOwnSymbols}
+use Rattle.binary_form.specs.Symbols.{symbol_count}
+use Rattle.binary_form.specs.BinaryForm.{IsClosureOf}
+use Rattle.binary_form.specs.FirstSuffixes.{AreFirstSuffixes}
+use Rattle.binary_form.specs.NullableNumbers.{AreNullableNumbers}
+use Rattle.binary_form.specs.Wholes.{AreWholes}
+
+-- each number has a cell, which is its closure
+pub record AreClosures {C : Type 0} (symbols : C → List ℕ) (g : Expansion) (cells : List C) : Type 0 where
+  pub count : length cells ≡ symbol_count g
+  pub each : (n : ℕ) (cell : C) → slice_get cells n ≡ Some cell → IsClosureOf g n (symbols cell)
+
+-- the parts are those of the grammar's binary form: where suffixes are numbered from, flags of what is nullable,
+-- closures, wholes
+pub record AreParts {C : Type 0} (symbols : C → List ℕ) (most : ℕ) (g : Expansion) (firsts : List ℕ)
+    (flags : List Bool) (cells : List C) (links : List (List ℕ)) : Type 0 where
+  pub few : symbol_count g ≤ 2048
+  pub room : symbol_count g ≤ most
+  pub firsts_are : AreFirstSuffixes g firsts
+  pub nullable : AreNullableNumbers g flags
+  pub closures : AreClosures symbols g cells
+  pub wholes : AreWholes g links
+
+-- the counts are those of the grammar's categories and kinds
+abbrev pub AreCounts : Expansion → ℕ → ℕ → Type 0
+AreCounts g categories kinds = (categories ≡ length g.categories) × (kinds ≡ length g.kinds)

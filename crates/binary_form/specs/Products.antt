@@ -1,0 +1,54 @@
+-- The product of two cells, by the wholes of items and the closures of wholes. Serves the proofs alone.
+use Rattle.std.specs.Prelude.{◌≡◌, ℕ, ◌+◌, ◌<◌, ◌≤◌, ◌↔◌, ◌⊎◌, List, [], Option, Some}
+use Rattle.std.specs.Prelude.{MatchOption, slice_get, slice_index_or, Contains}
+
+-- the new list has what the old one has, and what is given
+abbrev pub Adds : (ℕ → Type 0) → List ℕ → List ℕ → Type 0
+Adds IsGiven old new = (n : ℕ) → Contains new n ↔ (Contains old n ⊎ IsGiven n)
+
+-- one of the givers gives the number
+abbrev pub OneGives : (ℕ → ℕ → Type 0) → List ℕ → ℕ → Type 0
+OneGives Gives givers n = (giver : ℕ) × Contains givers giver × Gives giver n
+
+-- one of the givers below the limit gives the number
+abbrev pub OneGivesBelow : (ℕ → ℕ → Type 0) → List ℕ → ℕ → ℕ → Type 0
+OneGivesBelow Gives givers limit n =
+    (giver : ℕ) × (giver < limit) × Contains givers giver × Gives giver n
+
+-- the whole goes on with a symbol of the right cell, since the suffix behind its item has the next number
+abbrev pub GoesOn : List ℕ → ℕ → Type 0
+GoesOn right whole = Contains right (whole + 1)
+
+-- the cell at this place has the number
+abbrev pub IsInCellAt : {C : Type 0} → (C → List ℕ) → List C → ℕ → ℕ → Type 0
+IsInCellAt {C = C} symbols cells at n =
+    (cell : C) × (slice_get cells at ≡ Some cell) × Contains (symbols cell) n
+
+-- the whole goes on with a symbol of the right cell, and its closure has the number
+abbrev pub WholeGives : {C : Type 0} → (C → List ℕ) → List C → List ℕ → ℕ → ℕ → Type 0
+WholeGives symbols cells right whole n = GoesOn right whole × IsInCellAt symbols cells whole n
+
+-- a whole that begins with the item goes on with a symbol of the right cell, and its closure has the number
+abbrev pub ItemGives : {C : Type 0} → (C → List ℕ) → List C → List (List ℕ)
+    → List ℕ → ℕ → ℕ → Type 0
+ItemGives symbols cells links right item n =
+    OneGives (WholeGives symbols cells right) (slice_index_or links item []) n
+
+-- a whole that begins with the item goes on with a symbol of the right cell
+abbrev pub IsItemMet : List (List ℕ) → List ℕ → ℕ → Type 0
+IsItemMet links right item =
+    (whole : ℕ) × Contains (slice_index_or links item []) whole × GoesOn right whole
+
+-- the wholes are numbers below the count, and so are those of the suffixes behind their items
+abbrev pub GoOnBelow : ℕ → List ℕ → Type 0
+GoOnBelow count wholes = (whole : ℕ) → Contains wholes whole → whole + 1 < count
+
+-- all links lead to such wholes
+abbrev pub LinksGoOnBelow : ℕ → List (List ℕ) → Type 0
+LinksGoOnBelow count links = (item : ℕ) → GoOnBelow count (slice_index_or links item [])
+
+-- the next number from one on is the least of the list that is not below it, if that is below the count
+abbrev pub IsNextBelow : ℕ → List ℕ → ℕ → Option ℕ → Type 0
+IsNextBelow count xs from next = MatchOption next
+    ((s : ℕ) → Contains xs s → from ≤ s → s < count → ⊥)
+    (λ n. Contains xs n × (n < count) × (from ≤ n) × ((s : ℕ) → Contains xs s → from ≤ s → n ≤ s))

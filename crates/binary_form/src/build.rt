@@ -1,0 +1,103 @@
+//! Making the binary form of a grammar.
+ghost use Rattle.std.specs.Prelude.{◌≡◌, ℕ, ◌<◌, ◌≤◌, ◌↔◌, ◌⊎◌, length, Contains, IfOk};
+ghost use Rattle.spec_lbnf.specs.Expansion.{HasOwnSymbols};
+ghost use Rattle.binary_form.specs.Symbols.{symbol_count};
+ghost use Rattle.binary_form.specs.BinaryForm.{IsClosureOf, MakesBinary};
+ghost use Rattle.binary_form.specs.Flags.{IsSet};
+ghost use Rattle.binary_form.specs.Forms.{AreClosures};
+ghost use Rattle.binary_form.specs.RowLinks.{AreUnitSteps};
+
+use crate::closure::reached_from;
+use crate::fault::BinaryFault;
+use crate::form::Binary;
+use crate::links::Links;
+use crate::nullable::nullable_numbers;
+use crate::numbering::{first_suffixes, symbol_count};
+use crate::rows::rows_of;
+use crate::steps::{unit_steps, wholes_of};
+use cell_sets::Cell;
+use lbnf_grammar::Grammar;
+use std::alloc::{AllocError, Global};
+
+/// The cell of the numbers whose flags are set, put in from the least to the greatest.
+fn cell_of<C: Cell>(alloc: Global, flags: &[bool]) -> Result<C, AllocError>
+    requires few { length flags.now ≤ 2048 }
+    requires room { length flags.now ≤ C.ROOM }
+    ensures { IfOk result (λ cell. (n : ℕ) → Contains (C.symbols cell) n ↔ IsSet flags.now n) }
+{
+    let mut cell = C::empty();
+    for (number, flag) in flags.iter().enumerate() {
+        if *flag {
+            cell.insert(alloc, number as u16)?;
+        }
+    }
+    Ok(cell)
+}
+
+/// What the symbol of this number reaches by unit steps.
+fn closure_of<C: Cell>(
+    alloc: Global,
+    grammar: &Grammar,
+    steps: &Links,
+    number: u16,
+) -> Result<C, AllocError>
+    requires few { symbol_count grammar.now ≤ 2048 }
+    requires room { symbol_count grammar.now ≤ C.ROOM }
+    requires steps { AreUnitSteps grammar.now steps.now }
+    requires known { HasOwnSymbols grammar.now }
+    requires below { number < symbol_count grammar.now }
+    ensures { IfOk result (λ cell. IsClosureOf grammar.now number (C.symbols cell)) }
+{
+    let flags = reached_from(alloc, steps, number)?;
+    let cell = cell_of(alloc, flags.as_slice())?;
+    Ok(cell)
+}
+
+/// For each symbol what it reaches, by a search for each.
+fn closures_of<C: Cell>(
+    alloc: Global,
+    grammar: &Grammar,
+    steps: &Links,
+) -> Result<Vec<C>, AllocError>
+    requires few { symbol_count grammar.now ≤ 2048 }
+    requires room { symbol_count grammar.now ≤ C.ROOM }
+    requires steps { AreUnitSteps grammar.now steps.now }
+    requires known { HasOwnSymbols grammar.now }
+    ensures { IfOk result (λ cells. AreClosures C.symbols grammar.now cells.items) }
+{
+    let mut closures = Vec::new(alloc);
+    for number in 0..steps.count() as u16 {
+        let closure = closure_of(alloc, grammar, steps, number)?;
+        closures.push(closure)?;
+    }
+    Ok(closures)
+}
+
+/// The binary form of a grammar of at most 2,048 symbols.
+fn form_of<C: Cell>(alloc: Global, grammar: &Grammar) -> Result<Binary<C>, AllocError>
+    requires few { symbol_count grammar.now ≤ 2048 }
+    requires room { symbol_count grammar.now ≤ C.ROOM }
+    ensures { IfOk result (λ binary. binary ≡ grammar.now) }
+{
+    let rows = rows_of(alloc, grammar)?;
+    let nullable = nullable_numbers(alloc, grammar, rows.as_slice())?;
+    let steps = unit_steps(alloc, grammar, rows.as_slice(), nullable.as_slice())?;
+    let wholes = wholes_of(alloc, grammar, rows.as_slice())?;
+    let firsts = first_suffixes(alloc, grammar)?;
+    let closures = closures_of(alloc, grammar, &steps)?;
+    Ok(Binary::of(grammar, firsts, nullable, closures, wholes))
+}
+
+/// The binary form of the grammar, or that it has more than 2,048 symbols, which takes no memory to
+/// find out. It looks at each item of the rules a few times, and for each symbol at what it reaches
+/// by unit steps.
+pub fn binary<C: Cell>(alloc: Global, grammar: &Grammar) -> Result<Binary<C>, BinaryFault>
+    requires room { (symbol_count grammar.now ≤ C.ROOM) ⊎ (2048 < symbol_count grammar.now) }
+    ensures { MakesBinary grammar.now result }
+{
+    let count = symbol_count(grammar);
+    if count > 2048 {
+        return Err(BinaryFault::TooManySymbols { count });
+    }
+    form_of(alloc, grammar).map_err(|_| BinaryFault::Memory)
+}

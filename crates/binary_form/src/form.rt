@@ -1,0 +1,158 @@
+//! The binary form of a grammar: its symbols' numbers, their closures, and the product of cells.
+ghost use Rattle.std.specs.Prelude.{◌≡◌, ◌<◌, ◌≤◌, ◌↔◌, Some, IsTrue, IfOk};
+ghost use Rattle.spec_lbnf.specs.Expansion.{IsSymbolOf};
+ghost use Rattle.binary_form.specs.Symbols.{plain, suffix, IsBinarySymbolOf, symbol_count, number_of};
+ghost use Rattle.binary_form.specs.BinaryForm.{IsNullableNumber, IsClosureOf, IsTokenCell};
+ghost use Rattle.binary_form.specs.BinaryForm.{IsProductOf, HasProduct};
+ghost use Rattle.binary_form.specs.Forms.{AreParts};
+
+use crate::links::Links;
+use crate::product::{is_met, product_of};
+use cell_sets::Cell;
+use lbnf_grammar::{Grammar, Symbol};
+use sqlite_items::Items;
+use std::alloc::{AllocError, Global};
+use std::marker::Model;
+use std::snapshot::Snapshot;
+
+/// The binary form of a grammar, over one type of cell. It keeps numbers, and nothing of the grammar.
+#[derive(Drop)]
+pub struct Binary<C: Cell> {
+    grammar: Snapshot<Grammar>,
+    category_count: u16,
+    kind_count: u16,
+    first_suffixes: Items<u16>,
+    nullable: Vec<bool>,
+    closures: Vec<C>,
+    wholes: Links,
+    none: C,
+}
+
+impl<C: Cell> Model for Binary<C> {
+    ghost use Rattle.std.specs.Prelude.{◌≡◌, []};
+    ghost use Rattle.spec_lbnf.specs.Expansion.{Expansion};
+
+    ghost Value = { Expansion };
+
+    ghost use Rattle.binary_form.specs.Forms.{AreParts, AreCounts};
+
+    ghost view = { λ b. b.grammar.value };
+
+    ghost invariant = { λ b.
+        AreParts C.symbols C.ROOM b.grammar.value b.first_suffixes b.nullable.items b.closures.items b.wholes
+        × AreCounts b.grammar.value b.category_count b.kind_count
+        × (C.symbols b.none ≡ []) };
+}
+
+impl<C: Cell> Binary<C> {
+    /// The binary form of the grammar, of its parts.
+    pub(crate) fn of(
+        grammar: &Grammar,
+        first_suffixes: Items<u16>,
+        nullable: Vec<bool>,
+        closures: Vec<C>,
+        wholes: Links,
+    ) -> Binary<C>
+        requires { AreParts C.symbols C.ROOM grammar.now first_suffixes nullable.items closures.items wholes }
+        ensures { result ≡ grammar.now }
+    {
+        Binary {
+            grammar: Snapshot::of(grammar),
+            category_count: grammar.category_count(),
+            kind_count: grammar.kind_count(),
+            first_suffixes,
+            nullable,
+            closures,
+            wholes,
+            none: C::empty(),
+        }
+    }
+
+    /// How many symbols there are: their numbers are those below. It takes no memory.
+    pub fn symbol_count(&self) -> u32
+        ensures count { result ≡ symbol_count self.now }
+        ensures few { result ≤ 2048 }
+        ensures room { result ≤ C.ROOM }
+    {
+        self.nullable.len() as u32
+    }
+
+    /// The number of a category or a kind. It takes no memory.
+    pub fn symbol_of(&self, symbol: Symbol) -> u16
+        requires { IsSymbolOf self.now symbol }
+        ensures number { result ≡ number_of self.now (plain symbol) }
+        ensures below { result < symbol_count self.now }
+    {
+        match symbol {
+            Symbol::Category(c) => c,
+            Symbol::Kind(k) => self.category_count + k,
+        }
+    }
+
+    /// The number of the suffix of rule r from item p on, rules and items counted from 0. It takes
+    /// no memory.
+    pub fn suffix_of(&self, r: u16, p: u16) -> u16
+        requires { IsBinarySymbolOf self.now (suffix r p) }
+        ensures number { result ≡ number_of self.now (suffix r p) }
+        ensures below { result < symbol_count self.now }
+    {
+        self.first_suffixes.as_slice()[r as usize] + p
+    }
+
+    /// Whether the symbol of this number derives the empty span. It takes no memory.
+    pub fn nullable(&self, symbol: u16) -> bool
+        requires { symbol < symbol_count self.now }
+        ensures { IsTrue result ↔ IsNullableNumber self.now symbol }
+    {
+        self.nullable[symbol as usize]
+    }
+
+    /// What the symbol of this number reaches by unit steps, itself included. It takes no memory.
+    pub fn up(&self, symbol: u16) -> &C
+        requires { symbol < symbol_count self.now }
+        ensures { IsClosureOf self.now symbol (C.symbols result.now) }
+    {
+        &self.closures[symbol as usize]
+    }
+
+    /// What a token of this kind is: the closure of its kind. It is empty for a stray token, and
+    /// for a number that is no kind's. It takes no memory.
+    pub fn token_cell(&self, kind: Option<u16>) -> &C
+        ensures { IsTokenCell self.now kind (C.symbols result.now) }
+    {
+        match kind {
+            Some(k) => self.kind_cell(k),
+            None => &self.none,
+        }
+    }
+
+    fn kind_cell(&self, k: u16) -> &C
+        ensures { IsTokenCell self.now (Some k) (C.symbols result.now) }
+    {
+        if k < self.kind_count {
+            &self.closures[(self.category_count + k) as usize]
+        } else {
+            &self.none
+        }
+    }
+
+    /// What a span is, of which the left part is what one cell has and the right part what the other
+    /// has: the closure of each suffix whose first item is in the left cell and whose other items,
+    /// as a suffix, are in the right one (Valiant 1975; Lange and Leiss 2009). It looks at the
+    /// symbols of the left cell and at the places where they are items, and makes a union for each
+    /// suffix that it finds. An error is want of memory.
+    pub fn product(&self, alloc: Global, left: &C, right: &C) -> Result<C, AllocError>
+        ensures { IfOk result
+            (λ cell. IsProductOf self.now (C.symbols left.now) (C.symbols right.now) (C.symbols cell)) }
+    {
+        product_of(alloc, self.closures.as_slice(), &self.wholes, left, right)
+    }
+
+    /// Whether the product of the two cells has a symbol. It takes no memory, and stops at the
+    /// first suffix that it finds.
+    pub fn meets(&self, left: &C, right: &C) -> bool
+        ensures { IsTrue result ↔ HasProduct self.now (C.symbols left.now) (C.symbols right.now) }
+    {
+        is_met(&self.wholes, left, right)
+    }
+}

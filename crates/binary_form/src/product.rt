@@ -1,0 +1,125 @@
+//! The product of two cells: look-ups and unions alone.
+ghost use Rattle.std.specs.Prelude.{◌≡◌, ◌+◌, ◌<◌, ◌≤◌, ◌↔◌, ℕ, length, Contains, IsTrue, IfOk};
+ghost use Rattle.binary_form.specs.Products.{Adds, GoesOn, GoOnBelow, IsItemMet, IsNextBelow};
+ghost use Rattle.binary_form.specs.Products.{ItemGives, LinksGoOnBelow, OneGives, WholeGives};
+
+use crate::links::Links;
+use cell_sets::Cell;
+use std::alloc::{AllocError, Global};
+
+/// The least symbol of the cell that is not below this one, if it is below the count.
+fn next_below<C: Cell>(cell: &C, from: u16, count: usize) -> Option<u16>
+    ensures { IsNextBelow count (C.symbols cell.now) from result }
+{
+    let number = cell.next_from(from)?;
+    if usize::from(number) < count {
+        Some(number)
+    } else {
+        None
+    }
+}
+
+/// The cell with the closure of the whole, where it goes on with a symbol of the right cell.
+fn with_whole<C: Cell>(
+    alloc: Global,
+    closures: &[C],
+    whole: u16,
+    right: &C,
+    cell: C,
+) -> Result<C, AllocError>
+    requires below { whole + 1 < length closures.now }
+    requires few { length closures.now ≤ 2048 }
+    requires room { length closures.now ≤ C.ROOM }
+    ensures { IfOk result (λ new.
+        Adds (WholeGives C.symbols closures.now (C.symbols right.now) whole)
+            (C.symbols cell) (C.symbols new)) }
+{
+    if right.has(whole + 1) {
+        let new = cell.union(alloc, &closures[whole as usize])?;
+        Ok(new)
+    } else {
+        Ok(cell)
+    }
+}
+
+/// The cell with the closures of the wholes that go on with a symbol of the right cell.
+fn with_wholes<C: Cell>(
+    alloc: Global,
+    closures: &[C],
+    wholes: &[u16],
+    right: &C,
+    start: C,
+) -> Result<C, AllocError>
+    requires below { GoOnBelow (length closures.now) wholes.now }
+    requires few { length closures.now ≤ 2048 }
+    requires room { length closures.now ≤ C.ROOM }
+    ensures { IfOk result (λ new.
+        Adds (OneGives (WholeGives C.symbols closures.now (C.symbols right.now)) wholes.now)
+            (C.symbols start) (C.symbols new)) }
+{
+    let mut cell = start;
+    for whole in wholes {
+        cell = with_whole(alloc, closures, *whole, right, cell)?;
+    }
+    Ok(cell)
+}
+
+/// The closures of all wholes that begin with a symbol of the left cell and go on with one of the
+/// right cell, as one cell.
+pub fn product_of<C: Cell>(
+    alloc: Global,
+    closures: &[C],
+    wholes: &Links,
+    left: &C,
+    right: &C,
+) -> Result<C, AllocError>
+    requires count { length wholes.now ≡ length closures.now }
+    requires below { LinksGoOnBelow (length closures.now) wholes.now }
+    requires few { length closures.now ≤ 2048 }
+    requires room { length closures.now ≤ C.ROOM }
+    ensures { IfOk result (λ cell. (n : ℕ) → Contains (C.symbols cell) n
+        ↔ OneGives (ItemGives C.symbols closures.now wholes.now (C.symbols right.now))
+            (C.symbols left.now) n) }
+{
+    let mut cell = C::empty();
+    let mut from = 0;
+    while let Some(item) = next_below(left, from, wholes.count()) {
+        cell = with_wholes(alloc, closures, wholes.from(item), right, cell)?;
+        from = item + 1;
+    }
+    Ok(cell)
+}
+
+/// Whether one of the wholes goes on with a symbol of the right cell.
+fn goes_on<C: Cell>(wholes: &[u16], right: &C, count: usize) -> bool
+    requires below { GoOnBelow count wholes.now }
+    requires few { count ≤ 2048 }
+    requires room { count ≤ C.ROOM }
+    ensures { IsTrue result
+        ↔ ((whole : ℕ) × Contains wholes.now whole × GoesOn (C.symbols right.now) whole) }
+{
+    for whole in wholes {
+        if right.has(*whole + 1) {
+            return true;
+        }
+    }
+    false
+}
+
+/// Whether a whole begins with a symbol of the left cell and goes on with one of the right cell.
+pub fn is_met<C: Cell>(wholes: &Links, left: &C, right: &C) -> bool
+    requires below { LinksGoOnBelow (length wholes.now) wholes.now }
+    requires few { length wholes.now ≤ 2048 }
+    requires room { length wholes.now ≤ C.ROOM }
+    ensures { IsTrue result ↔ ((item : ℕ) × Contains (C.symbols left.now) item
+        × IsItemMet wholes.now (C.symbols right.now) item) }
+{
+    let mut from = 0;
+    while let Some(item) = next_below(left, from, wholes.count()) {
+        if goes_on(wholes.from(item), right, wholes.count()) {
+            return true;
+        }
+        from = item + 1;
+    }
+    false
+}

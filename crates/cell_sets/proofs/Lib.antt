@@ -1,0 +1,4 @@
+pub mod CellsLemmas
+pub mod RisingLemmas
+pub mod PlacesLemmas
+pub mod MergingLemmas

@@ -1,0 +1,12 @@
+//! Sets of symbol numbers behind one trait, and the set that is a list in rising order.
+#![tactic(auto)]
+
+mod cell;
+mod laws;
+mod list_cell;
+mod merging;
+mod places;
+
+pub use cell::{Cell, Room, union_into};
+pub use laws::rising_lists_are_sets;
+pub use list_cell::ListCell;
