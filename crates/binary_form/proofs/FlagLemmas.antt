@@ -1,6 +1,6 @@
 -- Flags that are set one by one, and the search that sets them.
-use Rattle.std.proofs.Common.{◌≡◌, ◌≢◌, ℕ, zero, suc, ◌+◌, ◌<◌, ◌≤◌, ◌⊎◌, inl, inr, List, [], ◌∷◌, ◌++◌, Bool, true, false, IsTrue}
-use Rattle.std.proofs.Common.{length, get_or, slice_set, slice_index_or, replicate, refl, sym, ap, ◌∙◌, arith, subst}
+use Rattle.std.proofs.Common.{◌≡◌, ℕ, zero, suc, ◌<◌, ◌⊎◌, inl, inr, List, [], ◌∷◌, ◌++◌, Bool, true, false}
+use Rattle.std.proofs.Common.{length, slice_set, slice_index_or, replicate, refl, sym, ◌∙◌, arith, subst}
 use Rattle.std.proofs.Common.{length-set, length-append, get_or-set_other}
 use Rattle.std.specs.List.{Contains}
 use Rattle.std.proofs.lemmas.Bool.{false≢true}
@@ -9,7 +9,7 @@ use Rattle.std.proofs.lemmas.List.{length-replicate}
 use Rattle.std.proofs.lemmas.List.Elements.{Contains-append_left, Contains-append_right, Contains-append_cases}
 use Rattle.binary_form.specs.Links.{HasLink}
 use Rattle.binary_form.specs.NumberSteps.{NumberReaches, stay, step}
-use Rattle.binary_form.specs.Flags.{IsSet, AreLinksWithin, AreReachedFlags, clear_count, work_left, SetsFlags, IsSearch}
+use Rattle.binary_form.specs.Flags.{IsSet, AreReachedFlags, clear_count, SetsFlags, IsSearch}
 use Rattle.binary_form.proofs.LinkLemmas.{same_or_other, Contains-one}
 
 -- of clear flags none is set

@@ -1,5 +1,5 @@
 -- Flags of the symbols that derive the empty span: those of categories and kinds, then those of suffixes.
-use Rattle.std.proofs.Common.{◌≡◌, ◌≢◌, ℕ, zero, suc, ◌+◌, ◌-◌, ◌<◌, ◌≤◌, ◌↔◌, ◌⊎◌, inl, inr, List, [], ◌∷◌, ◌++◌, Bool, true, false, IsTrue}
+use Rattle.std.proofs.Common.{◌≡◌, ◌≢◌, ℕ, suc, ◌+◌, ◌-◌, ◌<◌, ◌≤◌, ◌↔◌, ◌⊎◌, inl, inr, List, [], ◌∷◌, ◌++◌, Bool, false, IsTrue}
 use Rattle.std.proofs.Common.{Some, length, slice_get, slice_set, slice_index_or, take, drop, replicate, refl, sym, ap, ◌∙◌, subst, arith}
 use Rattle.std.proofs.Common.{length-set, length-append, get_or-set_other}
 use Rattle.std.proofs.lemmas.List.{take_all, length-replicate, get_or_append_left, get_or-append-add}
@@ -12,10 +12,10 @@ use Rattle.spec_grammar.proofs.DerivationLemmas.{none_derive, some_derive, deriv
 use Rattle.spec_lbnf.specs.Expansion.{Expansion, item_count}
 use Rattle.lbnf_grammar.specs.Nullable.{AreNullableFlags}
 use Rattle.binary_form.specs.declared.rows.SuffixRow.{SuffixRow}
-use Rattle.binary_form.specs.Symbols.{BinarySymbol, plain, suffix, BinaryDerives, IsBinarySymbolOf, symbol_count, number_of}
-use Rattle.binary_form.specs.UnitSteps.{HasItem, AreNullable}
+use Rattle.binary_form.specs.Symbols.{BinarySymbol, plain, suffix, BinaryDerives, symbol_count}
+use Rattle.binary_form.specs.UnitSteps.{AreNullable}
 use Rattle.binary_form.specs.BinaryForm.{IsNumberOf, IsNullableNumber}
-use Rattle.binary_form.specs.Rows.{IsRow, IsRowAt, AreRows, suffix_number}
+use Rattle.binary_form.specs.Rows.{IsRowAt, suffix_number}
 use Rattle.binary_form.specs.NullableNumbers.{AreNullableNumbers, AreNullableFrom, IsRestNullable}
 use Rattle.binary_form.specs.Flags.{IsSet}
 use Rattle.binary_form.proofs.NumberLemmas.{number_is_one}

@@ -1,9 +1,9 @@
 -- What is reached by the links of unit steps is what the symbols reach.
-use Rattle.std.proofs.Common.{◌≡◌, ℕ, ◌<◌, ◌↔◌, List, Bool, length, sym, subst, arith}
+use Rattle.std.proofs.Common.{ℕ, ◌<◌, ◌↔◌, List, Bool, arith}
 use Rattle.spec_lbnf.specs.Expansion.{Expansion, HasOwnSymbols}
-use Rattle.binary_form.specs.Symbols.{BinarySymbol, symbol_count, number_of}
+use Rattle.binary_form.specs.Symbols.{BinarySymbol, symbol_count}
 use Rattle.binary_form.specs.BinaryForm.{IsNumberOf, IsReachedNumber}
-use Rattle.binary_form.specs.NumberSteps.{StepNumber, NumberReaches}
+use Rattle.binary_form.specs.NumberSteps.{StepNumber}
 use Rattle.binary_form.specs.Links.{HasLink}
 use Rattle.binary_form.specs.Flags.{IsSet, AreLinksWithin, AreReachedFlags}
 use Rattle.binary_form.specs.RowLinks.{AreUnitSteps}

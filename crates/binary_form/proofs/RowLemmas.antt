@@ -1,19 +1,18 @@
 -- The rows of suffixes say what the rules say.
-use Rattle.std.proofs.Common.{◌≡◌, ℕ, zero, suc, ◌+◌, ◌-◌, ◌<◌, ◌↔◌, ◌⊎◌, inl, inr, List, [], ◌∷◌, Bool, true, false, IsTrue, IsFalse, nat_eq, Some, length}
+use Rattle.std.proofs.Common.{◌≡◌, ℕ, suc, ◌+◌, ◌<◌, ◌↔◌, ◌⊎◌, inl, inr, List, [], ◌∷◌, Bool, false, IsTrue, IsFalse, nat_eq, Some, length}
 use Rattle.std.proofs.Common.{slice_get, take, drop, refl, sym, ap, ◌∙◌, subst, arith, length-drop}
 use Rattle.std.proofs.lemmas.List.{nil_from_length}
 use Rattle.std.proofs.lemmas.Bool.Decides.{Decides-eqb}
 use Rattle.std.proofs.lemmas.Option.{slice_get_within, slice_get_cases}
 use Rattle.std.proofs.lemmas.Bool.{false≢true}
 use Rattle.spec_grammar.specs.declared.rule.Symbol.{Symbol}
-use Rattle.spec_grammar.specs.declared.rule.Symbol.TheVariants.{Category}
 use Rattle.spec_grammar.specs.declared.rule.Rule.{Rule}
 use Rattle.spec_lbnf.specs.Expansion.{Expansion, HasOwnSymbols, item_count}
 use Rattle.binary_form.specs.declared.rows.SuffixRow.{SuffixRow}
 use Rattle.binary_form.specs.Symbols.{BinarySymbol, plain, suffix, symbol_count}
 use Rattle.binary_form.specs.UnitSteps.{HasItem}
 use Rattle.binary_form.specs.BinaryForm.{IsNumberOf}
-use Rattle.binary_form.specs.Rows.{IsRow, IsRowAt, AreRowsUpTo, AreRows, IsRowWithin, suffix_number}
+use Rattle.binary_form.specs.Rows.{IsRow, IsRowAt, AreRows, IsRowWithin, suffix_number}
 use Rattle.binary_form.proofs.ItemLemmas.{drop_from_get, drop_within, same_rule, next_item, suffix_symbol}
 use Rattle.binary_form.proofs.NumberLemmas.{IsCounted, counted_once, count_within, numbers_below}
 

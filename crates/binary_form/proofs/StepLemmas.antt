@@ -1,16 +1,16 @@
 -- The links that rows give are those of the grammar.
-use Rattle.std.proofs.Common.{◌≡◌, ◌≢◌, ℕ, zero, suc, ◌+◌, ◌<◌, ◌≤◌, ◌↔◌, ◌⊎◌, inl, inr, List, [], ◌∷◌, Bool, true, false, not, IsTrue, IsFalse}
-use Rattle.std.proofs.Common.{Some, length, slice_get, take, drop, replicate, refl, sym, ap, ◌∙◌, subst, arith, length-drop}
+use Rattle.std.proofs.Common.{◌≡◌, ℕ, suc, ◌+◌, ◌<◌, ◌≤◌, ◌↔◌, ◌⊎◌, inl, inr, List, [], Bool, true, false, not, IsTrue, IsFalse}
+use Rattle.std.proofs.Common.{Some, length, slice_get, take, drop, refl, sym, ap, ◌∙◌, subst, arith, length-drop}
 use Rattle.std.proofs.lemmas.List.{length-replicate}
 use Rattle.std.proofs.lemmas.Option.{slice_get_within}
 use Rattle.std.proofs.lemmas.Bool.{false≢true}
 use Rattle.spec_grammar.specs.declared.rule.Symbol.TheVariants.{Category}
 use Rattle.spec_grammar.specs.declared.rule.Rule.{Rule}
 use Rattle.spec_grammar.specs.Derivation.{IsNullable}
-use Rattle.spec_lbnf.specs.Expansion.{Expansion, HasOwnSymbols, item_count}
+use Rattle.spec_lbnf.specs.Expansion.{Expansion, item_count}
 use Rattle.binary_form.specs.declared.rows.SuffixRow.{SuffixRow}
-use Rattle.binary_form.specs.Symbols.{BinarySymbol, plain, suffix, BinaryDerives, IsBinarySymbolOf, symbol_count, number_of}
-use Rattle.binary_form.specs.UnitSteps.{HasItem, AreNullable, UnitStep, whole_side, last_item, passed_item}
+use Rattle.binary_form.specs.Symbols.{BinarySymbol, plain, suffix, BinaryDerives, IsBinarySymbolOf, number_of}
+use Rattle.binary_form.specs.UnitSteps.{AreNullable, UnitStep, whole_side, last_item, passed_item}
 use Rattle.binary_form.specs.BinaryForm.{IsNumberOf}
 use Rattle.binary_form.specs.NumberSteps.{StepNumber}
 use Rattle.binary_form.specs.Rows.{IsRow, IsRowAt, AreRows, suffix_number}

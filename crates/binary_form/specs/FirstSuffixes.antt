@@ -1,4 +1,4 @@
--- Where the suffixes of each rule are numbered from. Serves the proofs alone.
+-- Serves the proofs alone. Where the suffixes of each rule are numbered from.
 use Rattle.std.specs.Prelude.{◌≡◌, ℕ, ◌+◌, ◌<◌, List, length, slice_index_or, take}
 use Rattle.spec_lbnf.specs.Expansion.{Expansion, item_count}
 

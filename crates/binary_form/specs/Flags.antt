@@ -1,6 +1,6 @@
--- Flags by number, and the search that sets the flags of what a number reaches. Serves the proofs alone.
-use Rattle.std.specs.Prelude.{◌≡◌, ℕ, suc, ◌+◌, ◌*◌, ◌≤◌, ◌<◌, ◌↔◌, ◌⊎◌, List, [], ◌∷◌, Bool, true, false, IsTrue}
-use Rattle.std.specs.Prelude.{length, slice_index_or, Contains}
+-- Serves the proofs alone. Flags by number, and the search that flags what a number reaches.
+use Rattle.std.specs.Prelude.{◌≡◌, ℕ, suc, ◌+◌, ◌*◌, ◌≤◌, ◌<◌, ◌↔◌, ◌⊎◌, List, [], ◌∷◌}
+use Rattle.std.specs.Prelude.{Bool, true, false, IsTrue, length, slice_index_or, Contains}
 use Rattle.binary_form.specs.Links.{HasLink}
 use Rattle.binary_form.specs.NumberSteps.{NumberReaches}
 
@@ -28,7 +28,8 @@ abbrev pub work_left : List Bool → List ℕ → ℕ
 work_left flags waiting = 2 * clear_count flags + length waiting
 
 -- these numbers have their flags, and those that had none wait
-pub record SetsFlags (targets : List ℕ) (old new : List Bool) (old_waiting waiting : List ℕ) : Type 0 where
+pub record SetsFlags (targets : List ℕ) (old new : List Bool) (old_waiting waiting : List ℕ)
+    : Type 0 where
   pub count : length new ≡ length old
   pub kept : (n : ℕ) → IsSet old n → IsSet new n
   pub set : (n : ℕ) → Contains targets n → IsSet new n
@@ -37,10 +38,13 @@ pub record SetsFlags (targets : List ℕ) (old new : List Bool) (old_waiting wai
   pub all_set : (n : ℕ) → Contains waiting n → Contains old_waiting n ⊎ Contains targets n
   pub less : work_left new waiting ≤ work_left old old_waiting
 
--- a search is under way: what has a flag is reached, what waits has one, and what has a flag and does not wait is linked to what has one
-pub record IsSearch (links : List (List ℕ)) (from : ℕ) (flags : List Bool) (waiting : List ℕ) : Type 0 where
+-- a search is under way: what has a flag is reached, what waits has one, and what has one and
+-- does not wait is linked to numbers that have one
+pub record IsSearch (links : List (List ℕ)) (from : ℕ) (flags : List Bool) (waiting : List ℕ)
+    : Type 0 where
   pub count : length flags ≡ length links
   pub start : IsSet flags from
   pub sound : (n : ℕ) → IsSet flags n → NumberReaches (HasLink links) from n
   pub all_set : (n : ℕ) → Contains waiting n → IsSet flags n
-  pub closed : (m : ℕ) → IsSet flags m → Contains waiting m ⊎ ((n : ℕ) → HasLink links m n → IsSet flags n)
+  pub closed : (m : ℕ) → IsSet flags m
+      → Contains waiting m ⊎ ((n : ℕ) → HasLink links m n → IsSet flags n)

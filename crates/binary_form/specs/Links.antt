@@ -1,5 +1,6 @@
--- Links from numbers to numbers, as a list of the numbers that each is linked to. Serves the proofs alone.
-use Rattle.std.specs.Prelude.{◌≡◌, ℕ, ◌↔◌, ◌⊎◌, List, [], length, slice_index_or, replicate, Contains}
+-- Serves the proofs alone. Links from numbers to numbers: for each, those that it is linked to.
+use Rattle.std.specs.Prelude.{◌≡◌, ℕ, ◌↔◌, ◌⊎◌, List, [], length, slice_index_or, replicate}
+use Rattle.std.specs.Prelude.{Contains}
 
 -- the first number is linked to the second
 abbrev pub HasLink : List (List ℕ) → ℕ → ℕ → Type 0

@@ -1,4 +1,4 @@
--- Flags of the symbols that derive the empty span, by number. Serves the proofs alone.
+-- Serves the proofs alone. Flags of the symbols that derive the empty span, by number.
 use Rattle.std.specs.Prelude.{◌≡◌, ℕ, ◌+◌, ◌<◌, ◌≤◌, ◌↔◌, ◌⊎◌, List, Bool, IsTrue, length}
 use Rattle.spec_lbnf.specs.Expansion.{Expansion}
 use Rattle.binary_form.specs.Symbols.{symbol_count}
@@ -12,8 +12,8 @@ pub record AreNullableNumbers (g : Expansion) (flags : List Bool) : Type 0 where
   pub count : length flags ≡ symbol_count g
   pub exact : (n : ℕ) → n < symbol_count g → IsSet flags n ↔ IsNullableNumber g n
 
--- each symbol has a flag, and those of the categories, of the kinds, and of the suffixes from this one on, the items
--- of all rules counted in order, say whether they derive the empty span
+-- each symbol has a flag, and those of the categories, of the kinds, and of the suffixes from this
+-- one on, the items of all rules counted in order, say whether they derive the empty span
 pub record AreNullableFrom (g : Expansion) (from : ℕ) (flags : List Bool) : Type 0 where
   pub count : length flags ≡ symbol_count g
   pub exact : (n : ℕ) → n < symbol_count g

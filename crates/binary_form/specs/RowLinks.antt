@@ -1,5 +1,6 @@
--- The links that the rows of suffixes give. Serves the proofs alone.
-use Rattle.std.specs.Prelude.{◌≡◌, ℕ, ◌+◌, ◌<◌, ◌↔◌, ◌⊎◌, List, Bool, Some, IsTrue, IsFalse, length, slice_get}
+-- Serves the proofs alone. The links that the rows of suffixes give.
+use Rattle.std.specs.Prelude.{◌≡◌, ℕ, ◌+◌, ◌<◌, ◌↔◌, ◌⊎◌, List, Bool, Some, IsTrue, IsFalse}
+use Rattle.std.specs.Prelude.{length, slice_get}
 use Rattle.spec_lbnf.specs.Expansion.{Expansion}
 use Rattle.binary_form.specs.declared.rows.SuffixRow.{SuffixRow}
 use Rattle.binary_form.specs.Symbols.{symbol_count}
@@ -8,8 +9,8 @@ use Rattle.binary_form.specs.Links.{HasLink}
 use Rattle.binary_form.specs.Flags.{IsSet}
 use Rattle.binary_form.specs.NullableNumbers.{IsRestNullable}
 
--- the suffix of this number gives a unit step: to its category from the whole right side, to it from its item, and
--- to it from the suffix behind its item
+-- the suffix of this number gives a unit step: from the whole right side to the category, from its
+-- item to it, or from the suffix behind its item to it
 abbrev pub IsRowStep : List Bool → SuffixRow → ℕ → ℕ → ℕ → Type 0
 IsRowStep nullable row whole from to =
     (IsTrue row.is_first × (from ≡ whole) × (to ≡ row.category))
@@ -21,7 +22,8 @@ abbrev pub IsRowWhole : SuffixRow → ℕ → ℕ → ℕ → Type 0
 IsRowWhole row whole from to = IsFalse row.is_last × (from ≡ row.item) × (to ≡ whole)
 
 -- one of so many rows gives the link
-pub record IsLinkOfRows (Link : SuffixRow → ℕ → ℕ → ℕ → Type 0) (rows : List SuffixRow) (first many from to : ℕ) : Type 0 where
+pub record IsLinkOfRows (Link : SuffixRow → ℕ → ℕ → ℕ → Type 0) (rows : List SuffixRow)
+    (first many from to : ℕ) : Type 0 where
   pub k : ℕ
   pub row : SuffixRow
   pub is_row : slice_get rows k ≡ Some row
@@ -29,7 +31,8 @@ pub record IsLinkOfRows (Link : SuffixRow → ℕ → ℕ → ℕ → Type 0) (r
   pub is_link : Link row (first + k) from to
 
 -- the links are those that so many rows give
-pub record AreLinksOfRows (Link : SuffixRow → ℕ → ℕ → ℕ → Type 0) (rows : List SuffixRow) (first many count : ℕ) (links : List (List ℕ)) : Type 0 where
+pub record AreLinksOfRows (Link : SuffixRow → ℕ → ℕ → ℕ → Type 0) (rows : List SuffixRow)
+    (first many count : ℕ) (links : List (List ℕ)) : Type 0 where
   pub size : length links ≡ count
   pub exact : (m n : ℕ) → HasLink links m n ↔ IsLinkOfRows Link rows first many m n
 

@@ -1,5 +1,6 @@
--- One row for each suffix, in the order of their numbers. Serves the proofs alone.
-use Rattle.std.specs.Prelude.{◌≡◌, ℕ, ◌+◌, ◌↔◌, List, [], Some, IsTrue, IsFalse, ◌<◌, length, slice_get, take}
+-- Serves the proofs alone. One row for each suffix, in the order of their numbers.
+use Rattle.std.specs.Prelude.{◌≡◌, ℕ, ◌+◌, ◌<◌, ◌↔◌, List, [], Some, IsTrue, IsFalse}
+use Rattle.std.specs.Prelude.{length, slice_get, take}
 use Rattle.spec_grammar.specs.declared.rule.Symbol.{Symbol}
 use Rattle.spec_grammar.specs.declared.rule.Symbol.TheVariants.{Category}
 use Rattle.spec_lbnf.specs.Expansion.{Expansion, item_count}
@@ -8,8 +9,9 @@ use Rattle.binary_form.specs.Symbols.{plain}
 use Rattle.binary_form.specs.UnitSteps.{HasItem}
 use Rattle.binary_form.specs.BinaryForm.{IsNumberOf}
 
--- the row is that of the suffix of rule r from place p on: it tells the item there and the rule's category by
--- their numbers, whether the suffix is the whole right side, and whether the item is the last
+-- the row is that of the suffix of rule r from place p on: it tells the item there and the rule's
+-- category by their numbers, whether the suffix is the whole right side, and whether the item is
+-- the last
 pub record IsRow (g : Expansion) (r p : ℕ) (row : SuffixRow) : Type 0 where
   pub item : Symbol
   pub behind : List Symbol
@@ -19,11 +21,11 @@ pub record IsRow (g : Expansion) (r p : ℕ) (row : SuffixRow) : Type 0 where
   pub is_first : IsTrue row.is_first ↔ (p ≡ 0)
   pub is_last : IsTrue row.is_last ↔ (behind ≡ [])
 
--- the number of the suffix that begins at this item of the grammar, the items of all rules counted in order
+-- the number of the suffix that begins at this item, the items of all rules counted in order
 abbrev pub suffix_number : Expansion → ℕ → ℕ
 suffix_number g n = length g.categories + length g.kinds + n
 
--- the row is that of the suffix which begins at this item of the grammar, the items of all rules counted in order
+-- the row is that of the suffix which begins at this item, the items of all rules counted in order
 pub record IsRowAt (g : Expansion) (n : ℕ) (row : SuffixRow) : Type 0 where
   pub r : ℕ
   pub p : ℕ
@@ -39,7 +41,8 @@ pub record AreRowsUpTo (g : Expansion) (many : ℕ) (rows : List SuffixRow) : Ty
 abbrev pub AreRows : Expansion → List SuffixRow → Type 0
 AreRows g rows = AreRowsUpTo g (item_count g.rules) rows
 
--- the numbers that a row tells are below the count, and so is the number behind the suffix if there is one
+-- the suffix's number and its item's are below the count, and so is that of the suffix behind the
+-- item, if there is one
 pub record IsRowWithin (row : SuffixRow) (whole count : ℕ) : Type 0 where
   pub whole_below : whole < count
   pub item_below : row.item < count

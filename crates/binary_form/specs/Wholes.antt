@@ -1,5 +1,5 @@
--- Where an item of a rule has a suffix behind it: the number of the item is linked to that of the suffix which it
--- begins. Serves the proofs alone.
+-- Serves the proofs alone. Where an item of a rule has a suffix behind it: the item's number is
+-- linked to that of the suffix which it begins.
 use Rattle.std.specs.Prelude.{◌≡◌, ℕ, suc, ◌↔◌, List, length}
 use Rattle.spec_grammar.specs.declared.rule.Symbol.{Symbol}
 use Rattle.spec_lbnf.specs.Expansion.{Expansion}
@@ -8,8 +8,8 @@ use Rattle.binary_form.specs.UnitSteps.{HasItem}
 use Rattle.binary_form.specs.BinaryForm.{IsNumberOf}
 use Rattle.binary_form.specs.Links.{HasLink}
 
--- the number is that of item p of a rule which has an item behind it, and the whole is the number of the suffix
--- from p on; the suffix behind the item has the next number
+-- the one number is that of an item of a rule with an item behind it, and the other is that of the
+-- suffix which it begins; the suffix behind the item has the next number
 pub record IsWhole (g : Expansion) (item_number whole : ℕ) : Type 0 where
   pub r : ℕ
   pub p : ℕ
@@ -23,4 +23,5 @@ pub record IsWhole (g : Expansion) (item_number whole : ℕ) : Type 0 where
 -- the links lead from each item that has an item behind it to the suffix that it begins
 pub record AreWholes (g : Expansion) (wholes : List (List ℕ)) : Type 0 where
   pub count : length wholes ≡ symbol_count g
-  pub links : (item_number whole : ℕ) → HasLink wholes item_number whole ↔ IsWhole g item_number whole
+  pub links : (item_number whole : ℕ)
+      → HasLink wholes item_number whole ↔ IsWhole g item_number whole

@@ -8,8 +8,8 @@ use std::alloc::{AllocError, Global};
 /// Flags the number, which then waits to be looked at, unless it has its flag.
 fn flag(target: u16, flags: &mut Vec<bool>, waiting: &mut Vec<u16>) -> Result<(), AllocError>
     requires { target < length flags.old.items }
-    ensures { OnOk result
-        (SetsFlags (target ∷ []) flags.old.items flags.new.items waiting.old.items waiting.new.items) }
+    ensures { OnOk result (SetsFlags (target ∷ [])
+        flags.old.items flags.new.items waiting.old.items waiting.new.items) }
 {
     if flags[target as usize] {
         return Ok(());
@@ -25,8 +25,8 @@ fn flag_all(
     waiting: &mut Vec<u16>,
 ) -> Result<(), AllocError>
     requires { (n : ℕ) → Contains targets.now n → n < length flags.old.items }
-    ensures { OnOk result
-        (SetsFlags targets.now flags.old.items flags.new.items waiting.old.items waiting.new.items) }
+    ensures { OnOk result (SetsFlags targets.now
+        flags.old.items flags.new.items waiting.old.items waiting.new.items) }
 {
     for target in targets {
         flag(*target, flags, waiting)?;

@@ -1,5 +1,6 @@
 //! Links from numbers to numbers.
-ghost use Rattle.std.specs.Prelude.{◌≡◌, ◌<◌, [], length, slice_index_or, IsTrue, IfOk, OnOk, OnErr};
+ghost use Rattle.std.specs.Prelude.{◌≡◌, ◌<◌, [], length, slice_index_or, IsTrue};
+ghost use Rattle.std.specs.Prelude.{IfOk, OnOk, OnErr};
 ghost use Rattle.binary_form.specs.Links.{AddsLink, AddsLinks, AreNoLinks};
 
 use sqlite_items::Items;

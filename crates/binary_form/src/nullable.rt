@@ -12,7 +12,8 @@ use crate::rows::SuffixRow;
 use lbnf_grammar::{Grammar, nullable_categories};
 use std::alloc::{AllocError, Global};
 
-/// Whether the items behind the one that begins this suffix derive the empty span, if there are any.
+/// Whether the items behind the one that begins this suffix derive the empty span, if there are
+/// any.
 pub fn is_rest_nullable(flags: &[bool], row: &SuffixRow, whole: u16) -> bool
     requires { IsRowWithin row.now whole (length flags.now) }
     ensures { IsTrue result ↔ IsRestNullable flags.now row.now whole }
@@ -60,7 +61,8 @@ fn with_suffixes(
     Ok(flags)
 }
 
-/// For each symbol, whether it derives the empty span.
+/// For each symbol, whether it derives the empty span. It looks at each suffix once, behind what
+/// the flags of the categories cost.
 pub fn nullable_numbers(
     alloc: Global,
     grammar: &Grammar,
@@ -68,8 +70,8 @@ pub fn nullable_numbers(
 ) -> Result<Vec<bool>, AllocError>
     requires few { symbol_count grammar.now < 2 ^ 16 }
     requires rows { AreRows grammar.now rows.now }
-    ensures { IfOk result (λ all. AreNullableNumbers grammar.now all.items) }
+    ensures { IfOk result (λ flags. AreNullableNumbers grammar.now flags.items) }
 {
-    let flags = nullable_categories(alloc, grammar)?;
-    with_suffixes(grammar, rows, flags)
+    let categories = nullable_categories(alloc, grammar)?;
+    with_suffixes(grammar, rows, categories)
 }

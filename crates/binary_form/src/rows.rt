@@ -25,7 +25,8 @@ pub struct SuffixRow {
 fn row(grammar: &Grammar, r: u16, p: usize) -> SuffixRow
     requires few { symbol_count grammar.now < 2 ^ 16 }
     requires rule { r < length grammar.now.rules }
-    requires item { (rule : Rule) → slice_get grammar.now.rules r ≡ Some rule → p < length rule.items }
+    requires item { (rule : Rule) → slice_get grammar.now.rules r ≡ Some rule
+        → p < length rule.items }
     ensures { IsRow grammar.now r p result }
 {
     let rule = &grammar.rules()[r as usize];
@@ -41,7 +42,8 @@ fn row(grammar: &Grammar, r: u16, p: usize) -> SuffixRow
 fn add_rule(grammar: &Grammar, r: u16, rows: &mut Vec<SuffixRow>) -> Result<(), AllocError>
     requires few { symbol_count grammar.now < 2 ^ 16 }
     requires rule { r < length grammar.now.rules }
-    requires rows { AreRowsUpTo grammar.now (item_count (take r grammar.now.rules)) rows.old.items }
+    requires rows { AreRowsUpTo grammar.now
+        (item_count (take r grammar.now.rules)) rows.old.items }
     ensures { OnOk result
         (AreRowsUpTo grammar.now (item_count (take (r + 1) grammar.now.rules)) rows.new.items) }
 {

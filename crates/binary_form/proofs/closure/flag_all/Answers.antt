@@ -1,4 +1,4 @@
-use Rattle.std.proofs.Common.{◌∷◌, [], take, length, slice_index_or, refl, sym, arith, ℕ}
+use Rattle.std.proofs.Common.{◌∷◌, [], take, slice_index_or, ℕ}
 use Rattle.std.proofs.lemmas.List.{get_or_default, take_more}
 use Rattle.binary_form.proofs.FlagLemmas.{flags_more}
 use Rattle.binary_form.proofs.closure.flag_all.Goals as goal

@@ -1,4 +1,4 @@
-use Rattle.std.proofs.Common.{◌≡◌, [], ◌∷◌, ◌++◌, length, replicate, false, sym, ◌∙◌, ap}
+use Rattle.std.proofs.Common.{◌≡◌, [], length, replicate, false, sym, ◌∙◌, ap}
 use Rattle.std.proofs.lemmas.List.{nil_from_length}
 use Rattle.binary_form.proofs.FlagLemmas.{search_starts, search_goes_on, search_ends, next_within}
 use Rattle.binary_form.proofs.closure.reached_from.Goals as goal

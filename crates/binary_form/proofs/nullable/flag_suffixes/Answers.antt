@@ -1,7 +1,6 @@
-use Rattle.std.proofs.Common.{◌≡◌, ◌+◌, ◌-◌, ◌<◌, ◌≤◌, ◌↔◌, ℕ, List, Bool, IsTrue, length, slice_index_or, slice_set, Some, slice_get, subst, sym, arith}
+use Rattle.std.proofs.Common.{◌≡◌, ◌+◌, ◌-◌, ◌<◌, ℕ, length, slice_index_or, subst, arith}
 use Rattle.std.proofs.lemmas.Option.{slice_get-get_or}
-use Rattle.binary_form.specs.Flags.{IsSet}
-use Rattle.binary_form.specs.NullableNumbers.{AreNullableFrom, IsRestNullable}
+use Rattle.binary_form.specs.NullableNumbers.{AreNullableFrom}
 use Rattle.binary_form.proofs.RowLemmas.{no_row, row_within}
 use Rattle.binary_form.proofs.NullableLemmas.{flagged_from}
 use Rattle.binary_form.proofs.nullable.flag_suffixes.Goals as goal

@@ -1,4 +1,4 @@
-use Rattle.std.proofs.Common.{◌≡◌, ◌+◌, ◌∙◌, sym, ap, subst, take, length, ℕ, arith}
+use Rattle.std.proofs.Common.{◌≡◌, ◌+◌, subst, take, ℕ, arith}
 use Rattle.spec_lbnf.specs.Expansion.{item_count}
 use Rattle.binary_form.specs.Rows.{AreRowsUpTo}
 use Rattle.binary_form.proofs.NumberLemmas.{count-take-more}

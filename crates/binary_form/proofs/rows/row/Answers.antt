@@ -1,4 +1,4 @@
-use Rattle.std.proofs.Common.{length, slice_index_or, refl, ap, get_or, sym, ◌∙◌, ◌≡◌, Some, slice_get, nat_eq, ◌+◌}
+use Rattle.std.proofs.Common.{length, slice_index_or, refl, ap, ◌≡◌, Some, slice_get, nat_eq, ◌+◌}
 use Rattle.std.proofs.lemmas.Option.{slice_get_read}
 use Rattle.spec_grammar.specs.declared.rule.Symbol.TheVariants.{Category}
 use Rattle.std.proofs.lemmas.Option.{slice_get-get_or}

@@ -1,7 +1,3 @@
-use Rattle.std.proofs.Common.{◌≡◌, ◌+◌, IsTrue, IsFalse}
-use Rattle.binary_form.specs.Links.{AddsLinks}
-use Rattle.binary_form.specs.Flags.{IsSet}
-use Rattle.binary_form.specs.NullableNumbers.{IsRestNullable}
 use Rattle.binary_form.proofs.StepLemmas.{adds_steps}
 use Rattle.binary_form.proofs.steps.add_steps.Goals as goal
 

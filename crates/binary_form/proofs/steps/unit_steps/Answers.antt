@@ -1,6 +1,5 @@
-use Rattle.std.proofs.Common.{◌≡◌, ◌+◌, ◌<◌, ℕ, length, false, slice_get, slice_index_or, Some, sym, subst, arith, ap, ◌∙◌}
+use Rattle.std.proofs.Common.{ℕ, length, slice_index_or, subst}
 use Rattle.std.proofs.lemmas.Option.{slice_get-get_or}
-use Rattle.binary_form.specs.declared.rows.SuffixRow.{SuffixRow}
 use Rattle.binary_form.specs.RowLinks.{IsRowStep, AreLinksOfRows}
 use Rattle.binary_form.proofs.RowLemmas.{no_row, row_within}
 use Rattle.binary_form.proofs.StepLemmas.{links_of_more, unit_steps_are}

@@ -1,4 +1,4 @@
-use Rattle.std.proofs.Common.{◌≡◌, ◌+◌, ℕ, IsFalse, length, not, slice_index_or, subst, sym, arith}
+use Rattle.std.proofs.Common.{◌+◌, ℕ, IsFalse, length, not, slice_index_or, subst, arith}
 use Rattle.std.proofs.lemmas.Option.{slice_get-get_or}
 use Rattle.binary_form.specs.RowLinks.{IsRowWhole, AreLinksOfRows}
 use Rattle.binary_form.proofs.LinkLemmas.{adds_tested}
