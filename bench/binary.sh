@@ -9,10 +9,10 @@ root=$(cd -- "$(dirname -- "${BASH_SOURCE[0]}")/.." && pwd)
 program=$root/crates/binary_bench/out/binary_bench
 
 # The run proves and builds the program, where it has to be built.
-(cd -- "$root/crates/binary_bench" && rt run -- chain >/dev/null) || exit 2
+(cd -- "$root/crates/binary_bench" && rt run -- chain </dev/null >/dev/null) || exit 2
 
 exec python3 - "$program" <<'PROGRAM'
-import os
+import pathlib
 import subprocess
 import sys
 import time
@@ -26,16 +26,19 @@ GRAMMARS = [("imperative", 105), ("chain", 2001)]
 
 
 def measure(name, symbols):
-    """The seconds and the peak megabytes of one run."""
+    """The seconds up to the line that one run writes, and its peak megabytes."""
     began = time.monotonic()
-    child = subprocess.Popen([PROGRAM, name], stdout=subprocess.PIPE, text=True)
-    out = child.stdout.read()
-    _, status, usage = os.wait4(child.pid, 0)
-    taken = time.monotonic() - began
-    if status != 0 or not out.startswith(f"symbols {symbols} "):
-        print(f"bench: {name} gave {out!r} and status {status}", file=sys.stderr)
+    with subprocess.Popen(
+        [PROGRAM, name], stdin=subprocess.PIPE, stdout=subprocess.PIPE, text=True
+    ) as child:
+        line = child.stdout.readline()
+        taken = time.monotonic() - began
+        status = pathlib.Path(f"/proc/{child.pid}/status").read_text()
+        child.communicate()
+    if child.returncode != 0 or not line.startswith(f"symbols {symbols} "):
+        print(f"bench: {name} gave {line!r} and status {child.returncode}", file=sys.stderr)
         sys.exit(2)
-    return taken, usage.ru_maxrss / 1024
+    return taken, int(status.partition("VmHWM:")[2].split()[0]) / 1024
 
 
 def main():

@@ -1,5 +1,6 @@
 //! Measures the binary form: makes it for one of two grammars, by the word `imperative` or `chain`,
-//! and writes how many symbols it has and how many symbols their closures have together.
+//! and writes how many symbols it has and how many symbols their closures have together. It then
+//! waits for a line or the end of standard input, so that its memory can be looked at.
 #![tactic(auto)]
 
 mod grammars;
@@ -47,5 +48,6 @@ fn main(rt: HostRuntime) -> io::Result<ExitCode> {
     let symbols = form.symbol_count();
     let members = member_count(&form);
     println!(rt; "symbols {symbols} members {members}")?;
+    let _line = rt.lines(alloc).next();
     Ok(ExitCode::from(0))
 }
