@@ -18,10 +18,13 @@ module _ (flags : List Bool) where
       (number : ℕ) (old new : List ℕ)
       → IsSet flags number → AddsSymbol old new number
       → Adds (λ n. (n ≡ number) × IsSet flags n) old new
-  adds_number number old new set adds n = (to, (λ is. elim is [
-    | inl kept ↦ (adds n).1 (inl kept)
-    | inr it ↦ (adds n).1 (inr it.0)
-  ]))
+  adds_number number old new set adds n = (
+    to,
+    (λ is. elim is [
+      | inl kept ↦ (adds n).1 (inl kept)
+      | inr it ↦ (adds n).1 (inr it.0)
+    ]),
+  )
     where
       to : Contains new n → Contains old n ⊎ ((n ≡ number) × IsSet flags n)
       to has = elim ((adds n).0 has) [

@@ -75,8 +75,8 @@ module _ {C : Type 0} (symbols : C → List ℕ) (g : Expansion) (cells : List C
         (wholes.links l whole).1 is,
         (
           subst Has next on_right,
-          in_cell (suffix makes.r makes.p) whole n is.is_whole makes.reaches
-        )
+          in_cell (suffix makes.r makes.p) whole n is.is_whole makes.reaches,
+        ),
       )
 
   -- what a whole gives, its item and the suffix behind it make

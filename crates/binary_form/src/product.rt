@@ -32,7 +32,7 @@ fn with_whole<C: Cell>(
     requires room { length closures.now ≤ C.ROOM }
     ensures { IfOk result (λ new.
         Adds (WholeGives C.symbols closures.now (C.symbols right.now) whole)
-            (C.symbols cell) (C.symbols new)) }
+        (C.symbols cell) (C.symbols new)) }
 {
     if right.has(whole + 1) {
         cell.union(alloc, &closures[whole as usize])
@@ -54,7 +54,7 @@ fn with_wholes<C: Cell>(
     requires room { length closures.now ≤ C.ROOM }
     ensures { IfOk result (λ new.
         Adds (OneGives (WholeGives C.symbols closures.now (C.symbols right.now)) wholes.now)
-            (C.symbols start) (C.symbols new)) }
+        (C.symbols start) (C.symbols new)) }
 {
     let mut cell = start;
     for whole in wholes {
@@ -78,7 +78,7 @@ pub fn product_of<C: Cell>(
     requires room { length closures.now ≤ C.ROOM }
     ensures { IfOk result (λ cell. (n : ℕ) → Contains (C.symbols cell) n
         ↔ OneGives (ItemGives C.symbols closures.now wholes.now (C.symbols right.now))
-            (C.symbols left.now) n) }
+        (C.symbols left.now) n) }
 {
     let mut cell = C::empty();
     let mut from = 0;

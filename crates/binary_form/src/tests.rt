@@ -1,6 +1,7 @@
 //! Small grammars in binary form, with numbers, closures and products by hand. Cells are called
 //! through the trait, and are list cells.
-ghost use Rattle.std.specs.Prelude.{◌≤◌};
+ghost use Rattle.std.specs.Prelude.{◌≡◌, ◌<◌, ◌≤◌, length};
+ghost use Rattle.binary_form.specs.BinaryForm.{MakesBinary};
 
 mod samples;
 
@@ -13,6 +14,7 @@ use std::test::*;
 
 fn form_of<C: Cell>(alloc: Global, grammar: &Grammar) -> Result<Binary<C>, BinaryFault>
     requires { 65536 ≤ C.ROOM }
+    ensures { MakesBinary grammar.now result }
 {
     binary(alloc, grammar)
 }
@@ -24,11 +26,7 @@ fn sample_form(alloc: Global, sample: Sample) -> Option<Binary<ListCell>> {
 }
 
 /// The symbols of a cell, in rising order.
-fn members_of<C: Cell>(
-    alloc: Global,
-    form: &Binary<C>,
-    cell: &C,
-) -> Result<Vec<u16>, AllocError> {
+fn members_of<C: Cell>(alloc: Global, form: &Binary<C>, cell: &C) -> Result<Vec<u16>, AllocError> {
     let mut members = Vec::new(alloc);
     for symbol in 0..form.symbol_count() as u16 {
         if cell.has(symbol) {
@@ -82,25 +80,53 @@ fn nullable_of<C: Cell>(alloc: Global, form: &Binary<C>) -> Result<Vec<bool>, Al
     Ok(flags)
 }
 
-/// The number of each category and kind, and that of each suffix.
-fn numbers_of<C: Cell>(alloc: Global, grammar: &Grammar) -> Option<(Vec<u16>, Vec<u16>)>
-    requires { 65536 ≤ C.ROOM }
+/// The number of each category and kind.
+fn plain_numbers<C: Cell>(
+    alloc: Global,
+    form: &Binary<C>,
+    grammar: &Grammar,
+) -> Result<Vec<u16>, AllocError>
+    requires { form.now ≡ grammar.now }
 {
-    let form: Binary<C> = form_of(alloc, grammar).ok()?;
-    let mut plain = Vec::new(alloc);
+    let mut numbers = Vec::new(alloc);
     for c in 0..grammar.category_count() {
-        plain.push(form.symbol_of(Symbol::Category(c))).ok()?;
+        numbers.push(form.symbol_of(Symbol::Category(c)))?;
     }
     for k in 0..grammar.kind_count() {
-        plain.push(form.symbol_of(Symbol::Kind(k))).ok()?;
+        numbers.push(form.symbol_of(Symbol::Kind(k)))?;
     }
+    Ok(numbers)
+}
+
+/// The number of each suffix of a rule.
+fn suffix_numbers<C: Cell>(
+    form: &Binary<C>,
+    grammar: &Grammar,
+    r: u16,
+    numbers: &mut Vec<u16>,
+) -> Result<(), AllocError>
+    requires form { form.now ≡ grammar.now }
+    requires rule { r < length grammar.now.rules }
+{
+    for p in 0..grammar.rule(r).items.len() as u16 {
+        numbers.push(form.suffix_of(r, p))?;
+    }
+    Ok(())
+}
+
+/// The numbers of categories and kinds, and those of the suffixes.
+fn numbers_of<C: Cell>(
+    alloc: Global,
+    form: &Binary<C>,
+    grammar: &Grammar,
+) -> Result<(Vec<u16>, Vec<u16>), AllocError>
+    requires { form.now ≡ grammar.now }
+{
     let mut suffixes = Vec::new(alloc);
     for r in 0..grammar.rule_count() {
-        for p in 0..grammar.rule(r).items.len() {
-            suffixes.push(form.suffix_of(r, p as u16)).ok()?;
-        }
+        suffix_numbers(form, grammar, r, &mut suffixes)?;
     }
-    Some((plain, suffixes))
+    Ok((plain_numbers(alloc, form, grammar)?, suffixes))
 }
 
 #[test]
@@ -110,10 +136,7 @@ fn a_symbol_reaches_itself_and_what_unit_steps_lead_to(rt: HostRuntime) -> Resul
             TRIPLES,
             &[&[0, 4], &[0, 1, 4, 5], &[0, 2, 4], &[3], &[4], &[0, 4, 5]],
         ),
-        (
-            BRACKETS,
-            &[&[0], &[1], &[2, 4, 5], &[0, 3], &[4], &[4, 5]],
-        ),
+        (BRACKETS, &[&[0], &[1], &[2, 4, 5], &[0, 3], &[4], &[4, 5]]),
         (
             PAIRS,
             &[
@@ -149,7 +172,11 @@ fn nullable_symbols_are_those_that_derive_nothing(rt: HostRuntime) -> Result<(),
     ];
     for (sample, want) in cases {
         let form = sample_form(rt.alloc(), sample).ok_or("a form")?;
-        assert_eq!(rt; nullable_of(rt.alloc(), &form)?.as_slice(), want, "at {sample:?}");
+        assert_eq!(rt;
+            nullable_of(rt.alloc(), &form)?.as_slice(),
+            want,
+            "at {sample:?}"
+        );
     }
     Ok(())
 }
@@ -203,8 +230,16 @@ fn a_product_is_made_by_items_and_the_suffixes_behind_them(rt: HostRuntime) -> R
     for (sample, left, right, want) in cases {
         let form = sample_form(rt.alloc(), sample).ok_or("a form")?;
         let (product, meets) = product_of(rt.alloc(), &form, left, right)?;
-        assert_eq!(rt; product.as_slice(), want, "at {sample:?}, {left:?}, {right:?}");
-        assert_eq!(rt; meets, !want.is_empty(), "at {sample:?}, {left:?}, {right:?}");
+        assert_eq!(rt;
+            product.as_slice(),
+            want,
+            "at {sample:?}, {left:?}, {right:?}"
+        );
+        assert_eq!(rt;
+            meets,
+            !want.is_empty(),
+            "at {sample:?}, {left:?}, {right:?}"
+        );
     }
     Ok(())
 }
@@ -230,7 +265,11 @@ fn tokens_meet_where_their_product_is_not_empty(rt: HostRuntime) -> Result<(), F
 #[test]
 fn symbols_are_numbered_categories_first_and_suffixes_last(rt: HostRuntime) -> Result<(), Fail> {
     let grammar = grammar_of(rt.alloc(), PAIRS).ok_or("a grammar")?;
-    let (plain, suffixes) = numbers_of::<ListCell>(rt.alloc(), &grammar).ok_or("numbers")?;
+    let form: Binary<ListCell> = match form_of(rt.alloc(), &grammar) {
+        Ok(form) => form,
+        Err(_) => return Err("a form".into()),
+    };
+    let (plain, suffixes) = numbers_of(rt.alloc(), &form, &grammar)?;
     assert_eq!(rt; plain.as_slice(), [0, 1, 2, 3].as_slice());
     assert_eq!(rt; suffixes.as_slice(), [4, 5, 6].as_slice());
     Ok(())

@@ -12,12 +12,11 @@ pub loop-item-preserved : goal.loop-item-preserved
 loop-item-preserved g c =
     let symbols = g.C.Cell.symbols in
     let next = c.in-Some.ensures in
-    let unmet = rw c.from.ensures at c.if-goes_on.ensures in
-    (
+    let unmet = rw c.from.ensures at c.if-goes_on.ensures in (
       omega (arith, next.1, c.count.ensures),
       none_up_to (IsItemMet c.args.wholes.now (symbols c.args.right.now)) (symbols c.args.left.now)
-      c.count.result c.loop-item.from c.in-Some.item next c.loop-item.invariant.1
-      (λ met. not_true (unmet.1 met))
+          c.count.result c.loop-item.from c.in-Some.item next c.loop-item.invariant.1
+          (λ met. not_true (unmet.1 met)),
     )
 
 pub returns : goal.returns

@@ -8,7 +8,7 @@ abbrev pub invariant-loop-item : goal.invariant-loop-item
 invariant-loop-item g l =
     (l.from ≤ length l.wholes)
     × ((item : ℕ) → item < l.from → Contains (g.C.Cell.symbols l.left) item
-      → IsItemMet l.wholes (g.C.Cell.symbols l.right) item → ⊥)
+    → IsItemMet l.wholes (g.C.Cell.symbols l.right) item → ⊥)
 
 abbrev pub decreases-loop-item : goal.decreases-loop-item
 decreases-loop-item g l = length l.wholes - l.from

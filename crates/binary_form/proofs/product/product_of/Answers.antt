@@ -11,13 +11,12 @@ with_wholes-requires-clause-below g c κs within = rw c.from.ensures (c.requires
 pub loop-item-preserved : goal.loop-item-preserved
 loop-item-preserved g c =
     let symbols = g.C.Cell.symbols in
-    let next = c.in-Some.ensures in
-    (
+    let next = c.in-Some.ensures in (
       omega (arith, next.1, c.count.ensures),
       given_more (ItemGives symbols c.args.closures.now c.args.wholes.now (symbols c.args.right.now))
-      (symbols c.args.left.now) c.count.result c.loop-item.from c.in-Some.item
-      (symbols c.loop-item.cell) (symbols c.in_ok-cell.cell) next c.loop-item.invariant.1
-      (rw c.from.ensures at c.in_ok-cell.ensures)
+          (symbols c.args.left.now) c.count.result c.loop-item.from c.in-Some.item
+          (symbols c.loop-item.cell) (symbols c.in_ok-cell.cell) next c.loop-item.invariant.1
+          (rw c.from.ensures at c.in_ok-cell.ensures),
     )
 
 pub returns : goal.returns

@@ -13,5 +13,5 @@ returns-then-has g c =
     IfOk-weaker c.union.result _
     (λ new. Adds (WholeGives symbols closures right c.args.whole) (symbols c.args.cell) (symbols new))
     (λ new. adds_closure symbols closures right c.args.whole c.index-closures-whole.result (symbols c.args.cell)
-      (symbols new) (c.if-has.ensures.0 refl) within c.index-closures-whole.is)
+    (symbols new) (c.if-has.ensures.0 refl) within c.index-closures-whole.is)
     c.union.ensures.ok

@@ -17,5 +17,5 @@ returns g c =
     let right = symbols c.args.right.now in
     IfOk-weaker c.product_of.result _ (λ cell. IsProductOf c.args.self.now left right (symbols cell))
     (λ cell. product_is symbols c.args.self.now c.self.inside.closures.items c.self.inside.wholes parts.closures
-      parts.wholes left right (symbols cell))
+    parts.wholes left right (symbols cell))
     (rw c.as_slice.ensures.value at c.product_of.ensures)
