@@ -26,8 +26,10 @@ use Rattle.binary_form.proofs.RowLemmas.{number_below, whole_number, next_number
 use Rattle.binary_form.proofs.LinkLemmas.{no_link, adds_both, adds_tested}
 
 -- one suffix's unit steps are added, those of each sort where they are there
-pub adds_steps : (nullable : List Bool) (row : SuffixRow) (whole : ℕ) (old first second new : List (List ℕ)) (empty passed : Bool)
-    → IsTrue empty ↔ IsRestNullable nullable row whole → IsTrue passed ↔ (IsFalse row.is_last × IsSet nullable row.item)
+pub adds_steps :
+    (nullable : List Bool) (row : SuffixRow) (whole : ℕ) (old first second new : List (List ℕ)) (empty passed : Bool)
+    → IsTrue empty ↔ IsRestNullable nullable row whole
+    → IsTrue passed ↔ (IsFalse row.is_last × IsSet nullable row.item)
     → AddsLinks (λ m n. IsTrue row.is_first × (m ≡ whole) × (n ≡ row.category)) old first
     → AddsLinks (λ m n. IsTrue empty × (m ≡ row.item) × (n ≡ whole)) first second
     → AddsLinks (λ m n. IsTrue passed × (m ≡ whole + 1) × (n ≡ whole)) second new
@@ -43,7 +45,9 @@ adds_steps nullable row whole old first second new empty passed is_empty is_pass
 
 module _ (Link : SuffixRow → ℕ → ℕ → ℕ → Type 0) (rows : List SuffixRow) (first count : ℕ) where
   -- of no rows there are no links
-  pub links_of_none : (links : List (List ℕ)) → AreNoLinks count links → AreLinksOfRows Link rows first 0 count links
+  pub links_of_none :
+      (links : List (List ℕ))
+      → AreNoLinks count links → AreLinksOfRows Link rows first 0 count links
   links_of_none links none = record {
     size = ap length none ∙ length-replicate count [];
     exact = λ m n. (
@@ -53,8 +57,10 @@ module _ (Link : SuffixRow → ℕ → ℕ → ℕ → Type 0) (rows : List Suff
   }
 
   -- with one row more there are its links besides
-  pub links_of_more : (many : ℕ) (row : SuffixRow) (old new : List (List ℕ)) → slice_get rows many ≡ Some row
-      → AreLinksOfRows Link rows first many count old → AddsLinks (Link row (first + many)) old new
+  pub links_of_more :
+      (many : ℕ) (row : SuffixRow) (old new : List (List ℕ))
+      → slice_get rows many ≡ Some row → AreLinksOfRows Link rows first many count old
+      → AddsLinks (Link row (first + many)) old new
       → AreLinksOfRows Link rows first (many + 1) count new
   links_of_more many row old new is before adds = record {
     size = adds.count ∙ before.size;
@@ -78,7 +84,9 @@ module _ (Link : SuffixRow → ℕ → ℕ → ℕ → Type 0) (rows : List Suff
       last_or_before : (k : ℕ) → k < many + 1 → (k < many) ⊎ (k ≡ many)
       last_or_before k within = grind arith
 
-      same_row : (k : ℕ) (other : SuffixRow) → k ≡ many → slice_get rows k ≡ Some other → other ≡ row
+      same_row :
+          (k : ℕ) (other : SuffixRow)
+          → k ≡ many → slice_get rows k ≡ Some other → other ≡ row
       same_row k other same is_other = cc
 
       back : (m n : ℕ) → IsLinkOfRows Link rows first (many + 1) m n → HasLink new m n
@@ -108,7 +116,9 @@ not_tested true = ((λ is. absurd (false≢true is)), (λ is. absurd (false≢tr
 not_tested false = ((λ is. refl), (λ is. refl))
 
 -- an item with a symbol of the grammar behind it is not the last
-not_last : (g : Expansion) (r p : ℕ) (row : SuffixRow) → IsRow g r p row → IsBinarySymbolOf g (suffix r (suc p)) → IsFalse row.is_last
+not_last :
+    (g : Expansion) (r p : ℕ) (row : SuffixRow)
+    → IsRow g r p row → IsBinarySymbolOf g (suffix r (suc p)) → IsFalse row.is_last
 not_last g r p row is next = elim (true_or_false row.is_last) [
   | inr no_more ↦ no_more
   | inl last ↦
@@ -119,14 +129,18 @@ not_last g r p row is next = elim (true_or_false row.is_last) [
 
 module _ (g : Expansion) (rows : List SuffixRow) (nullable : List Bool) (are : AreRows g rows) (flags : AreNullableNumbers g nullable) where
   -- a flag of a symbol's number says that it derives the empty span
-  derives_empty : (a : BinarySymbol) (n : ℕ) → IsNumberOf g a n → IsSet nullable n → BinaryDerives g.rules [] a 0 0
+  derives_empty :
+      (a : BinarySymbol) (n : ℕ)
+      → IsNumberOf g a n → IsSet nullable n → BinaryDerives g.rules [] a 0 0
   derives_empty a n is set =
       let x = (flags.exact n (number_below g a n is)).0 set in
       let same : x.0 ≡ a = number_is_one g x.0 a n x.1 is in
       rw same at x.2
 
   -- the flag of a symbol that derives the empty span is set
-  empty_flagged : (a : BinarySymbol) (n : ℕ) → IsNumberOf g a n → BinaryDerives g.rules [] a 0 0 → IsSet nullable n
+  empty_flagged :
+      (a : BinarySymbol) (n : ℕ)
+      → IsNumberOf g a n → BinaryDerives g.rules [] a 0 0 → IsSet nullable n
   empty_flagged a n is empty = (flags.exact n (number_below g a n is)).1 (a, is, empty)
 
   -- the items behind a row's item derive the empty span where the row and the flags say so
@@ -194,10 +208,15 @@ module _ (g : Expansion) (rows : List SuffixRow) (nullable : List Bool) (are : A
       )
 
   -- a step of the grammar is one that a row gives
-  pub row_of_step : (from to : ℕ) → StepNumber g from to → IsLinkOfRows (IsRowStep nullable) rows (length g.categories + length g.kinds) (length rows) from to
+  pub row_of_step :
+      (from to : ℕ)
+      → StepNumber g from to
+      → IsLinkOfRows (IsRowStep nullable) rows (length g.categories + length g.kinds) (length rows) from to
   row_of_step from to step = row_of step.0 step.1 step.2 step.3 step.4
     where
-      row_of : (a b : BinarySymbol) → IsNumberOf g a from → IsNumberOf g b to → UnitStep g.rules a b
+      row_of :
+          (a b : BinarySymbol)
+          → IsNumberOf g a from → IsNumberOf g b to → UnitStep g.rules a b
           → IsLinkOfRows (IsRowStep nullable) rows (length g.categories + length g.kinds) (length rows) from to
       row_of a b is_a is_b (whole_side {r = r} {rule = rule} is_rule) =
           let start = symbol_item g r 0 is_a.0 in
@@ -251,7 +270,9 @@ module _ (g : Expansion) (rows : List SuffixRow) (nullable : List Bool) (are : A
           }
 
   -- the links that all rows give are the unit steps
-  pub unit_steps_are : (many : ℕ) (links : List (List ℕ)) → length rows ≤ many
+  pub unit_steps_are :
+      (many : ℕ) (links : List (List ℕ))
+      → length rows ≤ many
       → AreLinksOfRows (IsRowStep nullable) rows (length g.categories + length g.kinds) many (length nullable) links
       → AreUnitSteps g links
   unit_steps_are many links all given = record {
@@ -292,7 +313,9 @@ module _ (g : Expansion) (rows : List SuffixRow) (are : AreRows g rows) where
       }
 
   -- an item with an item behind it has a row whose suffix goes on
-  row_of_whole : (item_number whole : ℕ) → IsWhole g item_number whole
+  row_of_whole :
+      (item_number whole : ℕ)
+      → IsWhole g item_number whole
       → IsLinkOfRows IsRowWhole rows (length g.categories + length g.kinds) (length rows) item_number whole
   row_of_whole item_number whole x =
       let found = row_at g rows are x.r x.p x.item x.behind x.has in
@@ -312,7 +335,9 @@ module _ (g : Expansion) (rows : List SuffixRow) (are : AreRows g rows) where
       }
 
   -- the links that all rows give lead from items to the suffixes that they begin
-  pub wholes_are : (many : ℕ) (links : List (List ℕ)) → length rows ≤ many
+  pub wholes_are :
+      (many : ℕ) (links : List (List ℕ))
+      → length rows ≤ many
       → AreLinksOfRows IsRowWhole rows (length g.categories + length g.kinds) many (length g.categories + length g.kinds + length rows) links
       → AreWholes g links
   wholes_are many links all given = record {
