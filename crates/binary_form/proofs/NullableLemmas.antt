@@ -9,7 +9,6 @@ use Rattle.spec_grammar.specs.declared.rule.Symbol.{Symbol}
 use Rattle.spec_grammar.specs.declared.rule.Symbol.TheVariants.{Category, Kind}
 use Rattle.spec_grammar.specs.declared.rule.Rule.{Rule}
 use Rattle.spec_grammar.specs.Derivation.{Derives, DerivesAll, IsNullable}
-use Rattle.spec_grammar.proofs.DerivationLemmas.{none_derive, some_derive, derives_all_within, kind_derives}
 use Rattle.spec_lbnf.specs.Expansion.{Expansion, item_count}
 use Rattle.lbnf_grammar.specs.Nullable.{AreNullableFlags}
 use Rattle.binary_form.specs.declared.rows.SuffixRow.{SuffixRow}
@@ -19,6 +18,7 @@ use Rattle.binary_form.specs.BinaryForm.{IsNumberOf, IsNullableNumber}
 use Rattle.binary_form.specs.Rows.{IsRowAt, suffix_number}
 use Rattle.binary_form.specs.NullableNumbers.{AreNullableNumbers, AreNullableFrom, IsRestNullable}
 use Rattle.binary_form.specs.Flags.{IsSet}
+use Rattle.binary_form.proofs.EmptySpanLemmas.{none_nullable, some_nullable, kind_not_nullable}
 use Rattle.binary_form.proofs.NumberLemmas.{number_is_one}
 use Rattle.binary_form.proofs.ItemLemmas.{items_behind, same_rule}
 use Rattle.binary_form.proofs.LinkLemmas.{same_or_other}
@@ -45,21 +45,6 @@ module _ (g : Expansion) where
     (λ empty. (a, is, empty)),
   )
 
-  -- items derive the empty span exactly where the first of them and the others do
-  items_empty :
-      (s : Symbol) (behind : List Symbol)
-      → AreNullable g.rules (s ∷ behind) ↔ (IsNullable g.rules s × AreNullable g.rules behind)
-  items_empty s behind = (
-    (λ empty.
-        let x = (some_derive g.rules [] s behind 0 0).0 empty in
-        let within = derives_all_within g.rules [] behind x.0 0 x.2 in
-        let none : x.0 ≡ 0 = omega (arith, within.0) in
-        let P : ℕ → Type 0 = λ k. Derives g.rules [] s 0 k in
-        let Q : ℕ → Type 0 = λ k. DerivesAll g.rules [] behind k 0 in
-        (subst P none x.1, subst Q none x.2)),
-    (λ both. (some_derive g.rules [] s behind 0 0).1 (0, both.0, both.1)),
-  )
-
   module _ (n : ℕ) (row : SuffixRow) (at : IsRowAt g n row) where
     -- a suffix derives the empty span exactly where its item does, and what is behind it
     pub suffix_empty :
@@ -75,18 +60,18 @@ module _ (g : Expansion) where
               subst (AreNullable g.rules) (ap (λ (y : Rule). drop at.p y.items) same ∙ has.is_item) x.2),
           (λ empty. (has.rule, has.is_rule, subst (AreNullable g.rules) (sym has.is_item) empty)),
         ) in
-        alike whole (alike items (items_empty is.item is.behind))
+        alike whole (alike items (some_nullable g.rules is.item is.behind))
 
     -- what is behind the item derives the empty span exactly where the row says that it is the last,
     -- or the flag of the next suffix that it does
     pub rest_empty :
         (flags : List Bool)
         → (suffix_number g n + 1 < symbol_count g
-          → IsSet flags (suffix_number g n + 1) ↔ IsNullableNumber g (suffix_number g n + 1))
+        → IsSet flags (suffix_number g n + 1) ↔ IsNullableNumber g (suffix_number g n + 1))
         → IsRestNullable flags row (suffix_number g n) ↔ AreNullable g.rules (at.is_row).behind
     rest_empty flags exact = elim (none_or_more (at.is_row).behind) [
       | inl none ↦ (
-        (λ rest. subst (AreNullable g.rules) (sym none) ((none_derive g.rules [] 0 0).1 refl)),
+        (λ rest. subst (AreNullable g.rules) (sym none) (none_nullable g.rules)),
         (λ empty. inl (((at.is_row).is_last).1 none)),
       )
       | inr (t, more, is_more) ↦
@@ -116,11 +101,9 @@ module _ (g : Expansion) where
   plain_below (Category c) n is = omega (arith, is.0, is.1)
   plain_below (Kind k) n is = omega (arith, is.0, is.1)
 
-  -- a kind does not derive the empty span
+  -- the number of a kind is not that of a symbol that derives the empty span
   no_empty_kind : (k n : ℕ) → IsNumberOf g (plain (Kind k)) n → IsNullableNumber g n → ⊥
-  no_empty_kind k n is x =
-      let d = (kind_derives g.rules [] k 0 0).0 ((number_empty (plain (Kind k)) n is).0 x) in
-      omega (arith, d.1)
+  no_empty_kind k n is x = kind_not_nullable g.rules k ((number_empty (plain (Kind k)) n is).0 x)
 
   -- with one suffix more, the flags say of it too whether it derives the empty span
   pub flagged_from :

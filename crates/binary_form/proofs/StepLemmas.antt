@@ -23,6 +23,7 @@ use Rattle.spec_grammar.proofs.DerivationLemmas.{none_derive}
 use Rattle.binary_form.proofs.NumberLemmas.{number_is_one, number-suffix-suc}
 use Rattle.binary_form.proofs.ItemLemmas.{items_behind, same_rule, symbol_item}
 use Rattle.binary_form.proofs.RowLemmas.{number_below, whole_number, next_number, goes_on, none_or_more, row_at, same_item}
+use Rattle.binary_form.proofs.NullableLemmas.{alike, number_empty, rest_empty}
 use Rattle.binary_form.proofs.LinkLemmas.{no_link, adds_both, adds_tested}
 
 -- one suffix's unit steps are added, those of each sort where they are there
@@ -127,49 +128,19 @@ not_last g r p row is next = elim (true_or_false row.is_last) [
       absurd (omega (arith, next.2, length-drop (suc p) (next.0).items, ap length none))
 ]
 
-module _ (g : Expansion) (rows : List SuffixRow) (nullable : List Bool) (are : AreRows g rows) (flags : AreNullableNumbers g nullable) where
-  -- a flag of a symbol's number says that it derives the empty span
-  derives_empty :
+module _ (g : Expansion) (rows : List SuffixRow) (nullable : List Bool) (are : AreRows g rows)
+    (flags : AreNullableNumbers g nullable) where
+  -- the flag of a symbol's number says whether the symbol derives the empty span
+  empty_is :
       (a : BinarySymbol) (n : ℕ)
-      → IsNumberOf g a n → IsSet nullable n → BinaryDerives g.rules [] a 0 0
-  derives_empty a n is set =
-      let x = (flags.exact n (number_below g a n is)).0 set in
-      let same : x.0 ≡ a = number_is_one g x.0 a n x.1 is in
-      rw same at x.2
+      → IsNumberOf g a n → IsSet nullable n ↔ BinaryDerives g.rules [] a 0 0
+  empty_is a n is = alike (flags.exact n (number_below g a n is)) (number_empty g a n is)
 
-  -- the flag of a symbol that derives the empty span is set
-  empty_flagged :
-      (a : BinarySymbol) (n : ℕ)
-      → IsNumberOf g a n → BinaryDerives g.rules [] a 0 0 → IsSet nullable n
-  empty_flagged a n is empty = (flags.exact n (number_below g a n is)).1 (a, is, empty)
-
-  -- the items behind a row's item derive the empty span where the row and the flags say so
-  rest_empty : (n : ℕ) (row : SuffixRow) (at : IsRowAt g n row)
-      → IsRestNullable nullable row (suffix_number g n) → AreNullable g.rules (at.is_row).behind
-  rest_empty n row at rest = elim (none_or_more (at.is_row).behind) [
-    | inl none ↦ subst (AreNullable g.rules) (sym none) ((none_derive g.rules [] 0 0).1 refl)
-    | inr (t, more, is_more) ↦ elim rest [
-      | inl last ↦
-          let none = ((at.is_row).is_last).0 last in
-          absurd (cc)
-      | inr set ↦
-          let x = derives_empty (suffix at.r (suc at.p)) (suffix_number g n + 1) (next_number g n row at t more is_more) set in
-          let are_behind = items_behind g.rules at.r at.p (at.is_row).item (at.is_row).behind x.0 (at.is_row).has x.1 in
-          subst (AreNullable g.rules) are_behind x.2
-    ]
-  ]
-
-  -- where they derive it, the row or the flags say so
-  rest_flagged : (n : ℕ) (row : SuffixRow) (at : IsRowAt g n row)
-      → AreNullable g.rules (at.is_row).behind → IsRestNullable nullable row (suffix_number g n)
-  rest_flagged n row at empty = elim (none_or_more (at.is_row).behind) [
-    | inl none ↦ inl (((at.is_row).is_last).1 none)
-    | inr (t, more, is_more) ↦
-        let has = (at.is_row).has in
-        let are_behind = items_behind g.rules at.r at.p (at.is_row).item (at.is_row).behind has.rule has has.is_rule in
-        inr (empty_flagged (suffix at.r (suc at.p)) (suffix_number g n + 1) (next_number g n row at t more is_more)
-        (has.rule, has.is_rule, subst (AreNullable g.rules) (sym are_behind) empty))
-  ]
+  -- the row and the flags say whether what is behind the row's item derives the empty span
+  rest_is :
+      (n : ℕ) (row : SuffixRow) (at : IsRowAt g n row)
+      → IsRestNullable nullable row (suffix_number g n) ↔ AreNullable g.rules (at.is_row).behind
+  rest_is n row at = rest_empty g n row at nullable (flags.exact (suffix_number g n + 1))
 
   -- a step that a row gives is one of the grammar
   pub step_of_row : (n from to : ℕ) (row : SuffixRow) → IsRowAt g n row
@@ -193,7 +164,7 @@ module _ (g : Expansion) (rows : List SuffixRow) (nullable : List Bool) (are : A
         suffix at.r at.p,
         ((is.is_item).0, (is.is_item).1 ∙ sym is_from),
         (whole.0, whole.1 ∙ sym is_to),
-        last_item is.has (rest_empty n row at rest),
+        last_item is.has ((rest_is n row at).0 rest),
       )
   step_of_row n from to row at (inr (inr ((more_behind, set), is_from, is_to))) =
       let is = at.is_row in
@@ -204,7 +175,7 @@ module _ (g : Expansion) (rows : List SuffixRow) (nullable : List Bool) (are : A
         suffix at.r at.p,
         (next.0, next.1 ∙ sym is_from),
         (whole.0, whole.1 ∙ sym is_to),
-        passed_item is.has (derives_empty (plain is.item) row.item is.is_item set),
+        passed_item is.has ((empty_is (plain is.item) row.item is.is_item).0 set),
       )
 
   -- a step of the grammar is one that a row gives
@@ -244,7 +215,7 @@ module _ (g : Expansion) (rows : List SuffixRow) (nullable : List Bool) (are : A
           let same_behind : behind ≡ is.behind = cc in
           let item : from ≡ (x.0).item =
           sym is_a.1 ∙ ap (λ y. number_of g (plain y)) same_first ∙ (is.is_item).1 in
-          let rest = rest_flagged n x.0 at (subst (AreNullable g.rules) same_behind empty) in
+          let rest = (rest_is n x.0 at).1 (subst (AreNullable g.rules) same_behind empty) in
           record {
             k = n;
             row = x.0;
@@ -259,8 +230,10 @@ module _ (g : Expansion) (rows : List SuffixRow) (nullable : List Bool) (are : A
           let at : IsRowAt g n x.0 = record { r = r; p = p; count = refl; is_row = is } in
           let same = same_item g.rules r p s is.item behind is.behind has is.has in
           let same_first : s ≡ is.item = cc in
-          let set = empty_flagged (plain is.item) (x.0).item is.is_item (subst (IsNullable g.rules) same_first empty) in
-          let next : from ≡ suffix_number g n + 1 = sym is_a.1 ∙ number-suffix-suc g r p ∙ ap (λ m. m + 1) (whole_number g n x.0 at).1 in
+          let set = (empty_is (plain is.item) (x.0).item is.is_item).1
+          (subst (IsNullable g.rules) same_first empty) in
+          let next : from ≡ suffix_number g n + 1 =
+          sym is_a.1 ∙ number-suffix-suc g r p ∙ ap (λ m. m + 1) (whole_number g n x.0 at).1 in
           record {
             k = n;
             row = x.0;
