@@ -17,3 +17,4 @@ pub mod RowLemmas
 pub mod NullableLemmas
 pub mod StepLemmas
 pub mod ReachedLemmas
+pub mod BuildLemmas

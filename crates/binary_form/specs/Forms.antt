@@ -7,10 +7,15 @@ use Rattle.binary_form.specs.FirstSuffixes.{AreFirstSuffixes}
 use Rattle.binary_form.specs.NullableNumbers.{AreNullableNumbers}
 use Rattle.binary_form.specs.Wholes.{AreWholes}
 
--- each number has a cell, which is its closure
-pub record AreClosures {C : Type 0} (symbols : C → List ℕ) (g : Expansion) (cells : List C) : Type 0 where
-  pub count : length cells ≡ symbol_count g
+-- so many numbers, from 0 on, have cells, which are their closures
+pub record AreClosuresUpTo {C : Type 0} (symbols : C → List ℕ) (g : Expansion) (many : ℕ)
+    (cells : List C) : Type 0 where
+  pub count : length cells ≡ many
   pub each : (n : ℕ) (cell : C) → slice_get cells n ≡ Some cell → IsClosureOf g n (symbols cell)
+
+-- each number has a cell, which is its closure
+abbrev pub AreClosures : {C : Type 0} → (C → List ℕ) → Expansion → List C → Type 0
+AreClosures symbols g cells = AreClosuresUpTo symbols g (symbol_count g) cells
 
 -- the parts are those of the grammar's binary form: where suffixes are numbered from, flags of what is nullable,
 -- closures, wholes

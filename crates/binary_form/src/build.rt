@@ -5,6 +5,7 @@ ghost use Rattle.binary_form.specs.Symbols.{symbol_count};
 ghost use Rattle.binary_form.specs.BinaryForm.{IsClosureOf, MakesBinary};
 ghost use Rattle.binary_form.specs.Flags.{IsSet};
 ghost use Rattle.binary_form.specs.Forms.{AreClosures};
+ghost use Rattle.binary_form.specs.Products.{Adds};
 ghost use Rattle.binary_form.specs.RowLinks.{AreUnitSteps};
 
 use crate::closure::reached_from;
@@ -19,6 +20,26 @@ use cell_sets::Cell;
 use lbnf_grammar::Grammar;
 use std::alloc::{AllocError, Global};
 
+/// The cell with the number, if its flag is set.
+fn with_number<C: Cell>(
+    alloc: Global,
+    flags: &[bool],
+    number: u16,
+    mut cell: C,
+) -> Result<C, AllocError>
+    requires within { number < length flags.now }
+    requires room { length flags.now ≤ C.ROOM }
+    ensures { IfOk result (λ new.
+        Adds (λ n. (n ≡ number) × IsSet flags.now n) (C.symbols cell) (C.symbols new)) }
+{
+    if flags[number as usize] {
+        cell.insert(alloc, number)?;
+        Ok(cell)
+    } else {
+        Ok(cell)
+    }
+}
+
 /// The cell of the numbers whose flags are set, put in from the least to the greatest.
 fn cell_of<C: Cell>(alloc: Global, flags: &[bool]) -> Result<C, AllocError>
     requires few { length flags.now ≤ 2048 }
@@ -26,10 +47,8 @@ fn cell_of<C: Cell>(alloc: Global, flags: &[bool]) -> Result<C, AllocError>
     ensures { IfOk result (λ cell. (n : ℕ) → Contains (C.symbols cell) n ↔ IsSet flags.now n) }
 {
     let mut cell = C::empty();
-    for (number, flag) in flags.iter().enumerate() {
-        if *flag {
-            cell.insert(alloc, number as u16)?;
-        }
+    for number in 0..flags.len() as u16 {
+        cell = with_number(alloc, flags, number, cell)?;
     }
     Ok(cell)
 }
@@ -73,6 +92,13 @@ fn closures_of<C: Cell>(
     Ok(closures)
 }
 
+/// Each rule of a grammar has symbols of the grammar: `Grammar` keeps it so.
+fn rules_have_own_symbols(grammar: &Grammar)
+    ensures { HasOwnSymbols grammar.now }
+{
+    let _ = grammar.rules();
+}
+
 /// The binary form of a grammar of at most 2,048 symbols.
 fn form_of<C: Cell>(alloc: Global, grammar: &Grammar) -> Result<Binary<C>, AllocError>
     requires few { symbol_count grammar.now ≤ 2048 }
@@ -84,6 +110,7 @@ fn form_of<C: Cell>(alloc: Global, grammar: &Grammar) -> Result<Binary<C>, Alloc
     let steps = unit_steps(alloc, grammar, rows.as_slice(), nullable.as_slice())?;
     let wholes = wholes_of(alloc, grammar, rows.as_slice())?;
     let firsts = first_suffixes(alloc, grammar)?;
+    rules_have_own_symbols(grammar);
     let closures = closures_of(alloc, grammar, &steps)?;
     Ok(Binary::of(grammar, firsts, nullable, closures, wholes))
 }

@@ -19,3 +19,6 @@ pub use fault::BinaryFault;
 pub use form::Binary;
 pub use laws::{closure_is_derivation, each_symbol_has_its_number, products_agree, small_cases};
 pub use numbering::symbol_count;
+
+#[cfg(test)]
+mod tests;

@@ -35,8 +35,7 @@ fn with_whole<C: Cell>(
             (C.symbols cell) (C.symbols new)) }
 {
     if right.has(whole + 1) {
-        let new = cell.union(alloc, &closures[whole as usize])?;
-        Ok(new)
+        cell.union(alloc, &closures[whole as usize])
     } else {
         Ok(cell)
     }

@@ -1,5 +1,5 @@
 -- Laws of places in lists in rising order.
-use Rattle.std.proofs.Common.{◌≡◌, ℕ, ◌+◌, ◌<◌, ◌≤◌, ◌⊎◌, ◌↔◌, List, [], ◌∷◌, ◌++◌, length, get_or, take, drop, refl, sym, ◌∙◌, subst, inl, inr, arith}
+use Rattle.std.proofs.Common.{◌≡◌, ℕ, ◌+◌, ◌<◌, ◌≤◌, ◌⊎◌, List, ◌++◌, length, get_or, take, drop, sym, ◌∙◌, inl, inr, arith}
 use Rattle.std.specs.List.{Contains, insert}
 use Rattle.std.specs.Prelude.{Result, Ok, Err}
 use Rattle.std.specs.Ordering.{nat_cmp}
@@ -36,18 +36,24 @@ module _ (xs : List ℕ) (symbol at : ℕ) (gap : IsGapAt xs symbol at) where
       let long : at + k < length xs = omega (arith, length-drop at xs, within) in
       let same : get_or xs (at + k) 0 ≡ s =
       sym (get_or-drop at xs k 0) ∙ sym (get_or_default_zero (drop at xs) k s within) ∙ at_k in
-      let above : symbol < get_or xs (at + k) 0 = gap.above (at + k) (omega arith) long in omega (arith, same)
+      let above : symbol < get_or xs (at + k) 0 = gap.above (at + k) (omega arith) long in
+      omega (arith, same)
 
   -- a symbol put into its gap is added
   pub adds_symbol : AddsSymbol xs (insert xs at symbol) symbol
-  adds_symbol s = let h = has_between (take at xs) (drop at xs) symbol s in rw (take-append-drop at xs) at h
+  adds_symbol s =
+      let has = has_between (take at xs) (drop at xs) symbol s in rw (take-append-drop at xs) at has
 
   -- a symbol put into its gap keeps the order
   pub rising_insert : IsRising xs → IsRising (insert xs at symbol)
-  rising_insert rising = rising_between (take at xs) (drop at xs) symbol (rw (take-append-drop at xs) rising) front_below rest_above
+  rising_insert rising =
+      let whole : IsRising (take at xs ++ drop at xs) = rw (take-append-drop at xs) rising in
+      rising_between (take at xs) (drop at xs) symbol whole front_below rest_above
 
 -- a list in rising order never falls
-never_falls : (xs : List ℕ) → IsRising xs → (i j : ℕ) → i ≤ j → j < length xs → get_or xs i 0 ≤ get_or xs j 0
+never_falls :
+    (xs : List ℕ) → IsRising xs → (i j : ℕ) → i ≤ j → j < length xs
+    → get_or xs i 0 ≤ get_or xs j 0
 never_falls xs rising i j order within =
     let side : (i < j) ⊎ (i ≡ j) = grind arith in
     elim side [
@@ -59,7 +65,8 @@ never_falls xs rising i j order within =
 pub place_searched :
     (xs : List ℕ) (symbol : ℕ) (place : Result ℕ ℕ) → IsRising xs
     → IsBinarySearchResult (λ y. nat_cmp y symbol) xs place → IsPlaceOf xs symbol place
-place_searched xs symbol (Ok at) rising search = searched xs symbol (Ok at) search (never_falls xs rising)
+place_searched xs symbol (Ok at) rising search =
+    searched xs symbol (Ok at) search (never_falls xs rising)
 place_searched xs symbol (Err at) rising search =
     let found = searched xs symbol (Err at) search (never_falls xs rising) in
-    record { within = found.0; below = found.1; above = found.2; }
+    record { within = found.0; below = found.1; above = found.2 }

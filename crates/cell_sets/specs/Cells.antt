@@ -15,7 +15,7 @@ AddsSymbol old new symbol = (s : ℕ) → Contains new s ↔ (Contains old s ⊎
 abbrev pub IsUnion : List ℕ → List ℕ → List ℕ → Type 0
 IsUnion left right both = (s : ℕ) → Contains both s ↔ (Contains left s ⊎ Contains right s)
 
--- the next member from a symbol on is the least that is not below it, and None where all are below it
+-- the next member from a symbol on is the least that is not below it, and None where all are below
 abbrev pub IsNextFrom : List ℕ → ℕ → Option ℕ → Type 0
 IsNextFrom xs symbol next = MatchOption next
     ((s : ℕ) → Contains xs s → s < symbol)

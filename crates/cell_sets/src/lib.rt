@@ -6,6 +6,8 @@ mod laws;
 mod list_cell;
 mod merging;
 mod places;
+#[cfg(test)]
+mod tests;
 
 pub use cell::{Cell, Room, union_into};
 pub use laws::rising_lists_are_sets;

@@ -9,7 +9,8 @@ use crate::{Cell, Room};
 use std::alloc::{AllocError, Global};
 use std::marker::Model;
 
-/// A set of symbols of 16 bits as a list in rising order. It takes no memory until a symbol is inserted.
+/// A set of symbols of 16 bits as a list in rising order. It takes no memory until a symbol is
+/// inserted.
 #[derive(Drop)]
 pub struct ListCell {
     items: Option<Vec<u16>>,

@@ -5,7 +5,8 @@ ghost use Rattle.cell_sets.specs.Cells.{IsRising, IsUnion};
 use std::alloc::{AllocError, Global};
 use std::cmp::Ordering;
 
-/// The symbols of both lists, each once. It takes time in proportion to the two lengths, and memory once.
+/// The symbols of both lists, each once. It takes time in proportion to the two lengths, and memory
+/// once.
 pub(crate) fn merged(alloc: Global, left: &[u16], right: &[u16]) -> Result<Vec<u16>, AllocError>
     requires left { IsRising left.now }
     requires right { IsRising right.now }

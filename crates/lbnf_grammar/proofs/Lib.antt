@@ -4,4 +4,3 @@ pub mod DistinctLemmas
 pub mod TableLemmas
 pub mod CheckingLemmas
 pub mod NullableLemmas
-pub mod PushedLemmas

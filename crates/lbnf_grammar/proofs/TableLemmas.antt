@@ -114,7 +114,7 @@ few_items categories words (RuleDef rule ∷ defs) =
       sum_by-cons def_size (RuleDef rule) defs,
       sum_by-cons (λ (x : Rule). length x.items) first rules,
       length-map rule.items (symbol_of categories words),
-      few_items categories words defs
+      few_items categories words defs,
     )
 
 -- nor more categories that are named

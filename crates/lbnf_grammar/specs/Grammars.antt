@@ -1,9 +1,10 @@
 -- What a caller sees of expanding definitions, and of looking a category up.
-use Rattle.std.specs.Prelude.{◌≡◌, ℕ, List, Option, Some, Result, Ok, Err, slice_get, Contains, MatchOption}
+use Rattle.std.specs.Prelude.{◌≡◌, ◌<◌, ◌^◌, ℕ, List, Option, Some, None, Result, Ok, Err}
+use Rattle.std.specs.Prelude.{length, slice_get, Contains, MatchOption}
 use Rattle.spec_grammar.specs.declared.rule.Symbol.{Symbol}
 use Rattle.spec_grammar.specs.declared.rule.Symbol.TheVariants.{Category}
 use Rattle.spec_lbnf.specs.declared.definition.Def.{Def}
-use Rattle.spec_lbnf.specs.Expansion.{Expansion, expansion_of}
+use Rattle.spec_lbnf.specs.Expansion.{Expansion, expansion_of, HasOwnSymbols, item_count}
 use Rattle.spec_lbnf.specs.Checks.{AreAllKnown, IsFirstUnknown}
 use Rattle.lbnf_grammar.specs.declared.fault.GrammarFault.{GrammarFault}
 use Rattle.lbnf_grammar.specs.declared.fault.GrammarFault.TheVariants.{Memory, UnknownCategory}
@@ -13,6 +14,19 @@ abbrev pub Expands : List Def → Result Expansion GrammarFault → Type 0
 Expands defs (Ok grammar) = AreAllKnown defs × (grammar ≡ expansion_of defs)
 Expands defs (Err Memory) = Unit {0}
 Expands defs (Err (UnknownCategory name number)) = IsFirstUnknown defs name number
+
+-- numbers of rules, categories and kinds have 16 bits, there are fewer than 2 ^ 31 items, and the rules have symbols of the grammar
+pub record IsWellFormed (g : Expansion) : Type 0 where
+  pub few_rules : length g.rules < 2 ^ 16
+  pub few_categories : length g.categories < 2 ^ 16
+  pub few_kinds : length g.kinds < 2 ^ 16
+  pub few_items : item_count g.rules < 2 ^ 31
+  pub own : HasOwnSymbols g
+
+-- the grammar of these parts, and None exactly where they are not well formed
+abbrev pub MakesGrammar : Expansion → Option Expansion → Type 0
+MakesGrammar parts None = IsWellFormed parts → ⊥
+MakesGrammar parts (Some g) = IsWellFormed parts × (g ≡ parts)
 
 -- the category of the text is this symbol: None exactly where no category has the text
 abbrev pub FindsCategory : List (List ℕ) → List ℕ → Option Symbol → Type 0

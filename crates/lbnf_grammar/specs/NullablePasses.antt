@@ -36,7 +36,7 @@ MeetsRule old new rule true =
     × (new ≡ slice_set old rule.category true)
 MeetsRule old new rule false = IsMet old rule × (new ≡ old)
 
--- the flags after the first n rules of a pass, which began with these and has set one or none
+-- these are the flags behind the first n rules of a pass, which has set one, or each rule is met
 pub record ArePassed
     (rules : List Rule) (start flags : List Bool) (n : ℕ) (has_set : Bool) : Type 0 where
   pub sound : AreSound rules flags

@@ -5,6 +5,7 @@ mod checking;
 mod expanding;
 mod fault;
 mod grammar;
+mod making;
 mod names;
 mod nullable;
 mod numbering;

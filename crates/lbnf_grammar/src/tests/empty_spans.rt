@@ -1,59 +1,8 @@
 //! Nullable categories of small grammars, whose rules are built by hand.
-ghost use Rattle.std.specs.Prelude.{◌↔◌, IsTrue, [], IfSome, All};
-ghost use Rattle.spec_lbnf.specs.Expansion.{IsSymbolOf, HasSymbolsOf};
-
 use crate::*;
 use lbnf_text::{Label, Name};
 use std::alloc::Global;
 use std::test::*;
-
-fn is_own(categories: &[Name], kinds: &[KindDef], symbol: Symbol) -> bool
-    ensures { IsTrue result ↔ IsSymbolOf
-        (record { rules = []; categories = categories.now; kinds = kinds.now }) symbol }
-{
-    match symbol {
-        Symbol::Category(c) => (c as usize) < categories.len(),
-        Symbol::Kind(k) => (k as usize) < kinds.len(),
-    }
-}
-
-fn are_own(categories: &[Name], kinds: &[KindDef], items: &[Symbol]) -> bool
-    ensures { IsTrue result → All (IsSymbolOf
-        (record { rules = []; categories = categories.now; kinds = kinds.now })) items.now }
-{
-    for item in items {
-        if !is_own(categories, kinds, *item) {
-            return false;
-        }
-    }
-    true
-}
-
-/// The rule without a name, and `None` where a symbol has no name or memory ran out.
-fn rule_of(
-    alloc: Global,
-    categories: &[Name],
-    kinds: &[KindDef],
-    category: u16,
-    items: &[Symbol],
-) -> Option<Rule>
-    ensures { IfSome result (HasSymbolsOf
-        (record { rules = []; categories = categories.now; kinds = kinds.now })) }
-{
-    if !is_own(categories, kinds, Symbol::Category(category)) {
-        return None;
-    }
-    if !are_own(categories, kinds, items) {
-        return None;
-    }
-    let label = Label::Wild;
-    let items = Items::from_slice(alloc, items).ok()?;
-    Some(Rule {
-        label,
-        category,
-        items,
-    })
-}
 
 fn unnamed(alloc: Global) -> Name {
     Name::of(Vec::new(alloc))
@@ -71,19 +20,14 @@ fn grammar_of(alloc: Global, sides: &[(u16, &[Symbol])]) -> Option<Grammar> {
     let kinds = vec![in alloc; KindDef::Word(unnamed(alloc))].ok()?;
     let mut rules = Vec::new(alloc);
     for (category, items) in sides {
-        let rule = rule_of(
-            alloc,
-            categories.as_slice(),
-            kinds.as_slice(),
-            *category,
-            items,
-        )?;
+        let rule = Rule {
+            label: Label::Wild,
+            category: *category,
+            items: Items::from_slice(alloc, items).ok()?,
+        };
         rules.push(rule).ok()?;
     }
-    if rules.len() > 100 {
-        return None;
-    }
-    Some(Grammar::of(rules, categories, kinds))
+    Grammar::of_rules(rules, categories, kinds)
 }
 
 const A: Symbol = Symbol::Category(0);
@@ -214,4 +158,26 @@ fn a_side_is_nullable_where_each_of_its_items_is(rt: HostRuntime) -> Result<(), 
         assert_eq!(rt; are_nullable(FLAGS.as_slice(), items), want, "at {items:?}");
     }
     Ok(())
+}
+
+const E: Symbol = Symbol::Category(4);
+
+const SECOND_WORD: Symbol = Symbol::Kind(1);
+
+#[test]
+fn rules_with_a_symbol_that_is_not_there_are_no_grammar(rt: HostRuntime) {
+    let cases: [(u16, &[Symbol], bool); 7] = [
+        (3, EMPTY, true),
+        (4, EMPTY, false),
+        (0, &[D, WORD], true),
+        (0, &[E], false),
+        (0, &[SECOND_WORD], false),
+        (0, &[A, WORD, A, E], false),
+        (0, &[SECOND_WORD, A], false),
+    ];
+    for (category, items, want) in cases {
+        let sides = [(1, [A, B].as_slice()), (category, items), (2, EMPTY)];
+        let grammar = grammar_of(rt.alloc(), sides.as_slice());
+        assert_eq!(rt; grammar.is_some(), want, "at {category} {items:?}");
+    }
 }

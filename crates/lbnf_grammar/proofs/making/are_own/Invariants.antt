@@ -1,7 +1,7 @@
 use Rattle.std.proofs.Common.{ℕ, ◌<◌, [], slice_index_or}
 use Rattle.spec_grammar.specs.declared.rule.Symbol.{Symbol}
 use Rattle.spec_lbnf.specs.Expansion.{IsSymbolOf}
-use Rattle.lbnf_grammar.proofs.tests.empty_spans.are_own.Given as goal
+use Rattle.lbnf_grammar.proofs.making.are_own.Given as goal
 
 -- the items so far are symbols of the grammar
 abbrev pub invariant-loop-item : goal.invariant-loop-item

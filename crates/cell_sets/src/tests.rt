@@ -1,0 +1,188 @@
+//! Each call succeeds where there is memory. A list cell is called through the trait alone.
+ghost use Rattle.std.specs.Prelude.{◌≡◌};
+
+use crate::{Cell, ListCell, union_into};
+use std::alloc::{AllocError, Global};
+use std::test::Fail;
+
+fn room_of<C: Cell>() -> u32
+    ensures { result ≡ C.ROOM }
+{
+    C::ROOM
+}
+
+/// A cell with these symbols, and whether each was new.
+fn filled<C: Cell>(alloc: Global, symbols: &[u16]) -> Result<(C, Vec<bool>), AllocError>
+    requires { C.ROOM ≡ 65536 }
+{
+    let mut cell = C::empty();
+    let mut answers = Vec::new(alloc);
+    for symbol in symbols {
+        answers.push(cell.insert(alloc, *symbol)?)?;
+    }
+    Ok((cell, answers))
+}
+
+/// The next symbol behind this one.
+fn next_behind<C: Cell>(cell: &C, symbol: u16) -> Option<u16> {
+    cell.next_from(symbol.checked_add(1)?)
+}
+
+/// The first eight symbols, one after another.
+fn members_of<C: Cell>(alloc: Global, cell: &C) -> Result<Vec<u16>, AllocError> {
+    let mut members = Vec::new(alloc);
+    let mut next = cell.next_from(0);
+    for _ in 0..8 {
+        if let Some(symbol) = next {
+            members.push(symbol)?;
+            next = next_behind(cell, symbol);
+        }
+    }
+    Ok(members)
+}
+
+/// Which of the asked symbols a cell has that holds the inserted ones.
+fn membership<C: Cell>(
+    alloc: Global,
+    inserted: &[u16],
+    asked: &[u16],
+) -> Result<Vec<bool>, AllocError>
+    requires { C.ROOM ≡ 65536 }
+{
+    let (cell, _) = filled::<C>(alloc, inserted)?;
+    let mut answers = Vec::new(alloc);
+    for symbol in asked {
+        answers.push(cell.has(*symbol))?;
+    }
+    Ok(answers)
+}
+
+/// The members of the union of two cells, made as a new cell and in the place of the first.
+fn united<C: Cell>(
+    alloc: Global,
+    left: &[u16],
+    right: &[u16],
+) -> Result<(Vec<u16>, Vec<u16>), AllocError>
+    requires { C.ROOM ≡ 65536 }
+{
+    let (mut left, _) = filled::<C>(alloc, left)?;
+    let (right, _) = filled::<C>(alloc, right)?;
+    let both = left.union(alloc, &right)?;
+    union_into(alloc, &mut left, &right)?;
+    Ok((members_of(alloc, &both)?, members_of(alloc, &left)?))
+}
+
+/// Whether a cell without symbols is empty and has none, and whether it is empty with one.
+fn emptiness<C: Cell>(alloc: Global) -> Result<(bool, bool, bool), AllocError>
+    requires { C.ROOM ≡ 65536 }
+{
+    let empty = C::empty();
+    let (one, _) = filled::<C>(alloc, &[0])?;
+    Ok((empty.is_empty(), empty.has(0), one.is_empty()))
+}
+
+#[test]
+fn a_list_cell_has_room_for_each_number_of_16_bits(rt: HostRuntime) {
+    assert_eq!(rt; room_of::<ListCell>(), 65536);
+}
+
+#[test]
+fn a_new_cell_is_empty(rt: HostRuntime) -> Result<(), Fail> {
+    assert_eq!(rt; emptiness::<ListCell>(rt.alloc())?, (true, false, false));
+    Ok(())
+}
+
+#[test]
+fn a_symbol_is_new_once(rt: HostRuntime) -> Result<(), Fail> {
+    let cases = [
+        (&[][..], &[][..], &[][..]),
+        (&[1, 2, 3], &[true, true, true], &[1, 2, 3]),
+        (&[3, 2, 1], &[true, true, true], &[1, 2, 3]),
+        (
+            &[5, 9, 2, 5, 7],
+            &[true, true, true, false, true],
+            &[2, 5, 7, 9],
+        ),
+        (
+            &[0, 65535, 0, 65535],
+            &[true, true, false, false],
+            &[0, 65535],
+        ),
+    ];
+    for (inserted, new, members) in cases {
+        let (cell, answers) = filled::<ListCell>(rt.alloc(), inserted)?;
+        assert_eq!(rt; answers.as_slice(), new, "at {inserted:?}");
+        assert_eq!(rt;
+            members_of(rt.alloc(), &cell)?.as_slice(),
+            members,
+            "at {inserted:?}"
+        );
+        assert_eq!(rt; cell.as_slice(), members, "at {inserted:?}");
+    }
+    Ok(())
+}
+
+#[test]
+fn a_cell_has_just_what_was_inserted(rt: HostRuntime) -> Result<(), Fail> {
+    let cases = [
+        (&[][..], &[0, 1, 65535][..], &[false, false, false][..]),
+        (&[5], &[4, 5, 6], &[false, true, false]),
+        (
+            &[7, 0, 3],
+            &[0, 1, 3, 4, 7, 8],
+            &[true, false, true, false, true, false],
+        ),
+        (
+            &[65535, 2],
+            &[0, 2, 65534, 65535],
+            &[false, true, false, true],
+        ),
+    ];
+    for (inserted, asked, has) in cases {
+        let answers = membership::<ListCell>(rt.alloc(), inserted, asked)?;
+        assert_eq!(rt; answers.as_slice(), has, "at {inserted:?}");
+    }
+    Ok(())
+}
+
+#[test]
+fn the_next_symbol_is_the_least_that_is_not_below(rt: HostRuntime) -> Result<(), Fail> {
+    let cases = [
+        (&[][..], 0, None),
+        (&[3, 7], 0, Some(3)),
+        (&[3, 7], 3, Some(3)),
+        (&[3, 7], 4, Some(7)),
+        (&[3, 7], 7, Some(7)),
+        (&[3, 7], 8, None),
+        (&[3, 7], 65535, None),
+        (&[0, 65535], 0, Some(0)),
+        (&[0, 65535], 1, Some(65535)),
+        (&[0, 65535], 65535, Some(65535)),
+    ];
+    for (symbols, from, next) in cases {
+        let (cell, _) = filled::<ListCell>(rt.alloc(), symbols)?;
+        assert_eq!(rt; cell.next_from(from), next, "at {from} in {symbols:?}");
+    }
+    Ok(())
+}
+
+#[test]
+fn a_union_has_the_symbols_of_both(rt: HostRuntime) -> Result<(), Fail> {
+    let cases = [
+        (&[][..], &[][..], &[][..]),
+        (&[1, 2], &[], &[1, 2]),
+        (&[], &[1, 2], &[1, 2]),
+        (&[1, 2], &[7, 9], &[1, 2, 7, 9]),
+        (&[7, 9], &[1, 2], &[1, 2, 7, 9]),
+        (&[4, 5, 6], &[4, 5, 6], &[4, 5, 6]),
+        (&[1, 4, 6, 10], &[2, 4, 7], &[1, 2, 4, 6, 7, 10]),
+        (&[0], &[65535], &[0, 65535]),
+        (&[3, 65535], &[0, 65535], &[0, 3, 65535]),
+    ];
+    for (left, right, members) in cases {
+        let (both, into) = united::<ListCell>(rt.alloc(), left, right)?;
+        assert_eq!(rt; both.as_slice(), members, "at {left:?} and {right:?}");
+        assert_eq!(rt; into.as_slice(), members, "at {left:?} and {right:?}");
+    }
+    Ok(())
+}

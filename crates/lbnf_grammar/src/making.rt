@@ -1,0 +1,99 @@
+//! Grammars of numbered rules, made from their parts.
+ghost use Rattle.std.specs.Prelude.{◌≡◌, ◌<◌, ◌^◌, ◌↔◌, [], IsTrue, All, length};
+ghost use Rattle.spec_lbnf.specs.Expansion.{IsSymbolOf, HasSymbolsOf, HasOwnSymbols, item_count};
+ghost use Rattle.lbnf_grammar.specs.Grammars.{IsWellFormed, MakesGrammar};
+
+use crate::grammar::Grammar;
+use spec_grammar::{Rule, Symbol};
+use spec_lexing::KindDef;
+use spec_text::Name;
+
+/// There are fewer rules, and fewer categories and kinds.
+const NUMBERS: usize = 65_536;
+
+/// There are fewer items, in all rules together.
+const ITEMS: usize = 2_147_483_648;
+
+fn is_own(categories: &[Name], kinds: &[KindDef], symbol: Symbol) -> bool
+    ensures { IsTrue result ↔ IsSymbolOf
+        (record { rules = []; categories = categories.now; kinds = kinds.now }) symbol }
+{
+    match symbol {
+        Symbol::Category(c) => (c as usize) < categories.len(),
+        Symbol::Kind(k) => (k as usize) < kinds.len(),
+    }
+}
+
+fn are_own(categories: &[Name], kinds: &[KindDef], items: &[Symbol]) -> bool
+    ensures { IsTrue result ↔ All (IsSymbolOf
+        (record { rules = []; categories = categories.now; kinds = kinds.now })) items.now }
+{
+    for item in items {
+        if !is_own(categories, kinds, *item) {
+            return false;
+        }
+    }
+    true
+}
+
+fn has_own(categories: &[Name], kinds: &[KindDef], rule: &Rule) -> bool
+    ensures { IsTrue result ↔ HasSymbolsOf
+        (record { rules = []; categories = categories.now; kinds = kinds.now }) rule.now }
+{
+    is_own(categories, kinds, Symbol::Category(rule.category))
+        && are_own(categories, kinds, rule.items.as_slice())
+}
+
+fn have_own(categories: &[Name], kinds: &[KindDef], rules: &[Rule]) -> bool
+    ensures { IsTrue result ↔ HasOwnSymbols
+        (record { rules = rules.now; categories = categories.now; kinds = kinds.now }) }
+{
+    for rule in rules {
+        if !has_own(categories, kinds, rule) {
+            return false;
+        }
+    }
+    true
+}
+
+fn have_few_items(rules: &[Rule]) -> bool
+    ensures { IsTrue result ↔ item_count rules.now < 2 ^ 31 }
+{
+    let mut room = ITEMS;
+    for rule in rules {
+        let count = rule.items.as_slice().len();
+        if count >= room {
+            return false;
+        }
+        room -= count;
+    }
+    true
+}
+
+fn is_well_formed(rules: &[Rule], categories: &[Name], kinds: &[KindDef]) -> bool
+    ensures { IsTrue result ↔ IsWellFormed
+        (record { rules = rules.now; categories = categories.now; kinds = kinds.now }) }
+{
+    rules.len() < NUMBERS
+        && categories.len() < NUMBERS
+        && kinds.len() < NUMBERS
+        && have_few_items(rules)
+        && have_own(categories, kinds, rules)
+}
+
+impl Grammar {
+    /// The grammar of these rules, which may be one that no file spells. `None` where a rule has a
+    /// symbol that is not there, where there are 65,536 rules, categories or kinds or more, or 2^31
+    /// items or more. It looks at each item once and takes no memory. Categories may share a name,
+    /// of which `find` then knows the first.
+    pub fn of_rules(rules: Vec<Rule>, categories: Vec<Name>, kinds: Vec<KindDef>) -> Option<Grammar>
+        ensures { MakesGrammar
+            (record { rules = rules.items; categories = categories.items; kinds = kinds.items })
+            result }
+    {
+        if !is_well_formed(rules.as_slice(), categories.as_slice(), kinds.as_slice()) {
+            return None;
+        }
+        Some(Grammar::of(rules, categories, kinds))
+    }
+}
