@@ -39,18 +39,24 @@ clear_count-set (false ∷ flags) (suc n) within is =
     omega arith
 
 -- setting a flag sets it
-pub set_here : (flags : List Bool) (m n : ℕ) → m < length flags → n ≡ m → IsSet (slice_set flags m true) n
+pub set_here :
+    (flags : List Bool) (m n : ℕ)
+    → m < length flags → n ≡ m → IsSet (slice_set flags m true) n
 set_here flags m n within same = get_or-set_at flags m n true false same within
 
 -- setting a flag keeps those that are set
-pub set_kept : (flags : List Bool) (m n : ℕ) → m < length flags → IsSet flags n → IsSet (slice_set flags m true) n
+pub set_kept :
+    (flags : List Bool) (m n : ℕ)
+    → m < length flags → IsSet flags n → IsSet (slice_set flags m true) n
 set_kept flags m n within is = elim (same_or_other n m) [
   | inl same ↦ set_here flags m n within same
   | inr differ ↦ get_or-set_other flags m n true false differ ∙ is
 ]
 
 -- a flag that is set was set before, or is the one
-pub set_before : (flags : List Bool) (m n : ℕ) → IsSet (slice_set flags m true) n → IsSet flags n ⊎ (n ≡ m)
+pub set_before :
+    (flags : List Bool) (m n : ℕ)
+    → IsSet (slice_set flags m true) n → IsSet flags n ⊎ (n ≡ m)
 set_before flags m n is = elim (same_or_other n m) [
   | inl same ↦ inr same
   | inr differ ↦ inl (sym (get_or-set_other flags m n true false differ) ∙ is)
@@ -133,9 +139,11 @@ module _ (links : List (List ℕ)) (from : ℕ) where
       none n is = none_set (length links) n is
 
   -- a search goes on behind the number that was looked at
-  pub search_goes_on : (number : ℕ) (flags new : List Bool) (waiting rest : List ℕ)
+  pub search_goes_on :
+      (number : ℕ) (flags new : List Bool) (waiting rest : List ℕ)
       → IsSearch links from flags (waiting ++ number ∷ [])
-      → SetsFlags (slice_index_or links number []) flags new waiting rest → IsSearch links from new rest
+      → SetsFlags (slice_index_or links number []) flags new waiting rest
+      → IsSearch links from new rest
   search_goes_on number flags new waiting rest search added = record {
     count = added.count ∙ search.count;
     start = added.kept from search.start;
@@ -173,7 +181,9 @@ module _ (links : List (List ℕ)) (from : ℕ) where
       omega (arith, search.count, set_within flags number is)
 
   -- where nothing waits, what is reached has its flag
-  reached_is_set : (flags : List Bool) (n : ℕ) → IsSearch links from flags [] → NumberReaches (HasLink links) from n → IsSet flags n
+  reached_is_set :
+      (flags : List Bool) (n : ℕ)
+      → IsSearch links from flags [] → NumberReaches (HasLink links) from n → IsSet flags n
   reached_is_set flags n search stay = search.start
   reached_is_set flags n search (step {m = m} before last) =
       elim (search.closed m (reached_is_set flags m search before)) [
@@ -182,7 +192,9 @@ module _ (links : List (List ℕ)) (from : ℕ) where
       ]
 
   -- a search where nothing waits has found what is reached
-  pub search_ends : (flags : List Bool) → IsSearch links from flags [] → AreReachedFlags links from flags
+  pub search_ends :
+      (flags : List Bool)
+      → IsSearch links from flags [] → AreReachedFlags links from flags
   search_ends flags search = record {
     count = search.count;
     exact = λ n. (search.sound n, reached_is_set flags n search);

@@ -26,11 +26,15 @@ module _ (links : List (List ℕ)) (from to : ℕ) (old list : List ℕ) (within
       get_or-set_at links from m list [] same within ∙ is ∙ ap (λ xs. xs ++ to ∷ []) is_at
 
   -- any other number keeps its list
-  other_list : (m : ℕ) → m ≢ from → slice_index_or (slice_set links from list) m [] ≡ slice_index_or links m []
+  other_list :
+      (m : ℕ)
+      → m ≢ from → slice_index_or (slice_set links from list) m [] ≡ slice_index_or links m []
   other_list m differ = get_or-set_other links from m list [] differ
 
   -- a link of the new ones is old, or the one that was added
-  new_link : (m n : ℕ) → HasLink (slice_set links from list) m n → HasLink links m n ⊎ ((m ≡ from) × (n ≡ to))
+  new_link :
+      (m n : ℕ)
+      → HasLink (slice_set links from list) m n → HasLink links m n ⊎ ((m ≡ from) × (n ≡ to))
   new_link m n has = elim (same_or_other m from) [
     | inr differ ↦ let P : List ℕ → Type 0 = λ xs. Contains xs n in inl (subst P (other_list m differ) has)
     | inl same ↦
@@ -42,7 +46,9 @@ module _ (links : List (List ℕ)) (from to : ℕ) (old list : List ℕ) (within
   ]
 
   -- an old link, or the one that was added, is a link of the new ones
-  kept_link : (m n : ℕ) → HasLink links m n ⊎ ((m ≡ from) × (n ≡ to)) → HasLink (slice_set links from list) m n
+  kept_link :
+      (m n : ℕ)
+      → HasLink links m n ⊎ ((m ≡ from) × (n ≡ to)) → HasLink (slice_set links from list) m n
   kept_link m n (inl old) = elim (same_or_other m from) [
     | inr differ ↦ let P : List ℕ → Type 0 = λ xs. Contains xs n in subst P (sym (other_list m differ)) old
     | inl same ↦

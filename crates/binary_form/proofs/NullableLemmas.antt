@@ -1,4 +1,5 @@
--- Flags of the symbols that derive the empty span: those of categories and kinds, then those of suffixes.
+-- Flags of the symbols that derive the empty span: first those of categories and kinds, then those
+-- of suffixes.
 use Rattle.std.proofs.Common.{◌≡◌, ◌≢◌, ℕ, suc, ◌+◌, ◌-◌, ◌<◌, ◌≤◌, ◌↔◌, ◌⊎◌, inl, inr, List, [], ◌∷◌, ◌++◌, Bool, false, IsTrue}
 use Rattle.std.proofs.Common.{Some, length, slice_get, slice_set, slice_index_or, take, drop, replicate, refl, sym, ap, ◌∙◌, subst, arith}
 use Rattle.std.proofs.Common.{length-set, length-append, get_or-set_other}
@@ -8,7 +9,6 @@ use Rattle.spec_grammar.specs.declared.rule.Symbol.{Symbol}
 use Rattle.spec_grammar.specs.declared.rule.Symbol.TheVariants.{Category, Kind}
 use Rattle.spec_grammar.specs.declared.rule.Rule.{Rule}
 use Rattle.spec_grammar.specs.Derivation.{Derives, DerivesAll, IsNullable}
-use Rattle.spec_grammar.proofs.DerivationLemmas.{none_derive, some_derive, derives_all_within, kind_derives}
 use Rattle.spec_lbnf.specs.Expansion.{Expansion, item_count}
 use Rattle.lbnf_grammar.specs.Nullable.{AreNullableFlags}
 use Rattle.binary_form.specs.declared.rows.SuffixRow.{SuffixRow}
@@ -18,6 +18,7 @@ use Rattle.binary_form.specs.BinaryForm.{IsNumberOf, IsNullableNumber}
 use Rattle.binary_form.specs.Rows.{IsRowAt, suffix_number}
 use Rattle.binary_form.specs.NullableNumbers.{AreNullableNumbers, AreNullableFrom, IsRestNullable}
 use Rattle.binary_form.specs.Flags.{IsSet}
+use Rattle.binary_form.proofs.EmptySpanLemmas.{none_nullable, some_nullable, kind_not_nullable}
 use Rattle.binary_form.proofs.NumberLemmas.{number_is_one}
 use Rattle.binary_form.proofs.ItemLemmas.{items_behind, same_rule}
 use Rattle.binary_form.proofs.LinkLemmas.{same_or_other}
@@ -34,7 +35,9 @@ turned both = (both.1, both.0)
 
 module _ (g : Expansion) where
   -- a number is that of a symbol that derives the empty span exactly where its symbol does
-  pub number_empty : (a : BinarySymbol) (n : ℕ) → IsNumberOf g a n → IsNullableNumber g n ↔ BinaryDerives g.rules [] a 0 0
+  pub number_empty :
+      (a : BinarySymbol) (n : ℕ)
+      → IsNumberOf g a n → IsNullableNumber g n ↔ BinaryDerives g.rules [] a 0 0
   number_empty a n is = (
     (λ x.
         let same : x.0 ≡ a = number_is_one g x.0 a n x.1 is in
@@ -42,22 +45,11 @@ module _ (g : Expansion) where
     (λ empty. (a, is, empty)),
   )
 
-  -- items derive the empty span exactly where the first of them and the others do
-  items_empty : (s : Symbol) (behind : List Symbol) → AreNullable g.rules (s ∷ behind) ↔ (IsNullable g.rules s × AreNullable g.rules behind)
-  items_empty s behind = (
-    (λ empty.
-        let x = (some_derive g.rules [] s behind 0 0).0 empty in
-        let within = derives_all_within g.rules [] behind x.0 0 x.2 in
-        let none : x.0 ≡ 0 = omega (arith, within.0) in
-        let P : ℕ → Type 0 = λ k. Derives g.rules [] s 0 k in
-        let Q : ℕ → Type 0 = λ k. DerivesAll g.rules [] behind k 0 in
-        (subst P none x.1, subst Q none x.2)),
-    (λ both. (some_derive g.rules [] s behind 0 0).1 (0, both.0, both.1)),
-  )
-
   module _ (n : ℕ) (row : SuffixRow) (at : IsRowAt g n row) where
     -- a suffix derives the empty span exactly where its item does, and what is behind it
-    pub suffix_empty : IsNullableNumber g (suffix_number g n) ↔ (IsNullable g.rules (at.is_row).item × AreNullable g.rules (at.is_row).behind)
+    pub suffix_empty :
+        IsNullableNumber g (suffix_number g n)
+        ↔ (IsNullable g.rules (at.is_row).item × AreNullable g.rules (at.is_row).behind)
     suffix_empty =
         let is = at.is_row in
         let has = is.has in
@@ -68,16 +60,18 @@ module _ (g : Expansion) where
               subst (AreNullable g.rules) (ap (λ (y : Rule). drop at.p y.items) same ∙ has.is_item) x.2),
           (λ empty. (has.rule, has.is_rule, subst (AreNullable g.rules) (sym has.is_item) empty)),
         ) in
-        alike whole (alike items (items_empty is.item is.behind))
+        alike whole (alike items (some_nullable g.rules is.item is.behind))
 
-    -- what is behind the item derives the empty span exactly where the row says that it is the last, or the flag
-    -- of the next suffix that it does
-    pub rest_empty : (flags : List Bool)
-        → (suffix_number g n + 1 < symbol_count g → IsSet flags (suffix_number g n + 1) ↔ IsNullableNumber g (suffix_number g n + 1))
+    -- what is behind the item derives the empty span exactly where the row says that it is the last,
+    -- or the flag of the next suffix that it does
+    pub rest_empty :
+        (flags : List Bool)
+        → (suffix_number g n + 1 < symbol_count g
+        → IsSet flags (suffix_number g n + 1) ↔ IsNullableNumber g (suffix_number g n + 1))
         → IsRestNullable flags row (suffix_number g n) ↔ AreNullable g.rules (at.is_row).behind
     rest_empty flags exact = elim (none_or_more (at.is_row).behind) [
       | inl none ↦ (
-        (λ rest. subst (AreNullable g.rules) (sym none) ((none_derive g.rules [] 0 0).1 refl)),
+        (λ rest. subst (AreNullable g.rules) (sym none) (none_nullable g.rules)),
         (λ empty. inl (((at.is_row).is_last).1 none)),
       )
       | inr (t, more, is_more) ↦
@@ -101,19 +95,21 @@ module _ (g : Expansion) where
     ]
 
   -- the number of a category or a kind is below those of the suffixes
-  plain_below : (s : Symbol) (n : ℕ) → IsNumberOf g (plain s) n → n < length g.categories + length g.kinds
+  plain_below :
+      (s : Symbol) (n : ℕ)
+      → IsNumberOf g (plain s) n → n < length g.categories + length g.kinds
   plain_below (Category c) n is = omega (arith, is.0, is.1)
   plain_below (Kind k) n is = omega (arith, is.0, is.1)
 
-  -- a kind does not derive the empty span
+  -- the number of a kind is not that of a symbol that derives the empty span
   no_empty_kind : (k n : ℕ) → IsNumberOf g (plain (Kind k)) n → IsNullableNumber g n → ⊥
-  no_empty_kind k n is x =
-      let d = (kind_derives g.rules [] k 0 0).0 ((number_empty (plain (Kind k)) n is).0 x) in
-      omega (arith, d.1)
+  no_empty_kind k n is x = kind_not_nullable g.rules k ((number_empty (plain (Kind k)) n is).0 x)
 
   -- with one suffix more, the flags say of it too whether it derives the empty span
-  pub flagged_from : (n : ℕ) (row : SuffixRow) (flags : List Bool) (flag : Bool) → IsRowAt g n row
-      → AreNullableFrom g (n + 1) flags → IsTrue flag ↔ (IsSet flags row.item × IsRestNullable flags row (suffix_number g n))
+  pub flagged_from :
+      (n : ℕ) (row : SuffixRow) (flags : List Bool) (flag : Bool)
+      → IsRowAt g n row → AreNullableFrom g (n + 1) flags
+      → IsTrue flag ↔ (IsSet flags row.item × IsRestNullable flags row (suffix_number g n))
       → AreNullableFrom g n (slice_set flags (suffix_number g n) flag)
   flagged_from n row flags flag at before is = record {
     count = length-set flags (suffix_number g n) flag ∙ before.count;
@@ -136,7 +132,8 @@ module _ (g : Expansion) where
           (inl (plain_below (at.is_row).item row.item is_item)))
           (number_empty (plain (at.is_row).item) row.item is_item)
 
-      rest_is : IsRestNullable flags row (suffix_number g n) ↔ AreNullable g.rules (at.is_row).behind
+      rest_is :
+          IsRestNullable flags row (suffix_number g n) ↔ AreNullable g.rules (at.is_row).behind
       rest_is = rest_empty n row at flags (λ below. before.exact (suffix_number g n + 1) below (inr (omega arith)))
 
       of_flag : IsTrue flag ↔ IsNullableNumber g (suffix_number g n)
@@ -146,17 +143,25 @@ module _ (g : Expansion) where
       within : suffix_number g n < length flags
       within = omega (arith, before.count, number_below g (suffix at.r at.p) (suffix_number g n) (whole_number g n row at))
 
-      other_part : (m : ℕ) → m ≢ suffix_number g n → (m < length g.categories + length g.kinds) ⊎ (suffix_number g n ≤ m)
+      other_part :
+          (m : ℕ)
+          → m ≢ suffix_number g n
+          → (m < length g.categories + length g.kinds) ⊎ (suffix_number g n ≤ m)
           → (m < length g.categories + length g.kinds) ⊎ (suffix_number g (n + 1) ≤ m)
       other_part m differ (inl early) = inl early
       other_part m differ (inr late) = inr (omega arith)
 
-      read_as : (m : ℕ) (other : Bool) → slice_index_or (slice_set flags (suffix_number g n) flag) m false ≡ other
-          → IsTrue other ↔ IsNullableNumber g m → IsSet (slice_set flags (suffix_number g n) flag) m ↔ IsNullableNumber g m
+      read_as :
+          (m : ℕ) (other : Bool)
+          → slice_index_or (slice_set flags (suffix_number g n) flag) m false ≡ other
+          → IsTrue other ↔ IsNullableNumber g m
+          → IsSet (slice_set flags (suffix_number g n) flag) m ↔ IsNullableNumber g m
       read_as m other read both = ((λ set. both.0 (sym read ∙ set)), (λ x. read ∙ both.1 x))
 
   -- the flags of the categories are right, and kinds have none
-  flags_start : (categories : List Bool) → AreNullableFlags g categories
+  flags_start :
+      (categories : List Bool)
+      → AreNullableFlags g categories
       → AreNullableFrom g (item_count g.rules) (categories ++ replicate (symbol_count g - length categories) false)
   flags_start categories are = record {
     count = omega (arith, are.count, length-append categories clear, length-replicate (symbol_count g - length categories) false);
@@ -181,7 +186,9 @@ module _ (g : Expansion) where
       below_or_not : (c n : ℕ) → (n < c) ⊎ (c ≤ n)
       below_or_not c n = grind arith
 
-      two_parts : (n : ℕ) → n < symbol_count g → (n < length g.categories + length g.kinds) ⊎ (symbol_count g ≤ n)
+      two_parts :
+          (n : ℕ)
+          → n < symbol_count g → (n < length g.categories + length g.kinds) ⊎ (symbol_count g ≤ n)
           → (n < length g.categories) ⊎ ((length g.categories ≤ n) × (n < length g.categories + length g.kinds))
       two_parts n below (inr late) = absurd (omega arith)
       two_parts n below (inl early) = elim (below_or_not (length g.categories) n) [
@@ -189,10 +196,13 @@ module _ (g : Expansion) where
         | inr kind ↦ inr (kind, early)
       ]
 
-  -- the flags of the categories, with clear ones behind them up to the count of symbols, are right for no suffix
-  pub flags_widened : (categories flags : List Bool) (count size rows : ℕ) → AreNullableFlags g categories
-      → count ≡ symbol_count g → size ≡ length categories → rows ≡ item_count g.rules
-      → flags ≡ take count categories ++ replicate (count - size) false → AreNullableFrom g rows flags
+  -- the flags of the categories, with clear ones behind them, are right but for the suffixes
+  pub flags_widened :
+      (categories flags : List Bool) (count size rows : ℕ)
+      → AreNullableFlags g categories → count ≡ symbol_count g → size ≡ length categories
+      → rows ≡ item_count g.rules
+      → flags ≡ take count categories ++ replicate (count - size) false
+      → AreNullableFrom g rows flags
   flags_widened categories flags count size rows are is_count is_size is_rows is =
       let all : take count categories ≡ categories = take_all count categories (omega (arith, are.count)) in
       rw (is, all, is_count, is_size, is_rows) (flags_start categories are)

@@ -15,9 +15,11 @@ module _ (g : Expansion) (links : List (List ℕ)) (steps : AreUnitSteps g links
   pub steps_within : AreLinksWithin links
   steps_within m n has = omega (arith, (step_below g m n ((steps.exact m n).0 has)).1, steps.count)
 
-  -- the flags of what the links reach from a number are those of what the symbol of this number reaches
-  pub reached_flags : (n : ℕ) (flags : List Bool) → HasOwnSymbols g → n < symbol_count g → AreReachedFlags links n flags
-      → (m : ℕ) → IsSet flags m ↔ ((a : BinarySymbol) × IsNumberOf g a n × IsReachedNumber g a m)
+  -- what the links reach from a number is flagged, and that is what the symbol of this number reaches
+  pub reached_flags :
+      (n : ℕ) (flags : List Bool)
+      → HasOwnSymbols g → n < symbol_count g → AreReachedFlags links n flags → (m : ℕ)
+      → IsSet flags m ↔ ((a : BinarySymbol) × IsNumberOf g a n × IsReachedNumber g a m)
   reached_flags n flags own below are m = (
     (λ set.
         let a = numbers_used g n below in

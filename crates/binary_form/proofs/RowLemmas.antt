@@ -21,7 +21,9 @@ abbrev pub no_row : SuffixRow
 no_row = record { item = 0; category = 0; is_first = false; is_last = false }
 
 -- a list has nothing, or something
-pub none_or_more : (items : List Symbol) → (items ≡ []) ⊎ ((t : Symbol) × (more : List Symbol) × (items ≡ t ∷ more))
+pub none_or_more :
+    (items : List Symbol)
+    → (items ≡ []) ⊎ ((t : Symbol) × (more : List Symbol) × (items ≡ t ∷ more))
 none_or_more [] = inl refl
 none_or_more (t ∷ more) = inr (t, more, refl)
 
@@ -33,7 +35,9 @@ tested m n test is = (
 )
 
 -- a place is the last exactly where nothing is behind it
-last_or_more : (items : List Symbol) (p : ℕ) → p < length items → (p + 1 ≡ length items) ↔ (drop (suc p) items ≡ [])
+last_or_more :
+    (items : List Symbol) (p : ℕ)
+    → p < length items → (p + 1 ≡ length items) ↔ (drop (suc p) items ≡ [])
 last_or_more items p within = (
   (λ last. nil_from_length (drop (suc p) items) (omega (arith, length-drop (suc p) items))),
   (λ none. omega (arith, length-drop (suc p) items, ap length none)),
@@ -41,9 +45,11 @@ last_or_more items p within = (
 
 module _ (g : Expansion) (r p : ℕ) (rule : Rule) (s : Symbol) where
   -- what is told of an item, by the numbers of its rule
-  pub row_is : (row : SuffixRow) → HasOwnSymbols g → slice_get g.rules r ≡ Some rule
-      → slice_get rule.items p ≡ Some s → IsNumberOf g (plain s) row.item → row.category ≡ rule.category
-      → row.is_first ≡ nat_eq p 0 → row.is_last ≡ nat_eq (p + 1) (length rule.items) → IsRow g r p row
+  pub row_is :
+      (row : SuffixRow)
+      → HasOwnSymbols g → slice_get g.rules r ≡ Some rule → slice_get rule.items p ≡ Some s
+      → IsNumberOf g (plain s) row.item → row.category ≡ rule.category → row.is_first ≡ nat_eq p 0
+      → row.is_last ≡ nat_eq (p + 1) (length rule.items) → IsRow g r p row
   row_is row own is_rule is_item number category first last =
       let is_last = tested (p + 1) (length rule.items) row.is_last last in
       let ends = last_or_more rule.items p (slice_get_within rule.items p s is_item) in
@@ -65,7 +71,9 @@ same_item rules r p s t behind others has also =
     sym has.is_item ∙ ap (λ (x : Rule). drop p x.items) same ∙ also.is_item
 
 -- the number of a symbol is below their count
-pub number_below : (g : Expansion) (a : BinarySymbol) (n : ℕ) → IsNumberOf g a n → n < symbol_count g
+pub number_below :
+    (g : Expansion) (a : BinarySymbol) (n : ℕ)
+    → IsNumberOf g a n → n < symbol_count g
 number_below g a n is = subst Below is.1 (numbers_below g a is.0)
   where
     Below : ℕ → Type 0
@@ -83,8 +91,10 @@ counted_item rules r p n s behind has count = record {
 
 module _ (g : Expansion) where
   -- what a row's rule and place are of is what they are of at the same count
-  same_place : (r p t q n : ℕ) (row : SuffixRow) → IsRow g t q row → item_count (take t g.rules) + q ≡ n
-      → IsCounted g.rules r p n → IsRow g r p row
+  same_place :
+      (r p t q n : ℕ) (row : SuffixRow)
+      → IsRow g t q row → item_count (take t g.rules) + q ≡ n → IsCounted g.rules r p n
+      → IsRow g r p row
   same_place r p t q n row is count counted =
       let same : suffix t q ≡ suffix r p =
       counted_once g.rules t q r p n (counted_item g.rules t q n is.item is.behind is.has count) counted in
@@ -104,7 +114,8 @@ module _ (g : Expansion) where
       )
 
   -- the suffix behind a row's item has the next number
-  pub next_number : (n : ℕ) (row : SuffixRow) (at : IsRowAt g n row) (t : Symbol) (more : List Symbol)
+  pub next_number :
+      (n : ℕ) (row : SuffixRow) (at : IsRowAt g n row) (t : Symbol) (more : List Symbol)
       → (at.is_row).behind ≡ t ∷ more
       → IsNumberOf g (suffix at.r (suc at.p)) (suffix_number g n + 1)
   next_number n row at t more is_more =
@@ -125,7 +136,9 @@ module _ (g : Expansion) where
 
   module _ (rows : List SuffixRow) (are : AreRows g rows) where
     -- each item has its row
-    pub row_at : (r p : ℕ) (s : Symbol) (behind : List Symbol) → HasItem g.rules r p s behind
+    pub row_at :
+        (r p : ℕ) (s : Symbol) (behind : List Symbol)
+        → HasItem g.rules r p s behind
         → (row : SuffixRow) × (slice_get rows (item_count (take r g.rules) + p) ≡ Some row) × IsRow g r p row
     row_at r p s behind has = elim (slice_get_cases rows n).1 [
       | inl (row, within, is, read) ↦

@@ -23,11 +23,14 @@ use Rattle.spec_grammar.proofs.DerivationLemmas.{none_derive}
 use Rattle.binary_form.proofs.NumberLemmas.{number_is_one, number-suffix-suc}
 use Rattle.binary_form.proofs.ItemLemmas.{items_behind, same_rule, symbol_item}
 use Rattle.binary_form.proofs.RowLemmas.{number_below, whole_number, next_number, goes_on, none_or_more, row_at, same_item}
+use Rattle.binary_form.proofs.NullableLemmas.{alike, number_empty, rest_empty}
 use Rattle.binary_form.proofs.LinkLemmas.{no_link, adds_both, adds_tested}
 
 -- one suffix's unit steps are added, those of each sort where they are there
-pub adds_steps : (nullable : List Bool) (row : SuffixRow) (whole : ℕ) (old first second new : List (List ℕ)) (empty passed : Bool)
-    → IsTrue empty ↔ IsRestNullable nullable row whole → IsTrue passed ↔ (IsFalse row.is_last × IsSet nullable row.item)
+pub adds_steps :
+    (nullable : List Bool) (row : SuffixRow) (whole : ℕ) (old first second new : List (List ℕ)) (empty passed : Bool)
+    → IsTrue empty ↔ IsRestNullable nullable row whole
+    → IsTrue passed ↔ (IsFalse row.is_last × IsSet nullable row.item)
     → AddsLinks (λ m n. IsTrue row.is_first × (m ≡ whole) × (n ≡ row.category)) old first
     → AddsLinks (λ m n. IsTrue empty × (m ≡ row.item) × (n ≡ whole)) first second
     → AddsLinks (λ m n. IsTrue passed × (m ≡ whole + 1) × (n ≡ whole)) second new
@@ -43,7 +46,9 @@ adds_steps nullable row whole old first second new empty passed is_empty is_pass
 
 module _ (Link : SuffixRow → ℕ → ℕ → ℕ → Type 0) (rows : List SuffixRow) (first count : ℕ) where
   -- of no rows there are no links
-  pub links_of_none : (links : List (List ℕ)) → AreNoLinks count links → AreLinksOfRows Link rows first 0 count links
+  pub links_of_none :
+      (links : List (List ℕ))
+      → AreNoLinks count links → AreLinksOfRows Link rows first 0 count links
   links_of_none links none = record {
     size = ap length none ∙ length-replicate count [];
     exact = λ m n. (
@@ -53,8 +58,10 @@ module _ (Link : SuffixRow → ℕ → ℕ → ℕ → Type 0) (rows : List Suff
   }
 
   -- with one row more there are its links besides
-  pub links_of_more : (many : ℕ) (row : SuffixRow) (old new : List (List ℕ)) → slice_get rows many ≡ Some row
-      → AreLinksOfRows Link rows first many count old → AddsLinks (Link row (first + many)) old new
+  pub links_of_more :
+      (many : ℕ) (row : SuffixRow) (old new : List (List ℕ))
+      → slice_get rows many ≡ Some row → AreLinksOfRows Link rows first many count old
+      → AddsLinks (Link row (first + many)) old new
       → AreLinksOfRows Link rows first (many + 1) count new
   links_of_more many row old new is before adds = record {
     size = adds.count ∙ before.size;
@@ -78,7 +85,9 @@ module _ (Link : SuffixRow → ℕ → ℕ → ℕ → Type 0) (rows : List Suff
       last_or_before : (k : ℕ) → k < many + 1 → (k < many) ⊎ (k ≡ many)
       last_or_before k within = grind arith
 
-      same_row : (k : ℕ) (other : SuffixRow) → k ≡ many → slice_get rows k ≡ Some other → other ≡ row
+      same_row :
+          (k : ℕ) (other : SuffixRow)
+          → k ≡ many → slice_get rows k ≡ Some other → other ≡ row
       same_row k other same is_other = cc
 
       back : (m n : ℕ) → IsLinkOfRows Link rows first (many + 1) m n → HasLink new m n
@@ -108,7 +117,9 @@ not_tested true = ((λ is. absurd (false≢true is)), (λ is. absurd (false≢tr
 not_tested false = ((λ is. refl), (λ is. refl))
 
 -- an item with a symbol of the grammar behind it is not the last
-not_last : (g : Expansion) (r p : ℕ) (row : SuffixRow) → IsRow g r p row → IsBinarySymbolOf g (suffix r (suc p)) → IsFalse row.is_last
+not_last :
+    (g : Expansion) (r p : ℕ) (row : SuffixRow)
+    → IsRow g r p row → IsBinarySymbolOf g (suffix r (suc p)) → IsFalse row.is_last
 not_last g r p row is next = elim (true_or_false row.is_last) [
   | inr no_more ↦ no_more
   | inl last ↦
@@ -117,45 +128,19 @@ not_last g r p row is next = elim (true_or_false row.is_last) [
       absurd (omega (arith, next.2, length-drop (suc p) (next.0).items, ap length none))
 ]
 
-module _ (g : Expansion) (rows : List SuffixRow) (nullable : List Bool) (are : AreRows g rows) (flags : AreNullableNumbers g nullable) where
-  -- a flag of a symbol's number says that it derives the empty span
-  derives_empty : (a : BinarySymbol) (n : ℕ) → IsNumberOf g a n → IsSet nullable n → BinaryDerives g.rules [] a 0 0
-  derives_empty a n is set =
-      let x = (flags.exact n (number_below g a n is)).0 set in
-      let same : x.0 ≡ a = number_is_one g x.0 a n x.1 is in
-      rw same at x.2
+module _ (g : Expansion) (rows : List SuffixRow) (nullable : List Bool) (are : AreRows g rows)
+    (flags : AreNullableNumbers g nullable) where
+  -- the flag of a symbol's number says whether the symbol derives the empty span
+  empty_is :
+      (a : BinarySymbol) (n : ℕ)
+      → IsNumberOf g a n → IsSet nullable n ↔ BinaryDerives g.rules [] a 0 0
+  empty_is a n is = alike (flags.exact n (number_below g a n is)) (number_empty g a n is)
 
-  -- the flag of a symbol that derives the empty span is set
-  empty_flagged : (a : BinarySymbol) (n : ℕ) → IsNumberOf g a n → BinaryDerives g.rules [] a 0 0 → IsSet nullable n
-  empty_flagged a n is empty = (flags.exact n (number_below g a n is)).1 (a, is, empty)
-
-  -- the items behind a row's item derive the empty span where the row and the flags say so
-  rest_empty : (n : ℕ) (row : SuffixRow) (at : IsRowAt g n row)
-      → IsRestNullable nullable row (suffix_number g n) → AreNullable g.rules (at.is_row).behind
-  rest_empty n row at rest = elim (none_or_more (at.is_row).behind) [
-    | inl none ↦ subst (AreNullable g.rules) (sym none) ((none_derive g.rules [] 0 0).1 refl)
-    | inr (t, more, is_more) ↦ elim rest [
-      | inl last ↦
-          let none = ((at.is_row).is_last).0 last in
-          absurd (cc)
-      | inr set ↦
-          let x = derives_empty (suffix at.r (suc at.p)) (suffix_number g n + 1) (next_number g n row at t more is_more) set in
-          let are_behind = items_behind g.rules at.r at.p (at.is_row).item (at.is_row).behind x.0 (at.is_row).has x.1 in
-          subst (AreNullable g.rules) are_behind x.2
-    ]
-  ]
-
-  -- where they derive it, the row or the flags say so
-  rest_flagged : (n : ℕ) (row : SuffixRow) (at : IsRowAt g n row)
-      → AreNullable g.rules (at.is_row).behind → IsRestNullable nullable row (suffix_number g n)
-  rest_flagged n row at empty = elim (none_or_more (at.is_row).behind) [
-    | inl none ↦ inl (((at.is_row).is_last).1 none)
-    | inr (t, more, is_more) ↦
-        let has = (at.is_row).has in
-        let are_behind = items_behind g.rules at.r at.p (at.is_row).item (at.is_row).behind has.rule has has.is_rule in
-        inr (empty_flagged (suffix at.r (suc at.p)) (suffix_number g n + 1) (next_number g n row at t more is_more)
-        (has.rule, has.is_rule, subst (AreNullable g.rules) (sym are_behind) empty))
-  ]
+  -- the row and the flags say whether what is behind the row's item derives the empty span
+  rest_is :
+      (n : ℕ) (row : SuffixRow) (at : IsRowAt g n row)
+      → IsRestNullable nullable row (suffix_number g n) ↔ AreNullable g.rules (at.is_row).behind
+  rest_is n row at = rest_empty g n row at nullable (flags.exact (suffix_number g n + 1))
 
   -- a step that a row gives is one of the grammar
   pub step_of_row : (n from to : ℕ) (row : SuffixRow) → IsRowAt g n row
@@ -179,7 +164,7 @@ module _ (g : Expansion) (rows : List SuffixRow) (nullable : List Bool) (are : A
         suffix at.r at.p,
         ((is.is_item).0, (is.is_item).1 ∙ sym is_from),
         (whole.0, whole.1 ∙ sym is_to),
-        last_item is.has (rest_empty n row at rest),
+        last_item is.has ((rest_is n row at).0 rest),
       )
   step_of_row n from to row at (inr (inr ((more_behind, set), is_from, is_to))) =
       let is = at.is_row in
@@ -190,14 +175,19 @@ module _ (g : Expansion) (rows : List SuffixRow) (nullable : List Bool) (are : A
         suffix at.r at.p,
         (next.0, next.1 ∙ sym is_from),
         (whole.0, whole.1 ∙ sym is_to),
-        passed_item is.has (derives_empty (plain is.item) row.item is.is_item set),
+        passed_item is.has ((empty_is (plain is.item) row.item is.is_item).0 set),
       )
 
   -- a step of the grammar is one that a row gives
-  pub row_of_step : (from to : ℕ) → StepNumber g from to → IsLinkOfRows (IsRowStep nullable) rows (length g.categories + length g.kinds) (length rows) from to
+  pub row_of_step :
+      (from to : ℕ)
+      → StepNumber g from to
+      → IsLinkOfRows (IsRowStep nullable) rows (length g.categories + length g.kinds) (length rows) from to
   row_of_step from to step = row_of step.0 step.1 step.2 step.3 step.4
     where
-      row_of : (a b : BinarySymbol) → IsNumberOf g a from → IsNumberOf g b to → UnitStep g.rules a b
+      row_of :
+          (a b : BinarySymbol)
+          → IsNumberOf g a from → IsNumberOf g b to → UnitStep g.rules a b
           → IsLinkOfRows (IsRowStep nullable) rows (length g.categories + length g.kinds) (length rows) from to
       row_of a b is_a is_b (whole_side {r = r} {rule = rule} is_rule) =
           let start = symbol_item g r 0 is_a.0 in
@@ -225,7 +215,7 @@ module _ (g : Expansion) (rows : List SuffixRow) (nullable : List Bool) (are : A
           let same_behind : behind ≡ is.behind = cc in
           let item : from ≡ (x.0).item =
           sym is_a.1 ∙ ap (λ y. number_of g (plain y)) same_first ∙ (is.is_item).1 in
-          let rest = rest_flagged n x.0 at (subst (AreNullable g.rules) same_behind empty) in
+          let rest = (rest_is n x.0 at).1 (subst (AreNullable g.rules) same_behind empty) in
           record {
             k = n;
             row = x.0;
@@ -240,8 +230,10 @@ module _ (g : Expansion) (rows : List SuffixRow) (nullable : List Bool) (are : A
           let at : IsRowAt g n x.0 = record { r = r; p = p; count = refl; is_row = is } in
           let same = same_item g.rules r p s is.item behind is.behind has is.has in
           let same_first : s ≡ is.item = cc in
-          let set = empty_flagged (plain is.item) (x.0).item is.is_item (subst (IsNullable g.rules) same_first empty) in
-          let next : from ≡ suffix_number g n + 1 = sym is_a.1 ∙ number-suffix-suc g r p ∙ ap (λ m. m + 1) (whole_number g n x.0 at).1 in
+          let set = (empty_is (plain is.item) (x.0).item is.is_item).1
+          (subst (IsNullable g.rules) same_first empty) in
+          let next : from ≡ suffix_number g n + 1 =
+          sym is_a.1 ∙ number-suffix-suc g r p ∙ ap (λ m. m + 1) (whole_number g n x.0 at).1 in
           record {
             k = n;
             row = x.0;
@@ -251,7 +243,9 @@ module _ (g : Expansion) (rows : List SuffixRow) (nullable : List Bool) (are : A
           }
 
   -- the links that all rows give are the unit steps
-  pub unit_steps_are : (many : ℕ) (links : List (List ℕ)) → length rows ≤ many
+  pub unit_steps_are :
+      (many : ℕ) (links : List (List ℕ))
+      → length rows ≤ many
       → AreLinksOfRows (IsRowStep nullable) rows (length g.categories + length g.kinds) many (length nullable) links
       → AreUnitSteps g links
   unit_steps_are many links all given = record {
@@ -292,7 +286,9 @@ module _ (g : Expansion) (rows : List SuffixRow) (are : AreRows g rows) where
       }
 
   -- an item with an item behind it has a row whose suffix goes on
-  row_of_whole : (item_number whole : ℕ) → IsWhole g item_number whole
+  row_of_whole :
+      (item_number whole : ℕ)
+      → IsWhole g item_number whole
       → IsLinkOfRows IsRowWhole rows (length g.categories + length g.kinds) (length rows) item_number whole
   row_of_whole item_number whole x =
       let found = row_at g rows are x.r x.p x.item x.behind x.has in
@@ -312,7 +308,9 @@ module _ (g : Expansion) (rows : List SuffixRow) (are : AreRows g rows) where
       }
 
   -- the links that all rows give lead from items to the suffixes that they begin
-  pub wholes_are : (many : ℕ) (links : List (List ℕ)) → length rows ≤ many
+  pub wholes_are :
+      (many : ℕ) (links : List (List ℕ))
+      → length rows ≤ many
       → AreLinksOfRows IsRowWhole rows (length g.categories + length g.kinds) many (length g.categories + length g.kinds + length rows) links
       → AreWholes g links
   wholes_are many links all given = record {
