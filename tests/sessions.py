@@ -152,9 +152,22 @@ for name, more in [
     ('an edit', b'edit 0 1 1\nb\nend\n'),
     ('a question for a tree', b'tree S 0 2\nend\n'),
     ('a question for tokens', b'tokens\nend\n'),
-    ('a question of one word', b'has\nend\n'),
-    ('a question without a span', b'has S\nend\n'),
+    ('a question of one word without its LF', b'has'),
+    ('a question of one word with a space behind', b'has \nend\n'),
+    ('a question of one word that ends in CR LF', b'has\r\nend\n'),
+    ('a question of one word with two spaces behind', b'has  \nend\n'),
+    ('a question of one longer word', b'hass\nend\n'),
+    ('a question of one word in upper case', b'HAS\nend\n'),
+    ('a question behind a space', b' has\nend\n'),
+    ('a question with a tab behind its word', b'has\tS\nend\n'),
+    ('a question with two spaces before its category', b'has  S\nend\n'),
+    ('a question with a space behind its category', b'has S \nend\n'),
+    ('a question with a category without its LF', b'has S'),
     ('a question with one number', b'has S 0\nend\n'),
+    ('a question with one number and a space behind', b'has S 0 \nend\n'),
+    ('a question with two categories', b'has S S\nend\n'),
+    ('a question with a number for its category and one number', b'has 0 2\nend\n'),
+    ('a question with a category of 253 bytes', b'has ' + b'A' * 253 + b'\nend\n'),
     ('a question with three numbers', b'has S 0 1 2\nend\n'),
     ('a question with two spaces behind its word', b'has  S 0 2\nend\n'),
     ('a question with two spaces before a number', b'has S  0 2\nend\n'),
@@ -179,7 +192,9 @@ for name, more in [
 # ---- Breaks further on: the replies before the break stand.
 
 for name, more, wanted in [
-    ('a break behind one question', b'has S 0 2\nhas\n', b'yes\n' + broken(75)),
+    ('a break behind one question', b'has S 0 2\nhass\n', b'yes\n' + broken(75)),
+    ('a break behind the entry and a category', b'has\nhas S\nhas S \n', b'yes\nyes\n' + broken(75)),
+    ('the input ends behind the entry', b'has\n', b'yes\n' + broken(69)),
     ('a break behind two questions', b'has S 0 2\nhas T 0 2\nend', b'yes\nrefused category\n' + broken(85)),
     ('the input ends behind a question', b'has S 1 1\n', b'no\n' + broken(75)),
     ('a second text behind a question', b'has S 0 3\nopen 1\na\nend\n', b'refused span 2\n' + broken(75)),
@@ -193,6 +208,15 @@ for name, more, wanted in [
     ('no question', END, b''),
     ('what stands behind the end has no effect', END + b'has\n\xff\x00', b''),
     ('the first session', b'has S 0 2\nhas S 1 1\nhas T 0 1\nhas S 0 3\n' + END, b'yes\nno\nrefused category\nrefused span 2\n'),
+    ('the entry over the whole text', b'has\n' + END, b'yes\n'),
+    ('a category over the whole text', b'has S\n' + END, b'yes\n'),
+    ('an unknown category over the whole text', b'has T\n' + END, b'refused category\n'),
+    ('a number for a category over the whole text', b'has 0\n' + END, b'refused category\n'),
+    ('a word of the script for a category over the whole text', b'has has\nhas end\n' + END, b'refused category\nrefused category\n'),
+    ('a category over the whole text that ends in CR', b'has S\r\n' + END, b'refused category\n'),
+    ('a category over the whole text that is no UTF-8', b'has \xff\xfe\n' + END, b'refused category\n'),
+    ('a category of 252 bytes over the whole text', b'has ' + b'A' * 252 + b'\n' + END, b'refused category\n'),
+    ('a label for a category over the whole text', b'has One\n' + END, b'refused category\n'),
     ('an empty span at the text\'s end', b'has S 2 2\n' + END, b'no\n'),
     ('an empty span behind the text', b'has S 3 3\n' + END, b'refused span 2\n'),
     ('a span that runs backwards', b'has S 1 0\n' + END, b'refused span 2\n'),
@@ -224,6 +248,10 @@ def version(tokens):
 # Texts under the grammar of one word, `a`: white space gives no token, and another byte is a stray token.
 for name, text, tokens, questions, answers in [
     ('an empty text', b'', 0, b'has S 0 0\nhas S 0 1\n', b'no\nrefused span 0\n'),
+    ('the whole of an empty text', b'', 0, b'has\nhas S\nhas T\n', b'no\nno\nrefused category\n'),
+    ('the whole of a text of one LF', b'\n', 0, b'has\nhas S\n', b'no\nno\n'),
+    ('the whole of a text of one token', b'a', 1, b'has\nhas S\n', b'yes\nyes\n'),
+    ('the whole of a text with a stray byte', b'a?a', 3, b'has\nhas S\n', b'no\nno\n'),
     ('a text of one LF', b'\n', 0, b'has S 0 0\n', b'no\n'),
     ('a text of each white byte', b' \t\n\r\x0b\x0c', 0, b'', b''),
     ('words side by side', b'aaa', 3, b'has S 0 3\n', b'yes\n'),
@@ -265,6 +293,18 @@ case('a category that derives nothing', with_grammar(b'P. S ::= S S ;', open_tex
      counts(1, 1, 0) + version(1) + b'no\nno\nend\n', 0)
 case('a word of two rules', with_grammar(b'A. S ::= "x" ; B. T ::= "x" ;', open_text(b'x') + b'has S 0 1\nhas T 0 1\n' + END),
      counts(2, 2, 1) + version(1) + b'yes\nyes\nend\n', 0)
+PAIR_FIRST = b'P. S ::= A B ; Q. A ::= "x" ; R. B ::= "y" ;'
+PAIR_LAST = b'Q. A ::= "x" ; R. B ::= "y" ; P. S ::= A B ;'
+case('the entry is the category of the first rule', with_grammar(PAIR_FIRST, open_text(b'x y') + b'has\nhas S\nhas A\nhas B\nhas A 0 1\n' + END),
+     counts(3, 3, 2) + version(2) + b'yes\nyes\nno\nno\nyes\nend\n', 0)
+case('the entry is not the category of a later rule', with_grammar(PAIR_LAST, open_text(b'x y') + b'has\nhas S\nhas A\n' + END),
+     counts(3, 3, 2) + version(2) + b'no\nyes\nno\nend\n', 0)
+case('the entry over a text of one token', with_grammar(PAIR_LAST, open_text(b'x') + b'has\nhas S\nhas A\nhas B\n' + END),
+     counts(3, 3, 2) + version(1) + b'yes\nno\nyes\nno\nend\n', 0)
+case('a grammar without rules has no entry', with_grammar(b'', open_text(b'a a') + b'has\nhas S\nhas S 9 0\n' + END),
+     counts(0, 0, 0) + version(2) + b'refused category\n' * 3 + END, 0)
+case('a grammar without rules has no entry over an empty text', with_grammar(b'', open_text(b'') + b'has\n' + END),
+     counts(0, 0, 0) + version(0) + b'refused category\n' + END, 0)
 case('an empty grammar', with_grammar(b'', open_text(b'a a') + b'has S 0 2\n' + END),
      counts(0, 0, 0) + version(2) + b'refused category\nend\n', 0)
 case('a grammar of 65,536 bytes', with_grammar(G + b' ' * 65503, open_text(b'a a') + b'has S 0 2\n' + END),

@@ -1,5 +1,5 @@
 -- What the forms of a script's lines rest on: decimal numbers, and a line that is cut in two.
-use Rattle.std.proofs.Common.{◌≡◌, ℕ, zero, suc, ◌^◌, ◌<◌, ◌≤◌, ◌&&◌, List, [], ◌∷◌, ◌++◌, length, take, drop, true, false, Result, Ok, Err, OkIff, decimal, IsUtf8, nat_eq, slice_index, Contains, refl, sym, ◌∙◌, ap, subst, arith, get_or}
+use Rattle.std.proofs.Common.{◌≡◌, ℕ, zero, suc, ◌^◌, ◌<◌, ◌≤◌, ◌&&◌, List, [], ◌∷◌, ◌++◌, length, take, drop, true, false, Result, Ok, Err, OkIff, decimal, IsUtf8, nat_eq, slice_index, refl, sym, ◌∙◌, ap, subst, arith, get_or}
 use Rattle.std.specs.List.{list_all}
 use Rattle.std.specs.Char.{is_ascii_digit}
 use Rattle.std.specs.Str.{all_ascii_digits}
@@ -96,8 +96,3 @@ count_above line beginning rest most count e small spelled above n less within o
 
 pub count_none : (line beginning rest : List ℕ) (most : ℕ) → line ≡ beginning ++ rest → ((n : ℕ) → n < 10 ^ 9 → rest ≡ decimal n → ⊥) → (n : ℕ) → n < 10 ^ 9 → n ≤ most → line ≡ beginning ++ decimal n → ⊥
 count_none line beginning rest most e other n less within spelled = other n less (same_rest beginning rest (decimal n) (sym e ∙ spelled))
-
--- a word, a space and what stands behind it have a space
-pub has_space : (word rest : List ℕ) → Contains (word ++ (32 ∷ rest)) 32
-has_space [] rest = (0, omega arith, refl)
-has_space (x ∷ xs) rest = let h = has_space xs rest in (suc h.0, omega (arith, h.1), h.2)

@@ -4,7 +4,7 @@ use Rattle.std.proofs.lemmas.List.{take-append-drop}
 use Rattle.cyk_io.specs.Streams.{Takes, Grows, GrowsByPrefix}
 use Rattle.cyk_io.specs.Lines.{IsLine}
 use Rattle.spec_lbnf.specs.Expansion.{Expansion}
-use Rattle.spec_session.specs.Script.{Command, header, grammar, opens, has, line_of, block_of, text_of, IsWithinLimits, AreQuestions, IsInOrder, Begins, Ending, ended, broken, EndsAs, IsScript}
+use Rattle.spec_session.specs.Script.{Constituent, Command, header, grammar, opens, has, line_of, block_of, text_of, IsWithinLimits, AreQuestions, IsInOrder, Begins, Ending, ended, broken, EndsAs, IsScript}
 use Rattle.spec_session.specs.Replies.{IsAccepted, IsAnswer, grammar_reply, version_reply}
 use Rattle.spec_session.specs.Sessions.{AreReplies, AreAllReplies, IsSession, refused, whole, last_line, last_status}
 use Rattle.spec_session.proofs.ScriptLemmas.{tested, each_differs, lacks_if_each_differs, cut_same, command_line, line_lacks_lf, line_is_short}
@@ -169,8 +169,8 @@ no_line_no_end from to old new line bytes h is more early e = h bytes is early (
 -- a line that is none of these
 module _ (from to : ℕ) (old new : Option (List ℕ)) (line bytes : List ℕ) (h : NextLine from to old new line true) (is : old ≡ Some bytes) where
   pub no_question : ReadsHas line None → (command : Command) (more : List ℕ) → from < 2 ^ 48 → AreQuestions (command ∷ []) → IsWithinLimits command → bytes ≡ text_of command ++ more → ⊥
-  no_question other (has category first end) more early q w e =
-      other category first end (record { is_word = w.0; small_first = w.1; small_end = w.2; spelled = line_of_command from to old new line bytes h is (has category first end) more w e })
+  no_question other (has constituent) more early q w e =
+      other constituent (record { nameable = w.0; spelled = line_of_command from to old new line bytes h is (has constituent) more w e })
   no_question other header more early q w e = absurd q
   no_question other (grammar block) more early q w e = absurd q
   no_question other (opens text) more early q w e = absurd q
@@ -186,18 +186,18 @@ module _ (from to : ℕ) (old new : Option (List ℕ)) (line bytes : List ℕ) (
   is_end e = (rest_of.0, rest_of.2 ∙ ap (λ word. word ++ (10 ∷ rest_of.0)) e)
 
   -- a line that asks is a question taken
-  pub question_taken : (category : List ℕ) (first end : ℕ) → IsHas line category first end → TakesCommand from to old new (has category first end)
-  question_taken category first end q = let P : List ℕ → Type 0 = λ word. Takes old new (word ++ 10 ∷ []) in record {
+  pub question_taken : (constituent : Constituent) → IsHas line constituent → TakesCommand from to old new (has constituent)
+  question_taken constituent q = let P : List ℕ → Type 0 = λ word. Takes old new (word ++ 10 ∷ []) in record {
     early = h.0;
-    within_limits = (q.is_word, q.small_first, q.small_end, omega (arith, h.2.1, ap length q.spelled));
+    within_limits = (q.nameable, omega (arith, h.2.1, ap length q.spelled));
     taken = subst P q.spelled h.1;
-    offset = omega (arith, h.3, ap length q.spelled, length-append (line_of (has category first end)) (10 ∷ []));
+    offset = omega (arith, h.3, ap length q.spelled, length-append (line_of (has constituent)) (10 ∷ []));
   }
 
 -- a command behind questions, in order, is a question
 pub last_question : (questions : List Command) (command : Command) → AreQuestions (questions ++ command ∷ []) → AreQuestions (command ∷ [])
 last_question [] command h = h
-last_question (has category first end ∷ questions) command h = last_question questions command h
+last_question (has constituent ∷ questions) command h = last_question questions command h
 last_question (header ∷ questions) command h = absurd h
 last_question (grammar block ∷ questions) command h = absurd h
 last_question (opens text ∷ questions) command h = absurd h
@@ -238,21 +238,21 @@ module _ (input before : List ℕ) (coming : Option (List ℕ)) (at : ℕ) (now 
       now new r.has_written Fine status refl says
 
   -- a question follows, and its answer is written or cut short
-  module _ (category : List ℕ) (first end to : ℕ) (later : Option (List ℕ)) (taken : TakesCommand at to coming later (has category first end)) (line : List ℕ) (answer : IsAnswer opened.grammar r.tokens category first end line) where
+  module _ (constituent : Constituent) (to : ℕ) (later : Option (List ℕ)) (taken : TakesCommand at to coming later (has constituent)) (line : List ℕ) (answer : IsAnswer opened.grammar r.tokens constituent line) where
     question : Command
-    question = has category first end
+    question = has constituent
 
-    behind : (more : List ℕ) × (later ≡ Some more) × (r.rest ≡ text_of (has category first end) ++ more)
+    behind : (more : List ℕ) × (later ≡ Some more) × (r.rest ≡ text_of (has constituent) ++ more)
     behind = taken.taken r.rest r.comes
 
-    begins_more : Begins 0 input (header ∷ grammar r.block ∷ opens r.text ∷ (r.questions ++ has category first end ∷ [])) to behind.0
-    begins_more = Begins-append 0 input (header ∷ grammar r.block ∷ opens r.text ∷ r.questions) at r.rest r.begins (has category first end) behind.0 taken.early taken.within_limits behind.2 to taken.offset
+    begins_more : Begins 0 input (header ∷ grammar r.block ∷ opens r.text ∷ (r.questions ++ has constituent ∷ [])) to behind.0
+    begins_more = Begins-append 0 input (header ∷ grammar r.block ∷ opens r.text ∷ r.questions) at r.rest r.begins (has constituent) behind.0 taken.early taken.within_limits behind.2 to taken.offset
 
-    are_more : AreQuestions (r.questions ++ has category first end ∷ [])
-    are_more = questions_more r.questions (has category first end) r.are_questions tt
+    are_more : AreQuestions (r.questions ++ has constituent ∷ [])
+    are_more = questions_more r.questions (has constituent) r.are_questions tt
 
-    replies_are : AreReplies opened.grammar (r.text ∷ []) (r.questions ++ has category first end ∷ []) (r.replies ++ line)
-    replies_are = replies_more opened.grammar (r.text ∷ []) r.questions r.replies (has category first end) line r.are_questions r.are_replies (r.text, r.tokens, ([], refl), (r.is_opened).are_tokens, answer)
+    replies_are : AreReplies opened.grammar (r.text ∷ []) (r.questions ++ has constituent ∷ []) (r.replies ++ line)
+    replies_are = replies_more opened.grammar (r.text ∷ []) r.questions r.replies (has constituent) line r.are_questions r.are_replies (r.text, r.tokens, ([], refl), (r.is_opened).are_tokens, answer)
 
     longer : (told_more : List ℕ) → told ++ told_more ≡ grammar_reply opened.grammar ++ (version_reply 0 (length r.tokens) ++ (r.replies ++ told_more))
     unfolding told
@@ -266,7 +266,7 @@ module _ (input before : List ℕ) (coming : Option (List ℕ)) (at : ℕ) (now 
       block = r.block;
       text = r.text;
       tokens = r.tokens;
-      questions = r.questions ++ has category first end ∷ [];
+      questions = r.questions ++ has constituent ∷ [];
       replies = r.replies ++ line;
       rest = behind.0;
       comes = behind.1;
@@ -281,9 +281,9 @@ module _ (input before : List ℕ) (coming : Option (List ℕ)) (at : ℕ) (now 
     pub running_cut : (new : Option (List ℕ)) → GrowsByPrefix now new line → (status : Status) → IsFaultStatus (number_of status) → Ends input before new status
     unfolding told
     running_cut new cut status fault =
-        let P : List ℕ → Type 0 = AreAllReplies (header ∷ grammar r.block ∷ opens r.text ∷ (r.questions ++ has category first end ∷ [])) in
-        cut_behind input before (header ∷ grammar r.block ∷ opens r.text ∷ (r.questions ++ has category first end ∷ [])) to behind.0 told line are_more begins_more
-        (subst P (sym (longer line)) (text_told opened.grammar r.block r.text r.tokens (r.questions ++ has category first end ∷ []) (r.replies ++ line) r.accepted (r.is_opened).are_tokens replies_are))
+        let P : List ℕ → Type 0 = AreAllReplies (header ∷ grammar r.block ∷ opens r.text ∷ (r.questions ++ has constituent ∷ [])) in
+        cut_behind input before (header ∷ grammar r.block ∷ opens r.text ∷ (r.questions ++ has constituent ∷ [])) to behind.0 told line are_more begins_more
+        (subst P (sym (longer line)) (text_told opened.grammar r.block r.text r.tokens (r.questions ++ has constituent ∷ []) (r.replies ++ line) r.accepted (r.is_opened).are_tokens replies_are))
         now new r.has_written cut status fault
 
 -- a command is short
@@ -294,7 +294,7 @@ text_is_short command w = omega (arith, length-append (line_of command) (10 ∷ 
     block_is_short header w = omega arith
     block_is_short (grammar block) w = omega (arith, w, length-append block (10 ∷ []))
     block_is_short (opens text) w = omega (arith, w.0, length-append text (10 ∷ []))
-    block_is_short (has category first end) w = omega arith
+    block_is_short (has constituent) w = omega arith
 
 -- so its end is not far
 pub taken_room : (from to : ℕ) (old new : Option (List ℕ)) (command : Command) → TakesCommand from to old new command → to < 2 ^ 50
@@ -305,19 +305,19 @@ is_header : (command : Command) → IsInOrder (command ∷ []) → IsHeader comm
 is_header header h = tt
 is_header (grammar block) h = absurd h
 is_header (opens text) h = absurd h
-is_header (has category first end) h = absurd h
+is_header (has constituent) h = absurd h
 
 is_grammar : (command : Command) → IsInOrder (header ∷ command ∷ []) → IsGrammar command
 is_grammar header h = absurd h
 is_grammar (grammar block) h = tt
 is_grammar (opens text) h = absurd h
-is_grammar (has category first end) h = absurd h
+is_grammar (has constituent) h = absurd h
 
 is_text : (block : List ℕ) (command : Command) → IsInOrder (header ∷ grammar block ∷ command ∷ []) → IsText command
 is_text block header h = absurd h
 is_text block (grammar other) h = absurd h
 is_text block (opens text) h = tt
-is_text block (has category first end) h = absurd h
+is_text block (has constituent) h = absurd h
 
 module _ (input before : List ℕ) (from : ℕ) (at_start : from ≡ 0) (coming : Option (List ℕ)) (comes : coming ≡ Some input) (old : Option (List ℕ)) (written : old ≡ Some before) where
   none_yet : old ≡ Some (before ++ [])

@@ -1,15 +1,9 @@
--- A line that asks a question, cut at its spaces from left to right.
-use Rattle.std.proofs.Common.{◌≡◌, ℕ, zero, suc, ◌^◌, ◌<◌, true, false, nat_eq, subst, List, [], ◌∷◌, ◌++◌, length, codes, decimal, Contains, refl, sym, ◌∙◌, ap, arith}
-use Rattle.std.proofs.lemmas.Bool.{eqb-true}
-use Rattle.spec_session.proofs.ScriptLemmas.{each_differs, cut_same, same_rest, digits_lack, word_lacks_space}
+-- What the bytes behind a question's first word name, cut at their spaces from left to right.
+use Rattle.std.proofs.Common.{◌≡◌, ℕ, zero, suc, ◌^◌, ◌<◌, true, false, nat_eq, subst, List, [], ◌∷◌, ◌++◌, length, drop, codes, decimal, Contains, sym, ◌∙◌, ap, arith}
+use Rattle.spec_session.specs.Script.{Constituent, entry_whole, category_whole, category_span, constituent_text}
+use Rattle.spec_session.proofs.ScriptLemmas.{Lacks, each_differs, cut_same, digits_lack, word_lacks_space, has_space}
 use Rattle.cyk_io.specs.Lines.{HasNoLf}
-use Rattle.chart_service.specs.Forms.{IsHas}
-use Rattle.chart_service.proofs.FormsLemmas.{has_space}
-
--- a number that is not 0
-positive : (n : ℕ) → nat_eq n 0 ≡ false → 0 < n
-positive zero e = absurd (let h : true ≡ false = e in cc)
-positive (suc n) e = omega arith
+use Rattle.chart_service.specs.Forms.{AreOfWord, IsNameOf, IsHas}
 
 -- what holds of all bytes holds of those behind some, and of those before some
 behind_some : (front back : List ℕ) → HasNoLf (front ++ back) → HasNoLf back
@@ -21,62 +15,95 @@ before_some [] back h k d lt = absurd (omega arith)
 before_some (x ∷ front) back h zero d lt = h 0 d (omega arith)
 before_some (x ∷ front) back h (suc k) d lt = before_some front back (λ j e less. h (suc j) e (omega arith)) k d (omega arith)
 
-module _ (line : List ℕ) where
-  -- a line that does not begin so asks none
-  pub no_beginning : (beginning : List ℕ) → beginning ≡ codes "has " → ((rest : List ℕ) → line ≡ beginning ++ rest → ⊥) → (category : List ℕ) (first end : ℕ) → IsHas line category first end → ⊥
-  no_beginning beginning same other category first end h = other (category ++ (32 ∷ (decimal first ++ (32 ∷ decimal end)))) (rw same h.spelled)
+-- bytes without a space and LF are those of a word
+of_word : (bytes : List ℕ) → Lacks bytes 32 → HasNoLf bytes → AreOfWord bytes
+of_word bytes no_space no_lf k d lt = (each_differs 32 bytes no_space k d lt, no_lf k d lt)
 
-  module _ (beginning rest : List ℕ) (same : beginning ≡ codes "has ") (e : line ≡ beginning ++ rest) where
-    rest_is : (category : List ℕ) (first end : ℕ) → IsHas line category first end → rest ≡ category ++ (32 ∷ (decimal first ++ (32 ∷ decimal end)))
-    rest_is category first end h = same_rest beginning rest _ (sym e ∙ rw same h.spelled)
+-- and have no space
+of_word_lacks_space : (bytes : List ℕ) → AreOfWord bytes → Lacks bytes 32
+of_word_lacks_space bytes each h = (each h.0 32 h.1).0 h.2
 
-    -- nor does one without a space behind the beginning
-    pub no_category : (Contains rest 32 → ⊥) → (category : List ℕ) (first end : ℕ) → IsHas line category first end → ⊥
-    no_category other category first end h =
-        let spaced : Contains rest 32 = rw (rest_is category first end h) (has_space category (decimal first ++ (32 ∷ decimal end))) in
-        other spaced
+-- the bytes name no constituent
+abbrev NamesNone : List ℕ → Type 0
+NamesNone bytes = (constituent : Constituent) → IsNameOf bytes constituent → ⊥
 
-    module _ (word span : List ℕ) (cut : rest ≡ word ++ (32 ∷ span)) (no_space : Contains word 32 → ⊥) where
-      parts : (category : List ℕ) (first end : ℕ) → IsHas line category first end → (word ≡ category) × (span ≡ decimal first ++ (32 ∷ decimal end))
-      parts category first end h =
-          cut_same 32 word span category (decimal first ++ (32 ∷ decimal end)) no_space (word_lacks_space category h.is_word) (sym cut ∙ rest_is category first end h)
+-- bytes that do not begin with a space name none
+pub no_space_first : (bytes : List ℕ) → false ≡ nat_eq (length bytes) 0 →
+    ((named : List ℕ) → bytes ≡ 32 ∷ named → ⊥) → NamesNone bytes
+no_space_first bytes some other entry_whole h =
+    let never : false ≡ true = subst (λ (word : List ℕ). false ≡ nat_eq (length word) 0) h.spelled some in
+    cc
+no_space_first bytes some other (category_whole category) h = other category h.spelled
+no_space_first bytes some other (category_span category first end) h =
+    other (category ++ (32 ∷ (decimal first ++ (32 ∷ decimal end)))) h.spelled
 
-      no_lf_in_word : HasNoLf line → HasNoLf word
-      no_lf_in_word h =
-          let P : List ℕ → Type 0 = HasNoLf in
-          before_some word (32 ∷ span) (subst P cut (behind_some beginning rest (subst P e h)))
+-- bytes that are a space, a word, a space and what stands behind it
+module _ (category : List ℕ) (each : AreOfWord category) (span : List ℕ) where
+  -- the whole of them
+  abbrev bytes : List ℕ
+  bytes = 32 ∷ (category ++ (32 ∷ span))
 
-      -- nor one without a second space
-      pub no_first : (Contains span 32 → ⊥) → (category : List ℕ) (first end : ℕ) → IsHas line category first end → ⊥
-      no_first other category first end h =
-          let spaced : Contains span 32 = rw ((parts category first end h).1) (has_space (decimal first) (decimal end)) in
-          other spaced
+  -- the span is of these numbers
+  abbrev IsSpan : ℕ → ℕ → Type 0
+  IsSpan first end =
+      (first < 10 ^ 9) × (end < 10 ^ 9) × (span ≡ decimal first ++ (32 ∷ decimal end))
 
-      -- nor one with an empty category
-      pub empty_category : true ≡ nat_eq (length word) 0 → (category : List ℕ) (first end : ℕ) → IsHas line category first end → ⊥
-      empty_category empty category first end h =
-          omega (arith, h.is_word.some, ap length ((parts category first end h).0), eqb-true (length word) 0 (sym empty))
+  -- they name a constituent over a span, whose two numbers stand behind the word
+  span_named : (constituent : Constituent) → IsNameOf bytes constituent → (first : ℕ) × (end : ℕ) × IsSpan first end
+  span_named entry_whole h = absurd (omega (arith, ap length h.spelled))
+  span_named (category_whole name) h =
+      let spaced : Contains name 32 =
+      subst (λ word. Contains word 32) (ap (drop 1) h.spelled) (has_space category span) in
+      absurd (word_lacks_space name h.nameable spaced)
+  span_named (category_span name first end) h =
+      let parts = cut_same 32 category span name (decimal first ++ (32 ∷ decimal end))
+      (of_word_lacks_space category each) (word_lacks_space name h.nameable.0) (ap (drop 1) h.spelled) in
+      (first, end, (h.nameable.1, h.nameable.2, parts.1))
 
-      module _ (left right : List ℕ) (cut_span : span ≡ left ++ (32 ∷ right)) (no_left : Contains left 32 → ⊥) where
-        numbers : (category : List ℕ) (first end : ℕ) → IsHas line category first end → (left ≡ decimal first) × (right ≡ decimal end)
-        numbers category first end h =
-            cut_same 32 left right (decimal first) (decimal end) no_left (digits_lack first 32 h.small_first (omega arith)) (sym cut_span ∙ (parts category first end h).1)
+  -- without a space there is one number at most
+  pub no_first : (Contains span 32 → ⊥) → NamesNone bytes
+  no_first other constituent h =
+      let named = span_named constituent h in
+      other (subst (λ word. Contains word 32) (sym named.2.2) (has_space (decimal named.0) (decimal named.1)))
 
-        -- nor one whose span is not two numbers
-        pub no_first_number : ((n : ℕ) → n < 10 ^ 9 → left ≡ decimal n → ⊥) → (category : List ℕ) (first end : ℕ) → IsHas line category first end → ⊥
-        no_first_number other category first end h = other first h.small_first (numbers category first end h).0
+  module _ (left right : List ℕ) (cut : span ≡ left ++ (32 ∷ right)) (no_left : Lacks left 32) where
+    -- which are those on its two sides
+    numbers : (first end : ℕ) → IsSpan first end → (left ≡ decimal first) × (right ≡ decimal end)
+    numbers first end named =
+        cut_same 32 left right (decimal first) (decimal end) no_left (digits_lack first 32 named.0 (omega arith)) (sym cut ∙ named.2)
 
-        pub no_end_number : ((n : ℕ) → n < 10 ^ 9 → right ≡ decimal n → ⊥) → (category : List ℕ) (first end : ℕ) → IsHas line category first end → ⊥
-        no_end_number other category first end h = other end h.small_end (numbers category first end h).1
+    -- each side of it is a number
+    pub no_first_number : ((n : ℕ) → n < 10 ^ 9 → left ≡ decimal n → ⊥) → NamesNone bytes
+    no_first_number other constituent h =
+        let named = span_named constituent h in
+        other named.0 named.2.0 (numbers named.0 named.1 named.2).0
 
-        -- and else the line asks this
-        pub asks : HasNoLf line → false ≡ nat_eq (length word) 0 → (first end : ℕ) → first < 10 ^ 9 → end < 10 ^ 9 → left ≡ decimal first → right ≡ decimal end → IsHas line word first end
-        asks no_lf some first end small_first small_end is_first is_end = record {
-          is_word = record {
-            some = positive (length word) (sym some);
-            each = λ k d lt. (each_differs 32 word no_space k d lt, no_lf_in_word no_lf k d lt);
-          };
-          small_first = small_first;
-          small_end = small_end;
-          spelled = rw (e, same, cut, cut_span, is_first, is_end) refl;
-        }
+    pub no_end_number : ((n : ℕ) → n < 10 ^ 9 → right ≡ decimal n → ⊥) → NamesNone bytes
+    no_end_number other constituent h =
+        let named = span_named constituent h in
+        other named.1 named.2.1 (numbers named.0 named.1 named.2).1
+
+-- behind a beginning of a line without LF stands none
+pub no_lf_behind : (line beginning rest : List ℕ) → line ≡ beginning ++ rest → HasNoLf line → HasNoLf rest
+no_lf_behind line beginning rest e h = behind_some beginning rest (subst HasNoLf e h)
+
+-- a line that does not begin so asks none
+pub no_beginning : (line beginning : List ℕ) → beginning ≡ codes "has" →
+    ((rest : List ℕ) → line ≡ beginning ++ rest → ⊥) → (constituent : Constituent) → IsHas line constituent → ⊥
+no_beginning line beginning same other constituent h = other (constituent_text constituent) (rw same h.spelled)
+
+-- where bytes begin with a space and have no LF
+module _ (bytes beginning named : List ℕ) (e : bytes ≡ beginning ++ named) (no_lf : HasNoLf bytes) where
+  -- what stands behind it has none either
+  no_lf_named : HasNoLf named
+  no_lf_named = no_lf_behind bytes beginning named e no_lf
+
+  -- and where it has no space, it is of a word
+  pub whole_of_word : Lacks named 32 → AreOfWord named
+  whole_of_word no_space = of_word named no_space no_lf_named
+
+  -- and so is what stands before the next space
+  pub front_of_word : (category span : List ℕ) → named ≡ category ++ (32 ∷ span) → Lacks category 32 →
+      AreOfWord category
+  front_of_word category span cut no_space =
+      of_word category no_space (before_some category (32 ∷ span) (subst HasNoLf cut no_lf_named))

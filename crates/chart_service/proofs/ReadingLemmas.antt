@@ -116,7 +116,7 @@ module _ (from : ℕ) (old : Option (List ℕ)) where
   no_header_line to new line h told is early header more one w e = h told is early (line_of header) more (line_within header w) (e ∙ append_assoc (line_of header) (10 ∷ []) more)
   no_header_line to new line h told is early (grammar block) more one w e = absurd one
   no_header_line to new line h told is early (opens text) more one w e = absurd one
-  no_header_line to new line h told is early (has category first end) more one w e = absurd one
+  no_header_line to new line h told is early (has constituent) more one w e = absurd one
 
   module _ (to : ℕ) (new : Option (List ℕ)) where
     -- the line `script 1`, or another
@@ -134,7 +134,7 @@ module _ (from : ℕ) (old : Option (List ℕ)) where
         other ((command_line header line t.0 more w (lacks_if_each_differs 10 line h.2.0) (sym (append_assoc line (10 ∷ []) t.0) ∙ sym t.2 ∙ e)).0)
     other_line line h other told is early (grammar block) more one w e = absurd one
     other_line line h other told is early (opens text) more one w e = absurd one
-    other_line line h other told is early (has category first end) more one w e = absurd one
+    other_line line h other told is early (has constituent) more one w e = absurd one
 
     -- a grammar
     grammar_taken : (block : List ℕ) → NextCounted (codes "grammar ") 65536 from to old new (Some block) → TakesCommand from to old new (grammar block)
@@ -144,7 +144,7 @@ module _ (from : ℕ) (old : Option (List ℕ)) where
     no_grammar h told is early header more one w e = absurd one
     no_grammar h told is early (grammar block) more one w e = h told is early block more w (line_within (grammar block) w) e
     no_grammar h told is early (opens text) more one w e = absurd one
-    no_grammar h told is early (has category first end) more one w e = absurd one
+    no_grammar h told is early (has constituent) more one w e = absurd one
 
     pub next_grammar : (r : Option (List ℕ)) → NextCounted (codes "grammar ") 65536 from to old new r → NextGrammar from to old new r
     next_grammar (Some block) h = grammar_taken block h
@@ -158,7 +158,7 @@ module _ (from : ℕ) (old : Option (List ℕ)) where
     no_text h told is early header more one w e = absurd one
     no_text h told is early (grammar block) more one w e = absurd one
     no_text h told is early (opens text) more one w e = h told is early text more w.0 (line_within (opens text) w) e
-    no_text h told is early (has category first end) more one w e = absurd one
+    no_text h told is early (has constituent) more one w e = absurd one
 
     pub no_ascii_text : (text : List ℕ) → NextCounted (codes "open ") 4096 from to old new (Some text) → (IsAscii text → ⊥) → NextText from to old new None
     no_ascii_text text h other told is early header more one w e = absurd one
@@ -172,7 +172,7 @@ module _ (from : ℕ) (old : Option (List ℕ)) where
         let size : length text ≡ length wanted = decimal_injective (length text) (length wanted) (omega (arith, h.1)) (omega (arith, w.0)) digits in
         let same : text ≡ wanted = same_front text ((10 ∷ []) ++ t.0) wanted ((10 ∷ []) ++ more) size (sym (append_assoc text (10 ∷ []) t.0) ∙ parts.1 ∙ append_assoc wanted (10 ∷ []) more) in
         other (subst IsAscii (sym same) w.1)
-    no_ascii_text text h other told is early (has category first end) more one w e = absurd one
+    no_ascii_text text h other told is early (has constituent) more one w e = absurd one
 
     -- the line, by the code's test
     pub by_test : (line text : List ℕ) (found : Bool) → NextLine from to old new line true → text ≡ line → found ≡ pointwise nat_eq text (codes "script 1") → NextHeader from to old new found

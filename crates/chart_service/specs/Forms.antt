@@ -1,10 +1,13 @@
 -- Serves the proofs alone: what a line of a script is found to be.
 use Rattle.std.specs.Prelude.{◌≡◌, ℕ, ◌^◌, ◌<◌, ◌≤◌, List, ◌∷◌, ◌++◌, length, slice_index, true}
 use Rattle.std.specs.Prelude.{codes, decimal, Option, Some, None, Contains}
-use Rattle.std.specs.List.{list_all}
+use Rattle.std.specs.List.{list_all, All}
 use Rattle.std.specs.Char.{is_ascii_digit}
-use Rattle.spec_session.specs.Script.{has, line_of, IsWord}
-use Rattle.chart_service.specs.declared.forms.HasQuestion.{HasQuestion}
+use Rattle.spec_session.specs.Script.{Constituent as Named, entry_whole, category_whole}
+use Rattle.spec_session.specs.Script.{category_span, constituent_text, IsNameable, has, line_of}
+use Rattle.chart_service.specs.declared.forms.Constituent.{Constituent}
+use Rattle.chart_service.specs.declared.forms.Constituent.TheVariants.{EntryWhole}
+use Rattle.chart_service.specs.declared.forms.Constituent.TheVariants.{CategoryWhole, CategorySpan}
 use Rattle.chart_service.specs.declared.forms.Question.{Question}
 use Rattle.chart_service.specs.declared.forms.Question.TheVariants.{Has, End}
 
@@ -35,20 +38,38 @@ abbrev pub CutsAtSpace : List ℕ → Option (List ℕ × List ℕ) → Type 0
 CutsAtSpace bytes None = Contains bytes 32 → ⊥
 CutsAtSpace bytes (Some (word, rest)) = (bytes ≡ word ++ (32 ∷ rest)) × (Contains word 32 → ⊥)
 
--- the line is the question of these words
-pub record IsHas (line category : List ℕ) (first end : ℕ) : Type 0 where
-  pub is_word : IsWord category
-  pub small_first : first < 10 ^ 9
-  pub small_end : end < 10 ^ 9
-  pub spelled : line ≡ line_of (has category first end)
+-- no byte is a space or LF
+abbrev pub AreOfWord : List ℕ → Type 0
+AreOfWord bytes = All (λ byte. (byte ≡ 32 → ⊥) × (byte ≡ 10 → ⊥)) bytes
+
+-- the constituent of a script that the code's one stands for
+abbrev pub meant : Constituent → Named
+meant EntryWhole = entry_whole
+meant (CategoryWhole category) = category_whole category.now
+meant (CategorySpan category first end) = category_span category.now first end
+
+-- the bytes name the constituent
+pub record IsNameOf (bytes : List ℕ) (constituent : Named) : Type 0 where
+  pub nameable : IsNameable constituent
+  pub spelled : bytes ≡ constituent_text constituent
+
+-- the bytes name this constituent, or none
+abbrev pub ReadsConstituent : List ℕ → Option Constituent → Type 0
+ReadsConstituent bytes None = (constituent : Named) → IsNameOf bytes constituent → ⊥
+ReadsConstituent bytes (Some constituent) = IsNameOf bytes (meant constituent)
+
+-- the line asks whether this constituent is derived
+pub record IsHas (line : List ℕ) (constituent : Named) : Type 0 where
+  pub nameable : IsNameable constituent
+  pub spelled : line ≡ line_of (has constituent)
 
 -- the line asks this, or is no question
-abbrev pub ReadsHas : List ℕ → Option HasQuestion → Type 0
-ReadsHas line None = (category : List ℕ) (first end : ℕ) → IsHas line category first end → ⊥
-ReadsHas line (Some question) = IsHas line question.category.now question.first question.end
+abbrev pub ReadsHas : List ℕ → Option Constituent → Type 0
+ReadsHas line None = (constituent : Named) → IsHas line constituent → ⊥
+ReadsHas line (Some constituent) = IsHas line (meant constituent)
 
 -- the line asks this, or is neither a question nor the line `end`
 abbrev pub ReadsQuestion : List ℕ → Option Question → Type 0
 ReadsQuestion line None = (line ≡ codes "end" → ⊥) × ReadsHas line None
 ReadsQuestion line (Some End) = line ≡ codes "end"
-ReadsQuestion line (Some (Has question)) = ReadsHas line (Some question)
+ReadsQuestion line (Some (Has constituent)) = ReadsHas line (Some constituent)

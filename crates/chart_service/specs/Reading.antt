@@ -55,21 +55,21 @@ abbrev pub IsHeader : Command → Type 0
 IsHeader header = Unit {0}
 IsHeader (grammar block) = ⊥
 IsHeader (opens text) = ⊥
-IsHeader (has category first end) = ⊥
+IsHeader (has constituent) = ⊥
 
 -- the command is a grammar
 abbrev pub IsGrammar : Command → Type 0
 IsGrammar header = ⊥
 IsGrammar (grammar block) = Unit {0}
 IsGrammar (opens text) = ⊥
-IsGrammar (has category first end) = ⊥
+IsGrammar (has constituent) = ⊥
 
 -- the command is a text
 abbrev pub IsText : Command → Type 0
 IsText header = ⊥
 IsText (grammar block) = ⊥
 IsText (opens text) = Unit {0}
-IsText (has category first end) = ⊥
+IsText (has constituent) = ⊥
 
 -- the header was taken, or does not come
 abbrev pub NextHeader : ℕ → ℕ → Option (List ℕ) → Option (List ℕ) → Bool → Type 0

@@ -1,5 +1,5 @@
 //! Answers to questions about the spans of a text that is open.
-ghost use Rattle.std.specs.Prelude.{◌≡◌, ◌≤◌, ◌↔◌, ℕ, List, length, slice_get, Some, Contains};
+ghost use Rattle.std.specs.Prelude.{◌≡◌, ◌≤◌, ◌↔◌, ℕ, List, length};
 ghost use Rattle.std.specs.Prelude.{IsTrue, IsErrOf, IfOk, IfErr, OnOk, OnErr, MatchOption};
 ghost use Rattle.std.specs.Prelude.{string_bytes};
 ghost use Rattle.cyk_io.specs.Causes.{HasCause};
@@ -8,12 +8,13 @@ ghost use Rattle.spec_grammar.specs.declared.rule.Symbol.TheVariants.{Category};
 ghost use Rattle.spec_grammar.specs.Derivation.{Derives};
 ghost use Rattle.spec_lexing.specs.declared.token.Token.{Token};
 ghost use Rattle.spec_lexing.specs.Tokens.{kinds_of};
-ghost use Rattle.spec_session.specs.Replies.{IsAnswer};
+ghost use Rattle.spec_session.specs.Replies.{IsOfCategory, HasCategory, first_of, end_of, IsAnswer};
 ghost use Rattle.chart_service.specs.Statuses.{IsWriteStop};
 ghost use Rattle.chart_service.specs.Opening.{IsOpened};
-ghost use Rattle.chart_service.specs.Answering.{answer_line};
+ghost use Rattle.chart_service.specs.Forms.{meant};
+ghost use Rattle.chart_service.specs.Answering.{IsOfSymbol, answer_line};
 
-use crate::forms::HasQuestion;
+use crate::forms::Constituent;
 use crate::opening::Opened;
 use crate::status::Status;
 use crate::writing::say;
@@ -24,7 +25,7 @@ use std::alloc::{AllocError, Global};
 /// The answer to whether a category derives a span.
 #[derive(Clone, Copy, Debug, PartialEq, Eq)]
 pub(crate) enum Answer {
-    /// No category has the name.
+    /// No category has the name, or there is no entry.
     UnknownCategory,
     /// The span is none of the text's, which has so many tokens.
     SpanOutside(usize),
@@ -32,12 +33,24 @@ pub(crate) enum Answer {
     No,
 }
 
-/// The number of the category of this name.
-fn category_of(grammar: &Grammar, name: &[u8]) -> Option<u16>
-    ensures { MatchOption result (Contains grammar.now.categories name.now → ⊥)
-        (λ category. slice_get grammar.now.categories category ≡ Some name.now) }
+/// The symbol of the constituent, which is a category.
+fn symbol_of(grammar: &Grammar, constituent: &Constituent<'_>) -> Option<Symbol>
+    ensures { MatchOption result (HasCategory grammar.now (meant constituent.now) → ⊥)
+        (IsOfSymbol grammar.now (meant constituent.now)) }
 {
-    match grammar.find(name) {
+    match constituent {
+        Constituent::EntryWhole => grammar.entry(),
+        Constituent::CategoryWhole(category) => grammar.find(category),
+        Constituent::CategorySpan { category, .. } => grammar.find(category),
+    }
+}
+
+/// The number of the constituent's category.
+fn category_of(grammar: &Grammar, constituent: &Constituent<'_>) -> Option<u16>
+    ensures { MatchOption result (HasCategory grammar.now (meant constituent.now) → ⊥)
+        (IsOfCategory grammar.now (meant constituent.now)) }
+{
+    match symbol_of(grammar, constituent) {
         Some(Symbol::Category(category)) => Some(category),
         Some(Symbol::Kind(_)) => None,
         None => None,
@@ -56,19 +69,40 @@ fn is_derived(opened: &Opened, category: u16, first: usize, end: usize) -> bool
     first < end && opened.chart.has(category, first, end)
 }
 
-/// The answer to the question.
-pub(crate) fn answer_of(opened: &Opened, question: &HasQuestion<'_>) -> Answer
+/// The place at which the constituent begins.
+fn first_of(constituent: &Constituent<'_>) -> usize
+    ensures { result ≡ first_of (meant constituent.now) }
+{
+    match constituent {
+        Constituent::EntryWhole => 0,
+        Constituent::CategoryWhole(_) => 0,
+        Constituent::CategorySpan { first, .. } => *first as usize,
+    }
+}
+
+/// The place at which it ends, in a text of so many tokens.
+fn end_of(constituent: &Constituent<'_>, tokens: usize) -> usize
+    ensures { result ≡ end_of tokens (meant constituent.now) }
+{
+    match constituent {
+        Constituent::EntryWhole => tokens,
+        Constituent::CategoryWhole(_) => tokens,
+        Constituent::CategorySpan { end, .. } => *end as usize,
+    }
+}
+
+/// The answer to whether the constituent is derived.
+pub(crate) fn answer_of(opened: &Opened, constituent: &Constituent<'_>) -> Answer
     ensures { (text : List ℕ) (tokens : List Token)
         → IsOpened opened.now.grammar opened.now.chart text tokens
-        → IsAnswer opened.now.grammar tokens question.now.category.now question.now.first
-        question.now.end (answer_line result) }
+        → IsAnswer opened.now.grammar tokens (meant constituent.now) (answer_line result) }
 {
-    let Some(category) = category_of(&opened.grammar, question.category) else {
+    let Some(category) = category_of(&opened.grammar, constituent) else {
         return Answer::UnknownCategory;
     };
     let tokens = opened.chart.len();
-    let first = question.first as usize;
-    let end = question.end as usize;
+    let first = first_of(constituent);
+    let end = end_of(constituent, tokens);
     if end < first {
         return Answer::SpanOutside(tokens);
     }

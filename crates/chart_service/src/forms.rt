@@ -1,23 +1,32 @@
 //! The forms of a script's lines. A line is told by its bytes without the LF.
-ghost use Rattle.std.specs.Prelude.{◌≡◌, ◌<◌, ◌^◌, ◌⊎◌, ◌↔◌, ℕ, IsTrue, length, slice_index, option_map};
+ghost use Rattle.std.specs.Prelude.{◌≡◌, ◌<◌, ◌^◌, ◌⊎◌, ◌↔◌, ◌∷◌, ◌++◌, ℕ, IsTrue, length, slice_index};
+ghost use Rattle.std.specs.Prelude.{option_map};
 ghost use Rattle.std.specs.List.{list_all};
 ghost use Rattle.std.specs.Char.{is_ascii_digit};
 ghost use Rattle.cyk_io.specs.Lines.{HasNoLf};
 ghost use Rattle.chart_service.specs.Forms.{HasNumberForm, ReadsNumber, ReadsBehind, ReadsCount};
-ghost use Rattle.chart_service.specs.Forms.{CutsAtSpace, ReadsHas, ReadsQuestion};
+ghost use Rattle.chart_service.specs.Forms.{CutsAtSpace, AreOfWord, ReadsConstituent, ReadsHas};
+ghost use Rattle.chart_service.specs.Forms.{ReadsQuestion};
 
-/// Whether the category derives the tokens `first..end`.
+/// What a question names.
 #[derive(Drop)]
-pub(crate) struct HasQuestion<'a> {
-    pub(crate) category: &'a [u8],
-    pub(crate) first: u32,
-    pub(crate) end: u32,
+pub(crate) enum Constituent<'a> {
+    /// The grammar's entry over the whole text.
+    EntryWhole,
+    /// A category over the whole text.
+    CategoryWhole(&'a [u8]),
+    /// A category over the tokens `first..end`.
+    CategorySpan {
+        category: &'a [u8],
+        first: u32,
+        end: u32,
+    },
 }
 
 /// What a line behind the text asks for.
 #[derive(Drop)]
 pub(crate) enum Question<'a> {
-    Has(HasQuestion<'a>),
+    Has(Constituent<'a>),
     End,
 }
 
@@ -90,21 +99,54 @@ fn cut_at_space(bytes: &[u8]) -> Option<(&[u8], &[u8])>
     None
 }
 
-/// The question whether a category derives a span.
-fn has_question(line: &[u8]) -> Option<HasQuestion<'_>>
-    requires { HasNoLf line.now }
-    ensures { ReadsHas line.now result }
+/// The category over the whole text, where it has a byte.
+fn category_whole(category: &[u8]) -> Option<Constituent<'_>>
+    requires { AreOfWord category.now }
+    ensures { ReadsConstituent (32 ∷ category.now) result }
 {
-    let (category, span) = cut_at_space(behind(line, b"has ".as_slice())?)?;
-    let (first, end) = cut_at_space(span)?;
     if category.is_empty() {
         return None;
     }
-    Some(HasQuestion {
+    Some(Constituent::CategoryWhole(category))
+}
+
+/// The category over the span of two numbers.
+fn category_span<'a>(category: &'a [u8], span: &[u8]) -> Option<Constituent<'a>>
+    requires { AreOfWord category.now }
+    ensures { ReadsConstituent (32 ∷ (category.now ++ (32 ∷ span.now))) result }
+{
+    if category.is_empty() {
+        return None;
+    }
+    let (first, end) = cut_at_space(span)?;
+    Some(Constituent::CategorySpan {
         category,
         first: number(first)?,
         end: number(end)?,
     })
+}
+
+/// The constituent that the bytes behind a question's first word name.
+fn constituent_of(bytes: &[u8]) -> Option<Constituent<'_>>
+    requires { HasNoLf bytes.now }
+    ensures { ReadsConstituent bytes.now result }
+{
+    if bytes.is_empty() {
+        return Some(Constituent::EntryWhole);
+    }
+    let named = behind(bytes, b" ".as_slice())?;
+    match cut_at_space(named) {
+        Some((category, span)) => category_span(category, span),
+        None => category_whole(named),
+    }
+}
+
+/// The constituent that the line asks for, where it begins with `has`.
+fn has_question(line: &[u8]) -> Option<Constituent<'_>>
+    requires { HasNoLf line.now }
+    ensures { ReadsHas line.now result }
+{
+    constituent_of(behind(line, b"has".as_slice())?)
 }
 
 /// The question that the line asks, or the script's end.
@@ -116,7 +158,7 @@ pub(crate) fn question_of(line: &[u8]) -> Option<Question<'_>>
         return Some(Question::End);
     }
     match has_question(line) {
-        Some(question) => Some(Question::Has(question)),
+        Some(constituent) => Some(Question::Has(constituent)),
         None => None,
     }
 }

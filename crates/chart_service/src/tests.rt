@@ -8,7 +8,7 @@ mod scripts;
 
 use crate::{Options, serve};
 use cyk_io::{ByteSink, ByteSource, CleanSink, CleanSource, Sink, SinkFault, Source};
-use grammars::{ACCEPTED, REFUSED};
+use grammars::{ACCEPTED, ENTRIES, REFUSED};
 use scripts::{
     ANSWERED, BROKEN_BEFORE_A_GRAMMAR, BROKEN_BEFORE_A_TEXT, BROKEN_BEHIND_A_TEXT, TEXTS,
 };
@@ -92,11 +92,15 @@ fn serve_parts(alloc: Global, parts: &[&[u8]]) -> Result<(u8, CleanSink), AllocE
     Ok((status, sink))
 }
 
-/// The same of a script with this grammar and an empty text.
-fn serve_grammar(alloc: Global, grammar: &[u8]) -> Result<(u8, CleanSink), AllocError> {
+/// The same of a script with this grammar, and this rest behind it.
+fn serve_grammar(
+    alloc: Global,
+    grammar: &[u8],
+    rest: &[u8],
+) -> Result<(u8, CleanSink), AllocError> {
     let header = format!(in alloc; "script 1\ngrammar {}\n", grammar.len())?;
-    let rest = b"\nopen 0\n\nend\n".as_slice();
-    serve_parts(alloc, &[header.as_bytes(), grammar, rest])
+    let end = b"\n".as_slice();
+    serve_parts(alloc, &[header.as_bytes(), grammar, end, rest])
 }
 
 /// The same of `SCRIPT`, of which one read and one write fail; 0 stands for none.
@@ -148,14 +152,25 @@ fn each_text_and_question_has_its_reply(rt: HostRuntime) -> Result<(), Fail> {
 
 #[test]
 fn each_grammar_has_its_line(rt: HostRuntime) -> Result<(), Fail> {
+    let rest = b"open 0\n\nend\n".as_slice();
     let empty = b"version 0 tokens 0\nend\n".as_slice();
     for (expected, replies, table) in [(0, empty, ACCEPTED), (2, NOTHING, REFUSED)] {
         for (name, grammar, line) in table {
-            let (status, sink) = serve_grammar(rt.alloc(), grammar)?;
+            let (status, sink) = serve_grammar(rt.alloc(), grammar, rest)?;
             let session = [line, replies].concat(rt.alloc())?;
             assert_eq!(rt; status, expected, "at {name}");
             assert_eq!(rt; sink.as_bytes(), session.as_slice(), "at {name}");
         }
+    }
+    Ok(())
+}
+
+#[test]
+fn the_entry_is_the_category_of_the_first_rule(rt: HostRuntime) -> Result<(), Fail> {
+    for (name, grammar, rest, session) in ENTRIES {
+        let (status, sink) = serve_grammar(rt.alloc(), grammar, rest)?;
+        assert_eq!(rt; status, 0, "at {name}");
+        assert_eq!(rt; sink.as_bytes(), *session, "at {name}");
     }
     Ok(())
 }

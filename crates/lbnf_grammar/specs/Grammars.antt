@@ -1,6 +1,7 @@
--- What a caller sees of expanding definitions, and of looking a category up.
-use Rattle.std.specs.Prelude.{◌≡◌, ◌<◌, ◌^◌, ℕ, List, Option, Some, None, Result, Ok, Err}
+-- What a caller sees of expanding definitions, of making a grammar, of its entry, and of looking a category up.
+use Rattle.std.specs.Prelude.{◌≡◌, ◌<◌, ◌^◌, ℕ, List, [], Option, Some, None, Result, Ok, Err}
 use Rattle.std.specs.Prelude.{length, slice_get, Contains, MatchOption}
+use Rattle.spec_grammar.specs.declared.rule.Rule.{Rule}
 use Rattle.spec_grammar.specs.declared.rule.Symbol.{Symbol}
 use Rattle.spec_grammar.specs.declared.rule.Symbol.TheVariants.{Category}
 use Rattle.spec_lbnf.specs.declared.definition.Def.{Def}
@@ -27,6 +28,12 @@ pub record IsWellFormed (g : Expansion) : Type 0 where
 abbrev pub MakesGrammar : Expansion → Option Expansion → Type 0
 MakesGrammar parts None = IsWellFormed parts → ⊥
 MakesGrammar parts (Some g) = IsWellFormed parts × (g ≡ parts)
+
+-- the entry is this symbol, the category of the first rule: None exactly where there is no rule
+abbrev pub FindsEntry : List Rule → Option Symbol → Type 0
+FindsEntry rules found =
+    MatchOption found (rules ≡ [])
+    (λ symbol. (rule : Rule) × (slice_get rules 0 ≡ Some rule) × (symbol ≡ Category rule.category))
 
 -- the category of the text is this symbol: None exactly where no category has the text
 abbrev pub FindsCategory : List (List ℕ) → List ℕ → Option Symbol → Type 0

@@ -1,7 +1,7 @@
 //! A grammar with numbers in place of names.
 ghost use Rattle.std.specs.Prelude.{◌≡◌, ◌<◌, ◌^◌, length, slice_get, Contains, MatchOption};
 ghost use Rattle.spec_lbnf.specs.Expansion.{HasOwnSymbols, item_count};
-ghost use Rattle.lbnf_grammar.specs.Grammars.{FindsCategory};
+ghost use Rattle.lbnf_grammar.specs.Grammars.{FindsCategory, FindsEntry};
 
 use spec_grammar::{Rule, Symbol};
 use spec_lexing::KindDef;
@@ -79,6 +79,14 @@ impl Grammar {
         ensures { slice_get self.now.rules r ≡ Some result.now }
     {
         &self.rules[r as usize]
+    }
+
+    /// The entry, which is the category of the first rule, and `None` where there is no rule.
+    pub fn entry(&self) -> Option<Symbol>
+        ensures { FindsEntry self.now.rules result }
+    {
+        let rule = self.rules.first()?;
+        Some(Symbol::Category(rule.category))
     }
 
     /// How many categories there are.

@@ -100,6 +100,35 @@ fn rules_keep_file_order_and_get_numbers(rt: HostRuntime) -> Result<(), Fail> {
 }
 
 #[test]
+fn the_entry_is_the_category_of_the_first_rule(rt: HostRuntime) -> Result<(), Fail> {
+    let cases = [
+        (SUMS, Some(b"Exp".as_slice())),
+        (
+            b"A . T ::= \"x\"; B . S ::= T T".as_slice(),
+            Some(b"T".as_slice()),
+        ),
+        (
+            b"B . S ::= T T; A . T ::= \"x\"".as_slice(),
+            Some(b"S".as_slice()),
+        ),
+        (b"".as_slice(), None),
+    ];
+    for (bytes, want) in cases {
+        let grammar = expanded(rt.alloc(), bytes)
+            .ok_or("the form")?
+            .ok()
+            .ok_or("a grammar")?;
+        let found = match want {
+            Some(name) => grammar.find(name),
+            None => None,
+        };
+        assert_eq!(rt; grammar.entry(), found, "at {bytes:?}");
+        assert_eq!(rt; found.is_some(), want.is_some(), "at {bytes:?}");
+    }
+    Ok(())
+}
+
+#[test]
 fn the_first_category_without_a_rule_is_told(rt: HostRuntime) -> Result<(), Fail> {
     let cases = [
         (b"A . E ::= E F".as_slice(), b"F".as_slice(), 0),

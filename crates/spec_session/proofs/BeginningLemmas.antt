@@ -37,7 +37,7 @@ begins_more (x ∷ commands) at end bytes rest command more h early within e =
 -- the first of some questions are questions
 questions_front : (front back : List Command) → AreQuestions (front ++ back) → AreQuestions front
 questions_front [] back h = tt
-questions_front (has category first end ∷ front) back h = questions_front front back h
+questions_front (has constituent ∷ front) back h = questions_front front back h
 questions_front (command ∷ front) back h = h
 
 -- the first of commands in order are in order

@@ -1,12 +1,12 @@
 -- Each input is a script, and the commands of a script have replies. So no input is without a session.
-use Rattle.std.proofs.Common.{◌≡◌, ℕ, zero, suc, ◌+◌, ◌^◌, ◌<◌, ◌≤◌, ◌⊎◌, inl, inr, List, [], ◌∷◌, ◌++◌, length, Contains, codes, decimal, refl, sym, ◌∙◌, ap, arith, length-append}
+use Rattle.std.proofs.Common.{◌≡◌, ℕ, zero, suc, ◌+◌, ◌^◌, ◌<◌, ◌⊎◌, inl, inr, List, [], ◌∷◌, ◌++◌, length, codes, decimal, refl, sym, ◌∙◌, ap, arith, length-append}
 use Rattle.std.specs.Str.{IsAscii}
 use Rattle.std.proofs.lemmas.Bool.{cases_lt}
 use Rattle.spec_lexing.specs.declared.token.Token.{Token}
 use Rattle.spec_lexing.proofs.KindsLemmas.{some_tokens}
 use Rattle.spec_lbnf.specs.Expansion.{Expansion}
-use Rattle.spec_session.specs.Script.{Command, header, grammar, opens, has, line_of, block_of, text_of, IsWithinLimits, AreQuestions, IsInOrder, Begins, GoesOn, IsAtEnd, Ending, ended, broken, IsScript}
-use Rattle.spec_session.specs.Replies.{as_line, grammar_reply, version_reply, NamedDerives, IsAnswer, refused_category, refused_span, yes, no, IsCurrent}
+use Rattle.spec_session.specs.Script.{Constituent, Command, header, grammar, opens, has, line_of, block_of, text_of, IsWithinLimits, AreQuestions, IsInOrder, Begins, GoesOn, IsAtEnd, Ending, ended, broken, IsScript}
+use Rattle.spec_session.specs.Replies.{as_line, grammar_reply, version_reply, HasCategory, first_of, end_of, IsWithin, IsOutside, IsDerived, IsAnswer, refused_category, refused_span, yes, no, IsCurrent}
 use Rattle.spec_session.specs.Sessions.{AreReplies, last_line, last_status, IsSession, refused, whole}
 use Rattle.spec_session.specs.Existence.{SomeSession}
 use Rattle.spec_session.proofs.DenialLemmas.{IsUndeniable, decided}
@@ -110,42 +110,43 @@ module _ (input : List ℕ) where
   some_script : IsUndeniable HasScript
   some_script = script_from (suc (length input)) [] 0 input (omega arith) tt (refl, refl)
 
-module _ (g : Expansion) (tokens : List Token) (name : List ℕ) (first end : ℕ) where
+module _ (g : Expansion) (tokens : List Token) (constituent : Constituent) where
   -- the question has an answer
   abbrev HasAnswer : Type 0
-  HasAnswer = (line : List ℕ) × IsAnswer g tokens name first end line
+  HasAnswer = (line : List ℕ) × IsAnswer g tokens constituent line
 
   -- a question on a span of the text is answered by derivation
   answer_within :
-      Contains g.categories name → first ≤ end → end ≤ length tokens → IsUndeniable HasAnswer
-  answer_within known order within denied =
-      let Derived : Type 0 = NamedDerives g tokens name first end in
+      HasCategory g constituent → IsWithin (length tokens) constituent → IsUndeniable HasAnswer
+  answer_within known span denied =
+      let Derived : Type 0 = IsDerived g tokens constituent in
       decided Derived (λ (split : Derived ⊎ (Derived → ⊥)). elim split [
-        | inl derives ↦ denied (as_line (codes "yes"), yes order within derives refl)
-        | inr other ↦ denied (as_line (codes "no"), no known order within other refl)
+        | inl derived ↦ denied (as_line (codes "yes"), yes span derived refl)
+        | inr other ↦ denied (as_line (codes "no"), no known span other refl)
       ])
 
   -- a question on another span is refused
-  answer_outside :
-      Contains g.categories name → (end < first) ⊎ (length tokens < end) → HasAnswer
+  answer_outside : HasCategory g constituent → IsOutside (length tokens) constituent → HasAnswer
   answer_outside known outside =
       let line : List ℕ = codes "refused span " ++ as_line (decimal (length tokens)) in
       (line, refused_span known outside refl)
 
   -- a question on a category of the grammar has an answer
-  answer_known : Contains g.categories name → IsUndeniable HasAnswer
-  answer_known known denied = elim (cases_lt end first) [
-    | inl before ↦ denied (answer_outside known (inl before))
-    | inr order ↦ elim (cases_lt (length tokens) end) [
-      | inl behind ↦ denied (answer_outside known (inr behind))
-      | inr within ↦ answer_within known order within denied
-    ]
-  ]
+  answer_known : HasCategory g constituent → IsUndeniable HasAnswer
+  answer_known known denied =
+      let end : ℕ = end_of (length tokens) constituent in
+      elim (cases_lt end (first_of constituent)) [
+        | inl before ↦ denied (answer_outside known (inl before))
+        | inr order ↦ elim (cases_lt (length tokens) end) [
+          | inl behind ↦ denied (answer_outside known (inr behind))
+          | inr within ↦ answer_within known (order, within) denied
+        ]
+      ]
 
   -- that a question has one cannot be denied
   some_answer : IsUndeniable HasAnswer
   some_answer denied =
-      let Known : Type 0 = Contains g.categories name in
+      let Known : Type 0 = HasCategory g constituent in
       decided Known (λ (split : Known ⊎ (Known → ⊥)). elim split [
         | inl known ↦ answer_known known denied
         | inr other ↦ denied (as_line (codes "refused category"), refused_category other refl)
@@ -158,10 +159,10 @@ module _ (g : Expansion) where
       (questions : List Command) → AreQuestions questions →
       IsUndeniable ((out : List ℕ) × AreReplies g texts questions out)
   some_replies texts text current ascii [] are denied = denied ([], refl)
-  some_replies texts text current ascii (has category first end ∷ questions) are denied =
+  some_replies texts text current ascii (has constituent ∷ questions) are denied =
       let tokens = some_tokens g.kinds text ascii in
-      some_answer g tokens.0 category first end
-      (λ (answer : HasAnswer g tokens.0 category first end).
+      some_answer g tokens.0 constituent
+      (λ (answer : HasAnswer g tokens.0 constituent).
       some_replies texts text current ascii questions are
       (λ (others : (out : List ℕ) × AreReplies g texts questions out).
       denied (

@@ -12,7 +12,7 @@ use Rattle.spec_session.proofs.SessionsLemmas.{StartsWith, replies_come_first, r
 pub questions_more : (questions : List Command) (command : Command) →
     AreQuestions questions → AreQuestions (command ∷ []) → AreQuestions (questions ++ command ∷ [])
 questions_more [] command h one = one
-questions_more (has category first end ∷ questions) command h one = questions_more questions command h one
+questions_more (has constituent ∷ questions) command h one = questions_more questions command h one
 questions_more (other ∷ questions) command h one = absurd h
 
 -- the replies to some questions and to one command more, which no question changes
@@ -21,7 +21,7 @@ pub replies_more : (g : Expansion) (texts : List (List ℕ)) (questions : List C
     IsReply g texts command line → AreReplies g texts (questions ++ command ∷ []) (replies ++ line)
 replies_more g texts [] replies command line q h r =
     (line, [], r, ap (λ bytes. bytes ++ line) h ∙ sym (append-nil line), refl)
-replies_more g texts (has category first end ∷ questions) replies command line q h r =
+replies_more g texts (has constituent ∷ questions) replies command line q h r =
     let joined : replies ++ line ≡ h.0 ++ (h.1 ++ line) =
     ap (λ bytes. bytes ++ line) h.3 ∙ append_assoc h.0 h.1 line in
     (h.0, h.1 ++ line, h.2, joined, replies_more g texts questions h.1 command line q h.4 r)

@@ -1,6 +1,5 @@
 -- A command has one reply: a grammar is accepted in one way or refused by one line, and so on.
-use Rattle.std.proofs.Common.{◌≡◌, ℕ, ◌<◌, ◌≤◌, ◌⊎◌, inl, inr, List, [], ◌∷◌, ◌++◌, length, drop, Some, slice_get, get_or, Contains, sym, ◌∙◌, ap, arith, length-append}
-use Rattle.std.proofs.lemmas.Option.{slice_get_within, get_or_from_slice_get}
+use Rattle.std.proofs.Common.{◌≡◌, ℕ, inl, inr, List, [], ◌∷◌, ◌++◌, length, drop, get_or, sym, ◌∙◌, ap, arith, length-append}
 use Rattle.spec_lexing.specs.declared.token.Token.{Token}
 use Rattle.spec_lexing.specs.Kinds.{Matches, token_kind, lex_kinds}
 use Rattle.spec_lexing.specs.Tokens.{AreTokensOf}
@@ -9,8 +8,8 @@ use Rattle.spec_lbnf.specs.Expansion.{Expansion, expansion_of}
 use Rattle.spec_lbnf.specs.Checks.{IsFirstUnknown}
 use Rattle.spec_lbnf.proofs.FileLemmas.{spelled_or_unbuilt, one_spelling, one_unbuilt}
 use Rattle.spec_lbnf.proofs.CheckLemmas.{fit_or_unknown, one_unknown}
-use Rattle.spec_session.specs.Script.{Command, header, grammar, opens, has}
-use Rattle.spec_session.specs.Replies.{IsAccepted, IsRefused, unbuilt, unknown, unbuilt_line, unknown_line, version_reply, NamedDerives, IsAnswer, refused_category, refused_span, yes, no, IsCurrent, IsReply}
+use Rattle.spec_session.specs.Script.{Constituent, Command, header, grammar, opens, has}
+use Rattle.spec_session.specs.Replies.{IsAccepted, IsRefused, unbuilt, unknown, unbuilt_line, unknown_line, version_reply, HasCategory, IsWithin, IsOutside, IsDerived, IsAnswer, refused_category, refused_span, yes, no, IsCurrent, IsReply}
 
 -- a block is accepted as one grammar
 pub one_grammar : (block : List ℕ) (g other : Expansion) → IsAccepted block g → IsAccepted block other →
@@ -36,43 +35,38 @@ one_refusal block line other (unknown defs name n spells first e) (unknown defs'
     let same = one_unknown defs name name' n n' first again in
     e ∙ ap (λ bytes. unknown_line bytes n) same.0 ∙ ap (unknown_line name') same.1 ∙ sym e'
 
--- a list has what stands at a place
-contains_at : (names : List (List ℕ)) (place : ℕ) (name : List ℕ) → slice_get names place ≡ Some name →
-    Contains names name
-contains_at names place name e =
-    (place, slice_get_within names place name e, get_or_from_slice_get names place name name e)
-
 -- a span that is the text's is not refused
-within_or_outside : (first end size : ℕ) → (end < first) ⊎ (size < end) → first ≤ end → end ≤ size → ⊥
-within_or_outside first end size (inl before) order within = omega arith
-within_or_outside first end size (inr behind) order within = omega arith
+within_or_outside : (size : ℕ) (constituent : Constituent) →
+    IsOutside size constituent → IsWithin size constituent → ⊥
+within_or_outside size constituent (inl before) within = omega (arith, within.0)
+within_or_outside size constituent (inr behind) within = omega (arith, within.1)
 
 -- a question has one answer
-module _ (g : Expansion) (tokens : List Token) (name : List ℕ) (first end : ℕ) where
-  named : NamedDerives g tokens name first end → Contains g.categories name
-  named h = contains_at g.categories h.category name h.is_category
+module _ (g : Expansion) (tokens : List Token) (constituent : Constituent) where
+  category_of : IsDerived g tokens constituent → HasCategory g constituent
+  category_of h = (h.category, h.is_category)
 
-  outside : (end < first) ⊎ (length tokens < end) → first ≤ end → end ≤ length tokens → ⊥
-  outside = within_or_outside first end (length tokens)
+  outside : IsOutside (length tokens) constituent → IsWithin (length tokens) constituent → ⊥
+  outside = within_or_outside (length tokens) constituent
 
   pub one_answer : (line other : List ℕ) →
-      IsAnswer g tokens name first end line → IsAnswer g tokens name first end other → line ≡ other
+      IsAnswer g tokens constituent line → IsAnswer g tokens constituent other → line ≡ other
   one_answer line other (refused_category a e) (refused_category b f) = e ∙ sym f
   one_answer line other (refused_category a e) (refused_span b out f) = absurd (a b)
-  one_answer line other (refused_category a e) (yes order within derives f) = absurd (a (named derives))
-  one_answer line other (refused_category a e) (no b order within denied f) = absurd (a b)
+  one_answer line other (refused_category a e) (yes within derives f) = absurd (a (category_of derives))
+  one_answer line other (refused_category a e) (no b within denied f) = absurd (a b)
   one_answer line other (refused_span a out e) (refused_category b f) = absurd (b a)
   one_answer line other (refused_span a out e) (refused_span b out' f) = e ∙ sym f
-  one_answer line other (refused_span a out e) (yes order within derives f) = absurd (outside out order within)
-  one_answer line other (refused_span a out e) (no b order within denied f) = absurd (outside out order within)
-  one_answer line other (yes order within derives e) (refused_category b f) = absurd (b (named derives))
-  one_answer line other (yes order within derives e) (refused_span b out f) = absurd (outside out order within)
-  one_answer line other (yes order within derives e) (yes order' within' derives' f) = e ∙ sym f
-  one_answer line other (yes order within derives e) (no b order' within' denied f) = absurd (denied derives)
-  one_answer line other (no a order within denied e) (refused_category b f) = absurd (b a)
-  one_answer line other (no a order within denied e) (refused_span b out f) = absurd (outside out order within)
-  one_answer line other (no a order within denied e) (yes order' within' derives f) = absurd (denied derives)
-  one_answer line other (no a order within denied e) (no b order' within' denied' f) = e ∙ sym f
+  one_answer line other (refused_span a out e) (yes within derives f) = absurd (outside out within)
+  one_answer line other (refused_span a out e) (no b within denied f) = absurd (outside out within)
+  one_answer line other (yes within derives e) (refused_category b f) = absurd (b (category_of derives))
+  one_answer line other (yes within derives e) (refused_span b out f) = absurd (outside out within)
+  one_answer line other (yes within derives e) (yes within' derives' f) = e ∙ sym f
+  one_answer line other (yes within derives e) (no b within' denied f) = absurd (denied derives)
+  one_answer line other (no a within denied e) (refused_category b f) = absurd (b a)
+  one_answer line other (no a within denied e) (refused_span b out f) = absurd (outside out within)
+  one_answer line other (no a within denied e) (yes within' derives f) = absurd (denied derives)
+  one_answer line other (no a within denied e) (no b within' denied' f) = e ∙ sym f
 
 -- one text is the last
 one_last : (older : List (List ℕ)) (text : List ℕ) (others : List (List ℕ)) (other : List ℕ) →
@@ -101,8 +95,8 @@ one_reply g texts (opens text) line other h k =
     let same : h.0 ≡ k.0 = one_tokens g text h.0 k.0 h.1 k.1 in
     let replies = ap (λ (tokens : List Token). version_reply (length texts) (length tokens)) same in
     h.2 ∙ replies ∙ sym k.2
-one_reply g texts (has category first end) line other h k =
+one_reply g texts (has constituent) line other h k =
     let one_text : h.0 ≡ k.0 = one_current texts h.0 k.0 h.2 k.2 in
     let again : AreTokensOf g.kinds h.0 k.1 = rw one_text k.3 in
     let same : h.1 ≡ k.1 = one_tokens g h.0 h.1 k.1 h.3 again in
-    one_answer g h.1 category first end line other h.4 (rw same k.4)
+    one_answer g h.1 constituent line other h.4 (rw same k.4)

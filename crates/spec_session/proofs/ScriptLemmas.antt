@@ -7,6 +7,7 @@ use Rattle.std.proofs.lemmas.List.{get_or_default}
 use Rattle.std.proofs.lemmas.Str.Parse.{IsNumeralModel, numerals_by_value, tells_all_ascii_digits, not_in_digits}
 use Rattle.std.proofs.lemmas.Fmt.{digits_decimal, decimal_injective, length-decimal-le}
 use Rattle.std.proofs.Math.Seq.{take-append_seam}
+use Rattle.spec_session.specs.Script.{Constituent, entry_whole, category_whole, category_span, constituent_text, IsNameable}
 use Rattle.spec_session.specs.Script.{Command, header, grammar, opens, has, line_of, block_of, text_of, IsWord, IsWithinLimits}
 
 -- the list does not have the byte
@@ -124,6 +125,22 @@ span_text first end = decimal first ++ (32 ∷ decimal end)
 abbrev question_text : List ℕ → ℕ → ℕ → List ℕ
 question_text category first end = category ++ (32 ∷ span_text first end)
 
+-- what names a constituent has no LF
+constituent_lacks_lf : (constituent : Constituent) → IsNameable constituent →
+    Lacks (constituent_text constituent) 10
+constituent_lacks_lf entry_whole nameable = tested 10 [] refl
+constituent_lacks_lf (category_whole category) nameable =
+    spaced_lacks_lf category (word_lacks_lf category nameable)
+constituent_lacks_lf (category_span category first end) nameable =
+    let first_lacks : Lacks (decimal first) 10 = digits_lack first 10 nameable.1 (omega arith) in
+    let end_lacks : Lacks (decimal end) 10 = digits_lack end 10 nameable.2 (omega arith) in
+    let span_lacks : Lacks (span_text first end) 10 =
+    lacks_joined 10 (decimal first) (32 ∷ decimal end) first_lacks (spaced_lacks_lf (decimal end) end_lacks) in
+    let behind_lacks : Lacks (question_text category first end) 10 =
+    lacks_joined 10 category (32 ∷ span_text first end) (word_lacks_lf category nameable.0)
+    (spaced_lacks_lf (span_text first end) span_lacks) in
+    spaced_lacks_lf (question_text category first end) behind_lacks
+
 -- the line of a command within its limits has no LF
 pub line_lacks_lf : (command : Command) → IsWithinLimits command → Lacks (line_of command) 10
 line_lacks_lf header within = tested 10 (codes "script 1") refl
@@ -131,15 +148,9 @@ line_lacks_lf (grammar block) within =
     counted_lacks_lf (codes "grammar ") (length block) refl (omega (arith, within))
 line_lacks_lf (opens text) within =
     counted_lacks_lf (codes "open ") (length text) refl (omega (arith, within.0))
-line_lacks_lf (has category first end) within =
-    let first_lacks : Lacks (decimal first) 10 = digits_lack first 10 within.1 (omega arith) in
-    let end_lacks : Lacks (decimal end) 10 = digits_lack end 10 within.2 (omega arith) in
-    let span_lacks : Lacks (span_text first end) 10 =
-    lacks_joined 10 (decimal first) (32 ∷ decimal end) first_lacks (spaced_lacks_lf (decimal end) end_lacks) in
-    let question_lacks : Lacks (question_text category first end) 10 =
-    lacks_joined 10 category (32 ∷ span_text first end) (word_lacks_lf category within.0)
-    (spaced_lacks_lf (span_text first end) span_lacks) in
-    lacks_joined 10 (codes "has ") (question_text category first end) (tested 10 (codes "has ") refl) question_lacks
+line_lacks_lf (has constituent) within =
+    lacks_joined 10 (codes "has") (constituent_text constituent) (tested 10 (codes "has") refl)
+    (constituent_lacks_lf constituent within.0)
 
 -- a beginning and a number are short
 counted_is_short : (beginning : List ℕ) (n : ℕ) → length beginning ≤ 100 → n < 10 ^ 9 →
@@ -155,7 +166,7 @@ line_is_short (grammar block) within =
     counted_is_short (codes "grammar ") (length block) (omega arith) (omega (arith, within))
 line_is_short (opens text) within =
     counted_is_short (codes "open ") (length text) (omega arith) (omega (arith, within.0))
-line_is_short (has category first end) within = within.3
+line_is_short (has constituent) within = within.1
 
 -- a line before an LF is that of the command that the bytes begin with, and the block comes next
 pub command_line : (command : Command) (line rest more : List ℕ) → IsWithinLimits command → Lacks line 10 →
@@ -177,21 +188,48 @@ same_block beginning block other rest more small small_too e f =
       ap (drop 1) (same_back block (10 ∷ rest) other (10 ∷ more) size whole),
     )
 
--- questions on one line are the same
-same_question : (category : List ℕ) (first end : ℕ) (name : List ℕ) (start stop : ℕ) →
-    IsWithinLimits (has category first end) → IsWithinLimits (has name start stop) →
-    line_of (has category first end) ≡ line_of (has name start stop) →
-    has category first end ≡ has name start stop
-same_question category first end name start stop v w e =
-    let behind = same_rest (codes "has ") (question_text category first end) (question_text name start stop) e in
+-- a word, a space and what stands behind it have a space
+pub has_space : (word rest : List ℕ) → Contains (word ++ (32 ∷ rest)) 32
+has_space [] rest = (0, omega arith, refl)
+has_space (x ∷ word) rest = contains_later x (word ++ (32 ∷ rest)) 32 (has_space word rest)
+
+-- a word is not another with a span
+word_or_span : (category name : List ℕ) (start stop : ℕ) →
+    IsWord category → category ≡ question_text name start stop → ⊥
+word_or_span category name start stop is_word e =
+    word_lacks_space category is_word
+    (subst (λ bytes. Contains bytes 32) (sym e) (has_space name (span_text start stop)))
+
+-- a category with a span is named in one way
+same_span : (category : List ℕ) (first end : ℕ) (name : List ℕ) (start stop : ℕ) →
+    IsNameable (category_span category first end) → IsNameable (category_span name start stop) →
+    question_text category first end ≡ question_text name start stop →
+    category_span category first end ≡ category_span name start stop
+same_span category first end name start stop v w e =
     let parts = cut_same 32 category (span_text first end) name (span_text start stop)
-    (word_lacks_space category v.0) (word_lacks_space name w.0) behind in
+    (word_lacks_space category v.0) (word_lacks_space name w.0) e in
     let numbers = cut_same 32 (decimal first) (decimal end) (decimal start) (decimal stop)
     (digits_lack first 32 v.1 (omega arith)) (digits_lack start 32 w.1 (omega arith)) parts.1 in
     let firsts : first ≡ start = same_number first start v.1 w.1 numbers.0 in
     let ends : end ≡ stop = same_number end stop v.2 w.2 numbers.1 in
     let categories : category ≡ name = parts.0 in
     cc
+
+-- constituents that are named alike are the same
+pub same_constituent : (a b : Constituent) → IsNameable a → IsNameable b →
+    constituent_text a ≡ constituent_text b → a ≡ b
+same_constituent entry_whole entry_whole v w e = refl
+same_constituent entry_whole (category_whole name) v w e = absurd (omega (arith, ap length e))
+same_constituent entry_whole (category_span name start stop) v w e = absurd (omega (arith, ap length e))
+same_constituent (category_whole category) entry_whole v w e = absurd (omega (arith, ap length e))
+same_constituent (category_whole category) (category_whole name) v w e = ap category_whole (ap (drop 1) e)
+same_constituent (category_whole category) (category_span name start stop) v w e =
+    absurd (word_or_span category name start stop v (ap (drop 1) e))
+same_constituent (category_span category first end) entry_whole v w e = absurd (omega (arith, ap length e))
+same_constituent (category_span category first end) (category_whole name) v w e =
+    absurd (word_or_span name category first end w (sym (ap (drop 1) e)))
+same_constituent (category_span category first end) (category_span name start stop) v w e =
+    same_span category first end name start stop v w (ap (drop 1) e)
 
 -- the first byte of a line, which tells the commands apart
 abbrev first_byte : List ℕ → ℕ
@@ -211,8 +249,9 @@ same_by_line (opens text) (opens other) rest more v w e f =
     let small_too : length other < 10 ^ 9 = omega (arith, w.0) in
     let same = same_block (codes "open ") text other rest more small small_too e f in
     (ap opens same.0, same.1)
-same_by_line (has category first end) (has name start stop) rest more v w e f =
-    (same_question category first end name start stop v w e, f)
+same_by_line (has constituent) (has other) rest more v w e f =
+    let behind = same_rest (codes "has") (constituent_text constituent) (constituent_text other) e in
+    (ap has (same_constituent constituent other v.0 w.0 behind), f)
 same_by_line a b rest more v w e f = absurd (omega (arith, ap first_byte e))
 
 -- bytes begin with one command at most, and so one rest stands behind it
@@ -229,7 +268,7 @@ end_is_no_line : (command : Command) → codes "end" ≡ line_of command → ⊥
 end_is_no_line header e = omega (arith, ap first_byte e)
 end_is_no_line (grammar block) e = omega (arith, ap first_byte e)
 end_is_no_line (opens text) e = omega (arith, ap first_byte e)
-end_is_no_line (has category first end) e = omega (arith, ap first_byte e)
+end_is_no_line (has constituent) e = omega (arith, ap first_byte e)
 
 -- bytes that begin with the line `end` begin with no command
 pub end_is_no_command : (command : Command) (rest more : List ℕ) → IsWithinLimits command →

@@ -1,6 +1,7 @@
 -- The reply to each command, as one line with its LF.
 use Rattle.std.specs.Prelude.{◌≡◌, ℕ, ◌<◌, ◌≤◌, ◌⊎◌, List, [], ◌∷◌, ◌++◌, length, codes, decimal}
-use Rattle.std.specs.Prelude.{slice_get, Some, Contains}
+use Rattle.std.specs.Prelude.{slice_get, Some}
+use Rattle.spec_grammar.specs.declared.rule.Rule.{Rule}
 use Rattle.spec_grammar.specs.declared.rule.Symbol.TheVariants.{Category}
 use Rattle.spec_grammar.specs.Derivation.{Derives}
 use Rattle.spec_lexing.specs.declared.token.Token.{Token}
@@ -9,6 +10,7 @@ use Rattle.spec_lbnf.specs.declared.definition.Def.{Def}
 use Rattle.spec_lbnf.specs.FirstForm.{Spells, IsFirstUnbuilt}
 use Rattle.spec_lbnf.specs.Expansion.{Expansion, expansion_of}
 use Rattle.spec_lbnf.specs.Checks.{AreAllKnown, IsFirstUnknown}
+use Rattle.spec_session.specs.Script.{Constituent, entry_whole, category_whole, category_span}
 use Rattle.spec_session.specs.Script.{Command, header, grammar, opens, has}
 
 -- the bytes as one line
@@ -48,34 +50,72 @@ abbrev pub version_reply : ℕ → ℕ → List ℕ
 version_reply number tokens =
     codes "version " ++ (decimal number ++ (codes " tokens " ++ as_line (decimal tokens)))
 
--- the category of this name derives the tokens first..end, a span of the text
-pub record NamedDerives (g : Expansion) (tokens : List Token) (name : List ℕ)
-    (first end : ℕ) : Type 0 where
-  pub category : ℕ
-  pub is_category : slice_get g.categories category ≡ Some name
-  pub derives : Derives g.rules (kinds_of tokens) (Category category) first end
+-- the grammar's entry is this category: the category of its first rule
+abbrev pub IsEntry : Expansion → ℕ → Type 0
+IsEntry g category =
+    (rule : Rule) × (slice_get g.rules 0 ≡ Some rule) × (rule.category ≡ category)
 
--- the answer to whether a category derives the tokens first..end: yes or no by derivation,
--- and a refusal where no category has the name, or else where the span is none of the text's
-pub data IsAnswer (g : Expansion) (tokens : List Token) (name : List ℕ) (first end : ℕ)
+-- the constituent is of this category of the grammar: of its entry, or of one with the name
+abbrev pub IsOfCategory : Expansion → Constituent → ℕ → Type 0
+IsOfCategory g entry_whole category = IsEntry g category
+IsOfCategory g (category_whole name) category = slice_get g.categories category ≡ Some name
+IsOfCategory g (category_span name first end) category =
+    slice_get g.categories category ≡ Some name
+
+-- the constituent is of some category of the grammar
+abbrev pub HasCategory : Expansion → Constituent → Type 0
+HasCategory g constituent = (category : ℕ) × IsOfCategory g constituent category
+
+-- the place at which the constituent begins
+abbrev pub first_of : Constituent → ℕ
+first_of entry_whole = 0
+first_of (category_whole name) = 0
+first_of (category_span name first end) = first
+
+-- the place at which the constituent ends, in a text of so many tokens
+abbrev pub end_of : ℕ → Constituent → ℕ
+end_of size entry_whole = size
+end_of size (category_whole name) = size
+end_of size (category_span name first end) = end
+
+-- the constituent is a span of a text of so many tokens
+abbrev pub IsWithin : ℕ → Constituent → Type 0
+IsWithin size constituent =
+    (first_of constituent ≤ end_of size constituent) × (end_of size constituent ≤ size)
+
+-- the constituent is none of a text of so many tokens: it ends before it begins, or behind the text
+abbrev pub IsOutside : ℕ → Constituent → Type 0
+IsOutside size constituent =
+    (end_of size constituent < first_of constituent) ⊎ (size < end_of size constituent)
+
+-- a category of the constituent derives its tokens
+pub record IsDerived (g : Expansion) (tokens : List Token) (constituent : Constituent) : Type 0 where
+  pub category : ℕ
+  pub is_category : IsOfCategory g constituent category
+  pub derives : Derives g.rules (kinds_of tokens) (Category category) (first_of constituent)
+      (end_of (length tokens) constituent)
+
+-- the answer to whether a constituent is derived: yes or no by derivation,
+-- and a refusal where it is of no category, or else where it is no span of the text
+pub data IsAnswer (g : Expansion) (tokens : List Token) (constituent : Constituent)
     (line : List ℕ) : Type 0 where
-  refused_category : (Contains g.categories name → ⊥) → line ≡ as_line (codes "refused category")
-      → IsAnswer g tokens name first end line
-  refused_span : Contains g.categories name → (end < first) ⊎ (length tokens < end)
+  refused_category : (HasCategory g constituent → ⊥) → line ≡ as_line (codes "refused category")
+      → IsAnswer g tokens constituent line
+  refused_span : HasCategory g constituent → IsOutside (length tokens) constituent
       → line ≡ codes "refused span " ++ as_line (decimal (length tokens))
-      → IsAnswer g tokens name first end line
-  yes : first ≤ end → end ≤ length tokens → NamedDerives g tokens name first end
-      → line ≡ as_line (codes "yes") → IsAnswer g tokens name first end line
-  no : Contains g.categories name → first ≤ end → end ≤ length tokens
-      → (NamedDerives g tokens name first end → ⊥) → line ≡ as_line (codes "no")
-      → IsAnswer g tokens name first end line
+      → IsAnswer g tokens constituent line
+  yes : IsWithin (length tokens) constituent → IsDerived g tokens constituent
+      → line ≡ as_line (codes "yes") → IsAnswer g tokens constituent line
+  no : HasCategory g constituent → IsWithin (length tokens) constituent
+      → (IsDerived g tokens constituent → ⊥) → line ≡ as_line (codes "no")
+      → IsAnswer g tokens constituent line
 
 -- the texts after a command, the current one last: a text that is opened is the next one
 abbrev pub texts_after : List (List ℕ) → Command → List (List ℕ)
 texts_after texts header = texts
 texts_after texts (grammar block) = texts
 texts_after texts (opens text) = texts ++ text ∷ []
-texts_after texts (has category first end) = texts
+texts_after texts (has constituent) = texts
 
 -- the current text, the last of these
 abbrev pub IsCurrent : List (List ℕ) → List ℕ → Type 0
@@ -88,6 +128,6 @@ IsReply g texts (grammar block) line = ⊥
 IsReply g texts (opens text) line =
     (tokens : List Token) × AreTokensOf g.kinds text tokens
     × (line ≡ version_reply (length texts) (length tokens))
-IsReply g texts (has category first end) line =
+IsReply g texts (has constituent) line =
     (text : List ℕ) × (tokens : List Token) × IsCurrent texts text × AreTokensOf g.kinds text tokens
-    × IsAnswer g tokens category first end line
+    × IsAnswer g tokens constituent line

@@ -2,27 +2,40 @@
 use Rattle.std.specs.Prelude.{◌≡◌, ℕ, ◌+◌, ◌^◌, ◌<◌, ◌≤◌, List, [], ◌∷◌, ◌++◌, length, codes}
 use Rattle.std.specs.Prelude.{decimal, All, IsAscii}
 
--- the commands that are built so far; a question names a category and a span of tokens
+-- the constituent that a question names: the grammar's entry over the whole text,
+-- a category over the whole text, or a category over a span of tokens
+pub data Constituent : Type 0 where
+  entry_whole : Constituent
+  category_whole : (category : List ℕ) → Constituent
+  category_span : (category : List ℕ) → (first end : ℕ) → Constituent
+
+-- the commands that are built so far; a question names a constituent
 pub data Command : Type 0 where
   header : Command
   grammar : (block : List ℕ) → Command
   opens : (text : List ℕ) → Command
-  has : (category : List ℕ) → (first end : ℕ) → Command
+  has : (constituent : Constituent) → Command
+
+-- how a question's line names the constituent, behind its first word: each part stands behind a space
+abbrev pub constituent_text : Constituent → List ℕ
+constituent_text entry_whole = []
+constituent_text (category_whole category) = 32 ∷ category
+constituent_text (category_span category first end) =
+    32 ∷ (category ++ (32 ∷ (decimal first ++ (32 ∷ decimal end))))
 
 -- the line of the command, without its LF
 abbrev pub line_of : Command → List ℕ
 line_of header = codes "script 1"
 line_of (grammar block) = codes "grammar " ++ decimal (length block)
 line_of (opens text) = codes "open " ++ decimal (length text)
-line_of (has category first end) =
-    codes "has " ++ (category ++ (32 ∷ (decimal first ++ (32 ∷ decimal end))))
+line_of (has constituent) = codes "has" ++ constituent_text constituent
 
 -- what stands behind the line's LF: a block and its LF, or nothing
 abbrev pub block_of : Command → List ℕ
 block_of header = []
 block_of (grammar block) = block ++ 10 ∷ []
 block_of (opens text) = text ++ 10 ∷ []
-block_of (has category first end) = []
+block_of (has constituent) = []
 
 -- the whole command
 abbrev pub text_of : Command → List ℕ
@@ -33,20 +46,26 @@ pub record IsWord (bytes : List ℕ) : Type 0 where
   pub some : 0 < length bytes
   pub each : All (λ byte. (byte ≡ 32 → ⊥) × (byte ≡ 10 → ⊥)) bytes
 
+-- the constituent's category is a word, and its numbers have nine digits at most
+abbrev pub IsNameable : Constituent → Type 0
+IsNameable entry_whole = Unit {0}
+IsNameable (category_whole category) = IsWord category
+IsNameable (category_span category first end) =
+    IsWord category × (first < 10 ^ 9) × (end < 10 ^ 9)
+
 -- the command keeps the limits: a grammar of 65,536 bytes, a text of 4,096 bytes below 80 (hexadecimal),
--- numbers of nine digits, and a line of 256 bytes
+-- a constituent that can be named, and a line of 256 bytes
 abbrev pub IsWithinLimits : Command → Type 0
 IsWithinLimits header = Unit {0}
 IsWithinLimits (grammar block) = length block ≤ 65536
 IsWithinLimits (opens text) = (length text ≤ 4096) × IsAscii text
-IsWithinLimits (has category first end) =
-    IsWord category × (first < 10 ^ 9) × (end < 10 ^ 9)
-    × (length (line_of (has category first end)) ≤ 256)
+IsWithinLimits (has constituent) =
+    IsNameable constituent × (length (line_of (has constituent)) ≤ 256)
 
 -- the commands are questions
 abbrev pub AreQuestions : List Command → Type 0
 AreQuestions [] = Unit {0}
-AreQuestions (has category first end ∷ commands) = AreQuestions commands
+AreQuestions (has constituent ∷ commands) = AreQuestions commands
 AreQuestions (command ∷ commands) = ⊥
 
 -- the commands stand in the order of a script: the header, a grammar, a text, and questions; the last ones may be absent

@@ -1,5 +1,5 @@
 //! Grammars and the line that each gets: its counts where it is accepted, or its refusal. A row has a
-//! name, the grammar's block, and the line.
+//! name, the grammar's block, and the line. Last come grammars with texts and questions on their entry.
 
 pub(super) const ACCEPTED: &[(&str, &[u8], &[u8])] = &[
     (
@@ -206,5 +206,40 @@ pub(super) const REFUSED: &[(&str, &[u8], &[u8])] = &[
         "a definition that is not built stands before an unknown category",
         b"A. S ::= T T ; B. S ::= ;",
         b"grammar refused unbuilt 1\n",
+    ),
+];
+
+/// A row has a name, the grammar's block, the rest of the script, and the session.
+pub(super) const ENTRIES: &[(&str, &[u8], &[u8], &[u8])] = &[
+    (
+        "the entry is the category of the first rule",
+        b"P. S ::= A B ; Q. A ::= \"x\" ; R. B ::= \"y\" ;",
+        b"open 3\nx y\nhas\nhas S\nhas A\nhas B\nhas A 0 1\nend\n",
+        b"grammar rules 3 categories 3 kinds 2\nversion 0 tokens 2\nyes\nyes\nno\nno\nyes\nend\n",
+    ),
+    (
+        "the entry is not the category of a later rule",
+        b"Q. A ::= \"x\" ; R. B ::= \"y\" ; P. S ::= A B ;",
+        b"open 3\nx y\nhas\nhas S\nhas A\nend\n",
+        b"grammar rules 3 categories 3 kinds 2\nversion 0 tokens 2\nno\nyes\nno\nend\n",
+    ),
+    (
+        "the entry derives a text of one token",
+        b"Q. A ::= \"x\" ; R. B ::= \"y\" ; P. S ::= A B ;",
+        b"open 1\nx\nhas\nhas S\nhas A\nhas B\nend\n",
+        b"grammar rules 3 categories 3 kinds 2\nversion 0 tokens 1\nyes\nno\nyes\nno\nend\n",
+    ),
+    (
+        "a grammar without rules has no entry",
+        b"",
+        b"open 1\na\nhas\nhas S\nhas S 0 9\nend\n",
+        b"grammar rules 0 categories 0 kinds 0\nversion 0 tokens 1\nrefused category\n\
+          refused category\nrefused category\nend\n",
+    ),
+    (
+        "nor has it one over an empty text",
+        b"",
+        b"open 0\n\nhas\nend\n",
+        b"grammar rules 0 categories 0 kinds 0\nversion 0 tokens 0\nrefused category\nend\n",
     ),
 ];

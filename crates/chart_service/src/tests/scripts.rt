@@ -244,13 +244,58 @@ pub(super) const BROKEN_BEHIND_A_TEXT: &[(&str, &[u8], &[u8])] = &[
     ),
     ("an edit", b"edit 0 1 1\nb\nend\n", b"script refused 65\n"),
     (
-        "a question of one word",
-        b"has\nend\n",
+        "a question of one word without its LF",
+        b"has",
+        b"script refused 65\n",
+    ),
+    (
+        "a question of one word with a space behind",
+        b"has \nend\n",
+        b"script refused 65\n",
+    ),
+    (
+        "a question of one word that ends in CR LF",
+        b"has\r\nend\n",
+        b"script refused 65\n",
+    ),
+    (
+        "a question of one longer word",
+        b"hass\nend\n",
+        b"script refused 65\n",
+    ),
+    (
+        "a question with a tab behind its word",
+        b"has\tS\nend\n",
+        b"script refused 65\n",
+    ),
+    (
+        "a question with two spaces before its category",
+        b"has  S\nend\n",
+        b"script refused 65\n",
+    ),
+    (
+        "a question with a space behind its category",
+        b"has S \nend\n",
+        b"script refused 65\n",
+    ),
+    (
+        "a question with a category without its LF",
+        b"has S",
         b"script refused 65\n",
     ),
     (
         "a question with one number",
         b"has S 0\nend\n",
+        b"script refused 65\n",
+    ),
+    (
+        "a question with one number and a space behind",
+        b"has S 0 \nend\n",
+        b"script refused 65\n",
+    ),
+    (
+        "a question with two categories",
+        b"has S S\nend\n",
         b"script refused 65\n",
     ),
     (
@@ -288,6 +333,11 @@ pub(super) const BROKEN_BEHIND_A_TEXT: &[(&str, &[u8], &[u8])] = &[
         b"has S 0 2\nhas T 0 2\nend",
         b"yes\nrefused category\nscript refused 85\n",
     ),
+    (
+        "a break behind the entry and a category",
+        b"has\nhas S\nhas S \nend\n",
+        b"yes\nyes\nscript refused 75\n",
+    ),
 ];
 
 pub(super) const ANSWERED: &[(&str, &[u8], &[u8])] = &[
@@ -296,6 +346,37 @@ pub(super) const ANSWERED: &[(&str, &[u8], &[u8])] = &[
         "what stands behind the end has no effect",
         b"end\nhas\n\xff\0",
         b"end\n",
+    ),
+    ("the entry over the whole text", b"has\nend\n", b"yes\nend\n"),
+    (
+        "a category over the whole text",
+        b"has S\nend\n",
+        b"yes\nend\n",
+    ),
+    (
+        "an unknown category over the whole text",
+        b"has T\nend\n",
+        b"refused category\nend\n",
+    ),
+    (
+        "a number for a category over the whole text",
+        b"has 0\nend\n",
+        b"refused category\nend\n",
+    ),
+    (
+        "a question's word for a category over the whole text",
+        b"has has\nend\n",
+        b"refused category\nend\n",
+    ),
+    (
+        "a category over the whole text that ends in CR",
+        b"has S\r\nend\n",
+        b"refused category\nend\n",
+    ),
+    (
+        "a category over the whole text that is no UTF-8",
+        b"has \xff\xfe\nend\n",
+        b"refused category\nend\n",
     ),
     (
         "an empty span at the text's end",
@@ -362,13 +443,13 @@ pub(super) const ANSWERED: &[(&str, &[u8], &[u8])] = &[
 pub(super) const TEXTS: &[(&str, &[u8], &[u8])] = &[
     (
         "an empty text",
-        b"open 0\n\nhas S 0 0\nhas S 0 1\nend\n",
-        b"version 0 tokens 0\nno\nrefused span 0\nend\n",
+        b"open 0\n\nhas\nhas S\nhas T\nhas S 0 0\nhas S 0 1\nend\n",
+        b"version 0 tokens 0\nno\nno\nrefused category\nno\nrefused span 0\nend\n",
     ),
     (
         "a text of one LF",
-        b"open 1\n\n\nhas S 0 0\nend\n",
-        b"version 0 tokens 0\nno\nend\n",
+        b"open 1\n\n\nhas\nhas S 0 0\nend\n",
+        b"version 0 tokens 0\nno\nno\nend\n",
     ),
     (
         "a text of each white byte",
@@ -377,8 +458,8 @@ pub(super) const TEXTS: &[(&str, &[u8], &[u8])] = &[
     ),
     (
         "words side by side",
-        b"open 3\naaa\nhas S 0 3\nend\n",
-        b"version 0 tokens 3\nyes\nend\n",
+        b"open 3\naaa\nhas\nhas S\nhas S 0 3\nend\n",
+        b"version 0 tokens 3\nyes\nyes\nyes\nend\n",
     ),
     (
         "words on lines",
@@ -387,8 +468,8 @@ pub(super) const TEXTS: &[(&str, &[u8], &[u8])] = &[
     ),
     (
         "a stray byte between words",
-        b"open 3\na?a\nhas S 0 1\nhas S 1 2\nhas S 0 3\nhas S 2 3\nend\n",
-        b"version 0 tokens 3\nyes\nno\nno\nyes\nend\n",
+        b"open 3\na?a\nhas\nhas S\nhas S 0 1\nhas S 1 2\nhas S 0 3\nhas S 2 3\nend\n",
+        b"version 0 tokens 3\nno\nno\nyes\nno\nno\nyes\nend\n",
     ),
     (
         "a word in upper case is stray",

@@ -1,5 +1,6 @@
 -- One line of a session: a question is answered, the session ends, or the script is broken here.
 use Rattle.cyk_io.specs.Streams.{coming}
+use Rattle.chart_service.specs.Forms.{meant}
 use Rattle.chart_service.specs.Answering.{answer_line}
 use Rattle.chart_service.proofs.ProgressLemmas.{read_stop, write_stop, no_line_no_command, no_line_no_end, no_question, no_end, is_end, question_taken, running_stopped, running_broken, running_ended, running_answered, running_cut}
 use Rattle.chart_service.proofs.serving.turn.Goals as goal
@@ -31,14 +32,14 @@ returns-in-Some-End-clause-ok g c input before r =
 
 pub returns-in-Ok-clause-ok : goal.returns-in-Ok-clause-ok
 returns-in-Ok-clause-ok g c input before r =
-    running_answered input before (coming c.args.ahead.now (g.S.Source.left c.args.source.now)) c.args.ahead.now.offset (g.K.Sink.written c.args.sink.now) c.args.opened.now r c.in-Some-Has.question.category.now c.in-Some-Has.question.first c.in-Some-Has.question.end c.next_line.new.ahead.offset (coming c.next_line.new.ahead (g.S.Source.left c.next_line.new.source))
-    (question_taken c.args.ahead.now.offset c.next_line.new.ahead.offset (coming c.args.ahead.now (g.S.Source.left c.args.source.now)) (coming c.next_line.new.ahead (g.S.Source.left c.next_line.new.source)) c.next_line.new.line r.rest (rw c.in-Ok-true.field-0-test at c.in-Ok-true.ensures.ok) r.comes c.in-Some-Has.question.category.now c.in-Some-Has.question.first c.in-Some-Has.question.end (rw (c.in-Some-Has.field-0-is, c.as_bytes.ensures.bytes) at c.in-Some-Has.ensures))
+    running_answered input before (coming c.args.ahead.now (g.S.Source.left c.args.source.now)) c.args.ahead.now.offset (g.K.Sink.written c.args.sink.now) c.args.opened.now r (meant c.in-Some-Has.constituent) c.next_line.new.ahead.offset (coming c.next_line.new.ahead (g.S.Source.left c.next_line.new.source))
+    (question_taken c.args.ahead.now.offset c.next_line.new.ahead.offset (coming c.args.ahead.now (g.S.Source.left c.args.source.now)) (coming c.next_line.new.ahead (g.S.Source.left c.next_line.new.source)) c.next_line.new.line r.rest (rw c.in-Ok-true.field-0-test at c.in-Ok-true.ensures.ok) r.comes (meant c.in-Some-Has.constituent) (rw (c.in-Some-Has.field-0-is, c.as_bytes.ensures.bytes) at c.in-Some-Has.ensures))
     (answer_line c.answer_of.result) (c.answer_of.ensures r.text r.tokens r.is_opened)
     (g.K.Sink.written c.say_answer.new.sink) c.in-Ok.ensures.ok
 
 pub returns-in-Err-say_answer-clause-ok : goal.returns-in-Err-say_answer-clause-ok
 returns-in-Err-say_answer-clause-ok g c input before r =
-    running_cut input before (coming c.args.ahead.now (g.S.Source.left c.args.source.now)) c.args.ahead.now.offset (g.K.Sink.written c.args.sink.now) c.args.opened.now r c.in-Some-Has.question.category.now c.in-Some-Has.question.first c.in-Some-Has.question.end c.next_line.new.ahead.offset (coming c.next_line.new.ahead (g.S.Source.left c.next_line.new.source))
-    (question_taken c.args.ahead.now.offset c.next_line.new.ahead.offset (coming c.args.ahead.now (g.S.Source.left c.args.source.now)) (coming c.next_line.new.ahead (g.S.Source.left c.next_line.new.source)) c.next_line.new.line r.rest (rw c.in-Ok-true.field-0-test at c.in-Ok-true.ensures.ok) r.comes c.in-Some-Has.question.category.now c.in-Some-Has.question.first c.in-Some-Has.question.end (rw (c.in-Some-Has.field-0-is, c.as_bytes.ensures.bytes) at c.in-Some-Has.ensures))
+    running_cut input before (coming c.args.ahead.now (g.S.Source.left c.args.source.now)) c.args.ahead.now.offset (g.K.Sink.written c.args.sink.now) c.args.opened.now r (meant c.in-Some-Has.constituent) c.next_line.new.ahead.offset (coming c.next_line.new.ahead (g.S.Source.left c.next_line.new.source))
+    (question_taken c.args.ahead.now.offset c.next_line.new.ahead.offset (coming c.args.ahead.now (g.S.Source.left c.args.source.now)) (coming c.next_line.new.ahead (g.S.Source.left c.next_line.new.source)) c.next_line.new.line r.rest (rw c.in-Ok-true.field-0-test at c.in-Ok-true.ensures.ok) r.comes (meant c.in-Some-Has.constituent) (rw (c.in-Some-Has.field-0-is, c.as_bytes.ensures.bytes) at c.in-Some-Has.ensures))
     (answer_line c.answer_of.result) (c.answer_of.ensures r.text r.tokens r.is_opened)
     (g.K.Sink.written c.say_answer.new.sink) c.in-Err-say_answer.ensures.err c.in-Err-say_answer.status (write_stop c.in-Err-say_answer.status c.in-Err-say_answer.ensures.stop)
