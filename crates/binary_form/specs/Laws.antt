@@ -3,7 +3,8 @@ use Rattle.std.specs.Prelude.{◌≡◌, ℕ, ◌+◌, ◌<◌, ◌⊎◌, ◌�
 use Rattle.spec_grammar.specs.declared.rule.Symbol.TheVariants.{Kind}
 use Rattle.spec_grammar.specs.declared.rule.Rule.{Rule}
 use Rattle.spec_lbnf.specs.Expansion.{Expansion}
-use Rattle.binary_form.specs.Symbols.{BinarySymbol, plain, BinaryDerives, IsBinarySymbolOf, symbol_count, number_of}
+use Rattle.binary_form.specs.Symbols.{BinarySymbol, plain, BinaryDerives, IsBinarySymbolOf}
+use Rattle.binary_form.specs.Symbols.{symbol_count, number_of}
 use Rattle.binary_form.specs.UnitSteps.{Reaches, IsInProduct}
 use Rattle.binary_form.specs.BinaryForm.{IsProductNumber}
 
@@ -16,9 +17,11 @@ IsOfToken rules kinds s i j =
 abbrev pub IsOfCut : List Rule → List (Option ℕ) → BinarySymbol → ℕ → ℕ → Type 0
 IsOfCut rules kinds s i j =
     (k : ℕ) × (i < k) × (k < j)
-    × IsInProduct rules (λ a. BinaryDerives rules kinds a i k) (λ a. BinaryDerives rules kinds a k j) s
+    × IsInProduct rules (λ a. BinaryDerives rules kinds a i k)
+    (λ a. BinaryDerives rules kinds a k j) s
 
--- a symbol derives a span that is not empty exactly where the span is a token that gives it, or has a cut that does
+-- a symbol derives a span that is not empty exactly where the span is a token that gives it, or has
+-- a cut that does
 abbrev pub ClosureIsDerivation : Type 0
 ClosureIsDerivation =
     (rules : List Rule) (kinds : List (Option ℕ)) (s : BinarySymbol) (i j : ℕ) → i < j

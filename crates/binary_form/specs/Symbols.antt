@@ -1,4 +1,5 @@
--- The symbols of the binary form and their numbers: categories, then kinds, then the suffixes of the rules.
+-- The symbols of the binary form and their numbers: categories, then kinds, then the suffixes of
+-- the rules.
 use Rattle.std.specs.Prelude.{◌≡◌, ℕ, ◌+◌, ◌<◌, List, Option, Some, length, slice_get, take, drop}
 use Rattle.spec_grammar.specs.declared.rule.Symbol.{Symbol}
 use Rattle.spec_grammar.specs.declared.rule.Symbol.TheVariants.{Category, Kind}
@@ -6,7 +7,8 @@ use Rattle.spec_grammar.specs.declared.rule.Rule.{Rule}
 use Rattle.spec_grammar.specs.Derivation.{Derives, DerivesAll}
 use Rattle.spec_lbnf.specs.Expansion.{Expansion, IsSymbolOf, item_count}
 
--- a symbol of the grammar, or the suffix of rule r from place p on, which stands for its items from there
+-- a symbol of the grammar, or the suffix of rule r from place p on, which stands for its items from
+-- there
 pub data BinarySymbol : Type 0 where
   plain : Symbol → BinarySymbol
   suffix : (r p : ℕ) → BinarySymbol

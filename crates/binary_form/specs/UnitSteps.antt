@@ -1,5 +1,6 @@
--- Unit steps and products, after Lange and Leiss (2009): how the symbols of a span that is not empty follow
--- from each other and from those of its two parts. No rule of the grammar is rewritten.
+-- Unit steps and products, after Lange and Leiss (2009): how the symbols of a span that is not
+-- empty follow from each other and from those of its two parts. No rule of the grammar is
+-- rewritten.
 use Rattle.std.specs.Prelude.{◌≡◌, ℕ, suc, List, [], ◌∷◌, Some, slice_get, drop}
 use Rattle.spec_grammar.specs.declared.rule.Symbol.{Symbol}
 use Rattle.spec_grammar.specs.declared.rule.Symbol.TheVariants.{Category}
@@ -22,7 +23,8 @@ pub data UnitStep (rules : List Rule) : BinarySymbol → BinarySymbol → Type 0
   -- from the whole right side of a rule to the rule's category
   whole_side : {r : ℕ} {rule : Rule} → slice_get rules r ≡ Some rule
       → UnitStep rules (suffix r 0) (plain (Category rule.category))
-  -- from an item to the suffix that it begins, where the items behind it are nullable, if there are any
+  -- from an item to the suffix that it begins, where the items behind it are nullable, if there are
+  -- any
   last_item : {r p : ℕ} {s : Symbol} {behind : List Symbol} → HasItem rules r p s behind
       → AreNullable rules behind → UnitStep rules (plain s) (suffix r p)
   -- from a suffix to the one that begins an item before, where that item is nullable
@@ -34,9 +36,10 @@ pub data Reaches (rules : List Rule) : BinarySymbol → BinarySymbol → Type 0 
   stay : {a : BinarySymbol} → Reaches rules a a
   step : {a b c : BinarySymbol} → Reaches rules a b → UnitStep rules b c → Reaches rules a c
 
--- the symbol is in the product of two sets: item p of a rule is in the left one, the suffix behind it is in
--- the right one, and the suffix from p on reaches the symbol
-pub record IsInProduct (rules : List Rule) (Left Right : BinarySymbol → Type 0) (s : BinarySymbol) : Type 0 where
+-- the symbol is in the product of two sets: item p of a rule is in the left one, the suffix behind
+-- it is in the right one, and the suffix from p on reaches the symbol
+pub record IsInProduct (rules : List Rule) (Left Right : BinarySymbol → Type 0)
+    (s : BinarySymbol) : Type 0 where
   pub r : ℕ
   pub p : ℕ
   pub item : Symbol

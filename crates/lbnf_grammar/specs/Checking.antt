@@ -35,7 +35,8 @@ abbrev pub FindsUnlisted : List (List ℕ) → List (List ℕ) → Option (List 
 FindsUnlisted known names found =
     MatchOption found (All (IsListed known) names) (IsFirstUnlisted known names)
 
--- the answer of the check: all categories are known, or the first that is not; want of memory is free
+-- the answer of the check: all categories are known, or the first that is not; want of memory is
+-- free
 abbrev pub ChecksDefs : List Def → Result (Unit {0}) GrammarFault → Type 0
 ChecksDefs defs (Ok done) = AreAllKnown defs
 ChecksDefs defs (Err Memory) = Unit {0}

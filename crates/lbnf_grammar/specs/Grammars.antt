@@ -1,4 +1,5 @@
--- What a caller sees of expanding definitions, of making a grammar, of its entry, and of looking a category up.
+-- What a caller sees of expanding definitions, of making a grammar, of its entry, and of looking a
+-- category up.
 use Rattle.std.specs.Prelude.{◌≡◌, ◌<◌, ◌^◌, ℕ, List, [], Option, Some, None, Result, Ok, Err}
 use Rattle.std.specs.Prelude.{length, slice_get, Contains, MatchOption}
 use Rattle.spec_grammar.specs.declared.rule.Rule.{Rule}
@@ -10,13 +11,15 @@ use Rattle.spec_lbnf.specs.Checks.{AreAllKnown, IsFirstUnknown}
 use Rattle.lbnf_grammar.specs.declared.fault.GrammarFault.{GrammarFault}
 use Rattle.lbnf_grammar.specs.declared.fault.GrammarFault.TheVariants.{Memory, UnknownCategory}
 
--- the answer on the definitions is the grammar that they stand for, or their first unknown category; want of memory is free
+-- the answer on the definitions is the grammar that they stand for, or their first unknown
+-- category; want of memory is free
 abbrev pub Expands : List Def → Result Expansion GrammarFault → Type 0
 Expands defs (Ok grammar) = AreAllKnown defs × (grammar ≡ expansion_of defs)
 Expands defs (Err Memory) = Unit {0}
 Expands defs (Err (UnknownCategory name number)) = IsFirstUnknown defs name number
 
--- numbers of rules, categories and kinds have 16 bits, there are fewer than 2 ^ 31 items, and the rules have symbols of the grammar
+-- numbers of rules, categories and kinds have 16 bits, there are fewer than 2 ^ 31 items, and the
+-- rules have symbols of the grammar
 pub record IsWellFormed (g : Expansion) : Type 0 where
   pub few_rules : length g.rules < 2 ^ 16
   pub few_categories : length g.categories < 2 ^ 16

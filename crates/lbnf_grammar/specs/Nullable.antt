@@ -1,5 +1,6 @@
 -- Which categories derive the empty span, as a list of flags.
-use Rattle.std.specs.Prelude.{◌≡◌, ℕ, ◌<◌, ◌↔◌, List, [], Bool, false, IsTrue, All, length, slice_index_or}
+use Rattle.std.specs.Prelude.{◌≡◌, ℕ, ◌<◌, ◌↔◌, List, [], Bool, false, IsTrue, All, length}
+use Rattle.std.specs.Prelude.{slice_index_or}
 use Rattle.spec_grammar.specs.declared.rule.Symbol.{Symbol}
 use Rattle.spec_grammar.specs.declared.rule.Symbol.TheVariants.{Category, Kind}
 use Rattle.spec_grammar.specs.Derivation.{DerivesAll, IsNullable}

@@ -1,5 +1,6 @@
 -- Flags on the way to those of the nullable categories. Serves the proofs alone.
-use Rattle.std.specs.Prelude.{◌≡◌, ℕ, ◌<◌, ◌≤◌, List, Bool, true, false, not, filter, IsTrue, IsFalse, Some, length, slice_get, slice_set, slice_index_or}
+use Rattle.std.specs.Prelude.{◌≡◌, ℕ, ◌<◌, ◌≤◌, List, Bool, true, false, not, filter, IsTrue}
+use Rattle.std.specs.Prelude.{IsFalse, Some, length, slice_get, slice_set, slice_index_or}
 use Rattle.std.specs.List.{list_all}
 use Rattle.spec_grammar.specs.declared.rule.Symbol.TheVariants.{Category}
 use Rattle.spec_grammar.specs.declared.rule.Rule.{Rule}
@@ -23,7 +24,8 @@ AreMet rules flags n =
 
 -- each rule's category has a flag
 abbrev pub HaveFlags : List Rule → ℕ → Type 0
-HaveFlags rules count = (r : ℕ) (rule : Rule) → slice_get rules r ≡ Some rule → rule.category < count
+HaveFlags rules count =
+    (r : ℕ) (rule : Rule) → slice_get rules r ≡ Some rule → rule.category < count
 
 -- how many flags are clear
 abbrev pub clear_count : List Bool → ℕ

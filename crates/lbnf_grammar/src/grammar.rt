@@ -37,8 +37,8 @@ impl Model for Grammar {
 }
 
 impl Grammar {
-    /// A grammar of numbered rules that no file spells yet. It takes no memory, and is for tests and
-    /// measures; `of_rules` asks nothing of its caller.
+    /// A grammar of numbered rules that no file spells yet. It takes no memory, and is for tests
+    /// and measures; `of_rules` asks nothing of its caller.
     pub fn of(rules: Vec<Rule>, categories: Vec<Name>, kinds: Vec<KindDef>) -> Grammar
         requires rules { length rules.items < 2 ^ 16 }
         requires categories { length categories.items < 2 ^ 16 }

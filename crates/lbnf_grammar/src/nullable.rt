@@ -1,5 +1,6 @@
 //! Which categories derive the empty span: passes over the rules, until one sets no more flag.
-ghost use Rattle.std.specs.Prelude.{◌≡◌, ◌<◌, ◌↔◌, IsTrue, IsFalse, IfOk, length, false, slice_index_or};
+ghost use Rattle.std.specs.Prelude.{◌≡◌, ◌<◌, ◌↔◌, IsTrue, IsFalse, IfOk, length, false};
+ghost use Rattle.std.specs.Prelude.{slice_index_or};
 ghost use Rattle.std.specs.List.{list_all};
 ghost use Rattle.lbnf_grammar.specs.Nullable.{AreNullableFlags, flag_of};
 ghost use Rattle.lbnf_grammar.specs.Nullable.{TellsNullable, TellsAllNullable};
