@@ -102,28 +102,17 @@ fn rules_keep_file_order_and_get_numbers(rt: HostRuntime) -> Result<(), Fail> {
 #[test]
 fn the_entry_is_the_category_of_the_first_rule(rt: HostRuntime) -> Result<(), Fail> {
     let cases = [
-        (SUMS, Some(b"Exp".as_slice())),
-        (
-            b"A . T ::= \"x\"; B . S ::= T T".as_slice(),
-            Some(b"T".as_slice()),
-        ),
-        (
-            b"B . S ::= T T; A . T ::= \"x\"".as_slice(),
-            Some(b"S".as_slice()),
-        ),
-        (b"".as_slice(), None),
+        (SUMS, b"Exp".as_slice()),
+        (b"A . T ::= \"x\"; B . S ::= T T".as_slice(), b"T".as_slice()),
+        (b"B . S ::= T T; A . T ::= \"x\"".as_slice(), b"S".as_slice()),
     ];
-    for (bytes, want) in cases {
+    for (bytes, name) in cases {
         let grammar = expanded(rt.alloc(), bytes)
             .ok_or("the form")?
             .ok()
             .ok_or("a grammar")?;
-        let found = match want {
-            Some(name) => grammar.find(name),
-            None => None,
-        };
-        assert_eq!(rt; grammar.entry(), found, "at {bytes:?}");
-        assert_eq!(rt; found.is_some(), want.is_some(), "at {bytes:?}");
+        assert_eq!(rt; grammar.entry(), Some(Symbol::Category(0)), "at {bytes:?}");
+        assert_eq!(rt; grammar.find(name), Some(Symbol::Category(0)), "at {bytes:?}");
     }
     Ok(())
 }
@@ -161,6 +150,7 @@ fn no_definitions_are_a_grammar(rt: HostRuntime) -> Result<(), Fail> {
     assert_eq!(rt; grammar.rule_count(), 0);
     assert_eq!(rt; grammar.category_count(), 0);
     assert_eq!(rt; grammar.kind_count(), 0);
+    assert_eq!(rt; grammar.entry(), None);
     assert_eq!(rt; grammar.find(b"E".as_slice()), None);
     Ok(())
 }
