@@ -33,8 +33,8 @@ IsTokenCell g kind cell =
     (m : ℕ) → Contains cell m
     ↔ ((k : ℕ) × (kind ≡ Some k) × (k < length g.kinds) × IsReachedNumber g (plain (Kind k)) m)
 
--- two numbers make a third: one is that of item p of a rule, the other that of the suffix behind it, and the
--- suffix from p on reaches the third
+-- two numbers make a third: one is that of item p of a rule, the other that of the suffix behind
+-- it, and the suffix from p on reaches the third
 pub record MakesNumber (g : Expansion) (left right n : ℕ) : Type 0 where
   pub r : ℕ
   pub p : ℕ
@@ -58,8 +58,8 @@ IsProductOf g left right cell = (n : ℕ) → Contains cell n ↔ IsProductNumbe
 abbrev pub HasProduct : Expansion → List ℕ → List ℕ → Type 0
 HasProduct g left right = (n : ℕ) × IsProductNumber g left right n
 
--- the answer on the grammar is its binary form, which is seen as the grammar, or that it has too many symbols; want
--- of memory comes at no grammar of too many
+-- the answer on the grammar is its binary form, which is seen as the grammar, or that it has too
+-- many symbols; want of memory comes at no grammar of too many
 abbrev pub MakesBinary : Expansion → Result Expansion BinaryFault → Type 0
 MakesBinary g (Ok binary) = (symbol_count g ≤ 2048) × (binary ≡ g)
 MakesBinary g (Err Memory) = symbol_count g ≤ 2048
