@@ -1,5 +1,4 @@
--- The product of two cells, by the wholes of items and the closures of wholes. Serves the proofs
--- alone.
+-- The product of two cells, by wholes and their closures. Serves the proofs alone.
 use Rattle.std.specs.Prelude.{◌≡◌, ℕ, ◌+◌, ◌<◌, ◌≤◌, ◌↔◌, ◌⊎◌, List, [], Option, Some}
 use Rattle.std.specs.Prelude.{MatchOption, slice_get, slice_index_or, Contains}
 
@@ -16,8 +15,7 @@ abbrev pub OneGivesBelow : (ℕ → ℕ → Type 0) → List ℕ → ℕ → ℕ
 OneGivesBelow Gives givers limit n =
     (giver : ℕ) × (giver < limit) × Contains givers giver × Gives giver n
 
--- the whole goes on with a symbol of the right cell, since the suffix behind its item has the next
--- number
+-- the whole goes on with a symbol of the right cell: the suffix behind its item has the next number
 abbrev pub GoesOn : List ℕ → ℕ → Type 0
 GoesOn right whole = Contains right (whole + 1)
 
@@ -50,8 +48,8 @@ GoOnBelow count wholes = (whole : ℕ) → Contains wholes whole → whole + 1 <
 abbrev pub LinksGoOnBelow : ℕ → List (List ℕ) → Type 0
 LinksGoOnBelow count links = (item : ℕ) → GoOnBelow count (slice_index_or links item [])
 
--- the next number from one on is the least of the list that is not below it, if that is below the
--- count
+-- the next number from one on is the least of the list that is not below it, and it is below the
+-- count; None where there is none
 abbrev pub IsNextBelow : ℕ → List ℕ → ℕ → Option ℕ → Type 0
 IsNextBelow count xs from next = MatchOption next
     ((s : ℕ) → Contains xs s → from ≤ s → s < count → ⊥)

@@ -1,8 +1,8 @@
 //! The binary form of a grammar: its symbols' numbers, their closures, and the product of cells.
 ghost use Rattle.std.specs.Prelude.{◌≡◌, ◌<◌, ◌≤◌, ◌↔◌, Some, IsTrue, IfOk};
 ghost use Rattle.spec_lbnf.specs.Expansion.{IsSymbolOf};
-ghost use Rattle.binary_form.specs.Symbols.{plain, suffix, IsBinarySymbolOf, symbol_count};
-ghost use Rattle.binary_form.specs.Symbols.{number_of};
+ghost use Rattle.binary_form.specs.Symbols.{plain, suffix, IsBinarySymbolOf};
+ghost use Rattle.binary_form.specs.Symbols.{symbol_count, number_of};
 ghost use Rattle.binary_form.specs.BinaryForm.{IsNullableNumber, IsClosureOf, IsTokenCell};
 ghost use Rattle.binary_form.specs.BinaryForm.{IsProductOf, HasProduct};
 ghost use Rattle.binary_form.specs.Forms.{AreParts};
@@ -16,8 +16,7 @@ use std::alloc::{AllocError, Global};
 use std::marker::Model;
 use std::snapshot::Snapshot;
 
-/// The binary form of a grammar, over one type of cell. It keeps numbers, and nothing of the
-/// grammar.
+/// The binary form of a grammar, over one type of cell. It keeps numbers alone.
 #[derive(Drop)]
 pub struct Binary<C: Cell> {
     grammar: Snapshot<Grammar>,
@@ -41,8 +40,8 @@ impl<C: Cell> Model for Binary<C> {
     ghost view = { λ b. b.grammar.value };
 
     ghost invariant = { λ b.
-        AreParts C.symbols C.ROOM b.grammar.value b.first_suffixes b.nullable.items
-        b.closures.items b.wholes
+        AreParts C.symbols C.ROOM b.grammar.value
+        b.first_suffixes b.nullable.items b.closures.items b.wholes
         × AreCounts b.grammar.value b.category_count b.kind_count
         × (C.symbols b.none ≡ []) };
 }
@@ -56,8 +55,8 @@ impl<C: Cell> Binary<C> {
         closures: Vec<C>,
         wholes: Links,
     ) -> Binary<C>
-        requires { AreParts C.symbols C.ROOM grammar.now first_suffixes nullable.items
-            closures.items wholes }
+        requires { AreParts C.symbols C.ROOM grammar.now
+            first_suffixes nullable.items closures.items wholes }
         ensures { result ≡ grammar.now }
     {
         Binary {
@@ -140,15 +139,13 @@ impl<C: Cell> Binary<C> {
         }
     }
 
-    /// What a span is, of which the left part is what one cell has and the right part what the
-    /// other has: the closure of each suffix whose first item is in the left cell and whose other
-    /// items, as a suffix, are in the right one (Valiant 1975; Lange and Leiss 2009). It looks at
-    /// the symbols of the left cell and at the places where they are items, and makes a union for
-    /// each suffix that it finds. An error is want of memory.
+    /// What a span is whose left part is what one cell has, and its right part what the other has: the closure of each suffix whose first item is in the left cell and whose other items,
+    /// as a suffix, are in the right one (Valiant 1975; Lange and Leiss 2009). It looks at the
+    /// symbols of the left cell and at the places where they are items, and makes a union for each
+    /// suffix that it finds. An error is want of memory.
     pub fn product(&self, alloc: Global, left: &C, right: &C) -> Result<C, AllocError>
-        ensures { IfOk result
-            (λ cell. IsProductOf self.now (C.symbols left.now) (C.symbols right.now)
-            (C.symbols cell)) }
+        ensures { IfOk result (λ cell.
+            IsProductOf self.now (C.symbols left.now) (C.symbols right.now) (C.symbols cell)) }
     {
         product_of(alloc, self.closures.as_slice(), &self.wholes, left, right)
     }

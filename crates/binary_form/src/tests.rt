@@ -98,7 +98,7 @@ fn plain_numbers<C: Cell>(
     Ok(numbers)
 }
 
-/// The number of each suffix of a rule.
+/// The number of each of the first 16 suffixes of a rule.
 fn suffix_numbers<C: Cell>(
     form: &Binary<C>,
     grammar: &Grammar,
@@ -108,8 +108,10 @@ fn suffix_numbers<C: Cell>(
     requires form { form.now ≡ grammar.now }
     requires rule { r < length grammar.now.rules }
 {
-    for p in 0..grammar.rule(r).items.len() as u16 {
-        numbers.push(form.suffix_of(r, p))?;
+    for p in 0..16 {
+        if usize::from(p) < grammar.rule(r).items.len() {
+            numbers.push(form.suffix_of(r, p))?;
+        }
     }
     Ok(())
 }
