@@ -2,8 +2,8 @@
 use Rattle.std.proofs.Common.{◌≡◌, ℕ, ◌+◌, ◌<◌, ◌↔◌, List, Some, length, slice_get, slice_index, get_or, refl, sym, ap, Contains, arith}
 use Rattle.std.proofs.lemmas.Option.{slice_get_read, slice_get_within}
 use Rattle.spec_grammar.specs.declared.rule.Symbol.TheVariants.{Kind}
-use Rattle.spec_lbnf.specs.Expansion.{Expansion}
-use Rattle.binary_form.specs.Symbols.{BinarySymbol, plain, suffix, IsBinarySymbolOf, symbol_count, number_of}
+use Rattle.spec_lbnf.specs.Expansion.{Expansion, symbol_count}
+use Rattle.binary_form.specs.Symbols.{BinarySymbol, plain, suffix, IsBinarySymbolOf, number_of}
 use Rattle.binary_form.specs.BinaryForm.{IsNumberOf, IsReachedNumber, IsClosureOf, IsTokenCell}
 use Rattle.binary_form.specs.FirstSuffixes.{AreFirstSuffixes}
 use Rattle.binary_form.specs.Forms.{AreClosures}

@@ -1,8 +1,8 @@
 -- What a symbol reaches by unit steps, and what its number reaches.
 use Rattle.std.proofs.Common.{◌≡◌, ℕ, ◌<◌, ◌↔◌, List, refl, sym, ◌∙◌, subst}
 use Rattle.spec_grammar.specs.declared.rule.Rule.{Rule}
-use Rattle.spec_lbnf.specs.Expansion.{Expansion, HasOwnSymbols}
-use Rattle.binary_form.specs.Symbols.{BinarySymbol, IsBinarySymbolOf, symbol_count, number_of}
+use Rattle.spec_lbnf.specs.Expansion.{Expansion, HasOwnSymbols, symbol_count}
+use Rattle.binary_form.specs.Symbols.{BinarySymbol, IsBinarySymbolOf, number_of}
 use Rattle.binary_form.specs.UnitSteps.{UnitStep, whole_side, last_item, passed_item, Reaches, stay, step}
 use Rattle.binary_form.specs.BinaryForm.{IsNumberOf, IsReachedNumber}
 use Rattle.binary_form.specs.NumberSteps.{StepNumber, NumberReaches, stay as stay_number, step as step_number}

@@ -1,7 +1,7 @@
 -- What is reached by the links of unit steps is what the symbols reach.
 use Rattle.std.proofs.Common.{ℕ, ◌<◌, ◌↔◌, List, Bool, arith}
-use Rattle.spec_lbnf.specs.Expansion.{Expansion, HasOwnSymbols}
-use Rattle.binary_form.specs.Symbols.{BinarySymbol, symbol_count}
+use Rattle.spec_lbnf.specs.Expansion.{Expansion, HasOwnSymbols, symbol_count}
+use Rattle.binary_form.specs.Symbols.{BinarySymbol}
 use Rattle.binary_form.specs.BinaryForm.{IsNumberOf, IsReachedNumber}
 use Rattle.binary_form.specs.NumberSteps.{StepNumber}
 use Rattle.binary_form.specs.Links.{HasLink}

@@ -7,9 +7,9 @@ use Rattle.std.proofs.lemmas.Option.{slice_get_within, slice_get_cases}
 use Rattle.std.proofs.lemmas.Bool.{false≢true}
 use Rattle.spec_grammar.specs.declared.rule.Symbol.{Symbol}
 use Rattle.spec_grammar.specs.declared.rule.Rule.{Rule}
-use Rattle.spec_lbnf.specs.Expansion.{Expansion, HasOwnSymbols, item_count}
+use Rattle.spec_lbnf.specs.Expansion.{Expansion, HasOwnSymbols, item_count, symbol_count}
 use Rattle.binary_form.specs.declared.rows.SuffixRow.{SuffixRow}
-use Rattle.binary_form.specs.Symbols.{BinarySymbol, plain, suffix, symbol_count}
+use Rattle.binary_form.specs.Symbols.{BinarySymbol, plain, suffix}
 use Rattle.binary_form.specs.UnitSteps.{HasItem}
 use Rattle.binary_form.specs.BinaryForm.{IsNumberOf}
 use Rattle.binary_form.specs.Rows.{IsRow, IsRowAt, AreRows, IsRowWithin, suffix_number}

@@ -1,8 +1,8 @@
 -- The product of cells is what the wholes of items give.
 use Rattle.std.proofs.Common.{◌≡◌, ℕ, ◌+◌, ◌<◌, ◌↔◌, List, Some, inl, inr, suc, length, slice_get, refl, sym, ◌∙◌, ap, subst, arith, Contains}
 use Rattle.std.proofs.lemmas.Option.{slice_get_cases}
-use Rattle.spec_lbnf.specs.Expansion.{Expansion}
-use Rattle.binary_form.specs.Symbols.{BinarySymbol, suffix, symbol_count, number_of}
+use Rattle.spec_lbnf.specs.Expansion.{Expansion, symbol_count}
+use Rattle.binary_form.specs.Symbols.{BinarySymbol, suffix, number_of}
 use Rattle.binary_form.specs.UnitSteps.{stay}
 use Rattle.binary_form.specs.BinaryForm.{IsNumberOf, IsReachedNumber, MakesNumber, IsProductNumber, IsProductOf, HasProduct}
 use Rattle.binary_form.specs.Links.{HasLink}

@@ -3,11 +3,11 @@ use Rattle.std.specs.Prelude.{◌≡◌, ℕ, suc, ◌<◌, ◌≤◌, ◌↔◌
 use Rattle.std.specs.Prelude.{Result, Ok, Err}
 use Rattle.spec_grammar.specs.declared.rule.Symbol.{Symbol}
 use Rattle.spec_grammar.specs.declared.rule.Symbol.TheVariants.{Kind}
-use Rattle.spec_lbnf.specs.Expansion.{Expansion}
+use Rattle.spec_lbnf.specs.Expansion.{Expansion, symbol_count}
 use Rattle.binary_form.specs.declared.fault.BinaryFault.{BinaryFault}
 use Rattle.binary_form.specs.declared.fault.BinaryFault.TheVariants.{Memory, TooManySymbols}
 use Rattle.binary_form.specs.Symbols.{BinarySymbol, plain, suffix, BinaryDerives, IsBinarySymbolOf}
-use Rattle.binary_form.specs.Symbols.{symbol_count, number_of}
+use Rattle.binary_form.specs.Symbols.{number_of}
 use Rattle.binary_form.specs.UnitSteps.{HasItem, Reaches}
 
 -- the number is that of a symbol of the grammar

@@ -3,8 +3,8 @@ use Rattle.std.specs.Prelude.{◌≡◌, ℕ, [], ◌∷◌, Some, None, codes}
 use Rattle.spec_grammar.specs.declared.rule.Symbol.TheVariants.{Category, Kind}
 use Rattle.spec_grammar.specs.Examples.{rule_of}
 use Rattle.spec_lexing.specs.declared.kind_def.KindDef.TheVariants.{Word}
-use Rattle.spec_lbnf.specs.Expansion.{Expansion}
-use Rattle.binary_form.specs.Symbols.{BinarySymbol, plain, suffix, symbol_count, number_of}
+use Rattle.spec_lbnf.specs.Expansion.{Expansion, symbol_count}
+use Rattle.binary_form.specs.Symbols.{BinarySymbol, plain, suffix, number_of}
 use Rattle.binary_form.specs.UnitSteps.{Reaches}
 use Rattle.binary_form.specs.BinaryForm.{IsNullableNumber, IsClosureOf, IsTokenCell, IsProductOf}
 

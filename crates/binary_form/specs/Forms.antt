@@ -1,7 +1,6 @@
 -- What a binary form keeps of its grammar. Serves the proofs alone.
 use Rattle.std.specs.Prelude.{◌≡◌, ℕ, ◌≤◌, List, [], Some, Bool, length, slice_get}
-use Rattle.spec_lbnf.specs.Expansion.{Expansion, HasOwnSymbols}
-use Rattle.binary_form.specs.Symbols.{symbol_count}
+use Rattle.spec_lbnf.specs.Expansion.{Expansion, HasOwnSymbols, symbol_count}
 use Rattle.binary_form.specs.BinaryForm.{IsClosureOf}
 use Rattle.binary_form.specs.FirstSuffixes.{AreFirstSuffixes}
 use Rattle.binary_form.specs.NullableNumbers.{AreNullableNumbers}

@@ -2,9 +2,9 @@
 use Rattle.std.specs.Prelude.{◌≡◌, ℕ, ◌+◌, ◌<◌, ◌⊎◌, ◌↔◌, List, Option, Some, slice_get, Contains}
 use Rattle.spec_grammar.specs.declared.rule.Symbol.TheVariants.{Kind}
 use Rattle.spec_grammar.specs.declared.rule.Rule.{Rule}
-use Rattle.spec_lbnf.specs.Expansion.{Expansion}
+use Rattle.spec_lbnf.specs.Expansion.{Expansion, symbol_count}
 use Rattle.binary_form.specs.Symbols.{BinarySymbol, plain, BinaryDerives, IsBinarySymbolOf}
-use Rattle.binary_form.specs.Symbols.{symbol_count, number_of}
+use Rattle.binary_form.specs.Symbols.{number_of}
 use Rattle.binary_form.specs.UnitSteps.{Reaches, IsInProduct}
 use Rattle.binary_form.specs.BinaryForm.{IsProductNumber}
 

@@ -1,7 +1,6 @@
 -- Serves the proofs alone. Flags of the symbols that derive the empty span, by number.
 use Rattle.std.specs.Prelude.{◌≡◌, ℕ, ◌+◌, ◌<◌, ◌≤◌, ◌↔◌, ◌⊎◌, List, Bool, IsTrue, length}
-use Rattle.spec_lbnf.specs.Expansion.{Expansion}
-use Rattle.binary_form.specs.Symbols.{symbol_count}
+use Rattle.spec_lbnf.specs.Expansion.{Expansion, symbol_count}
 use Rattle.binary_form.specs.BinaryForm.{IsNullableNumber}
 use Rattle.binary_form.specs.Flags.{IsSet}
 use Rattle.binary_form.specs.declared.rows.SuffixRow.{SuffixRow}

@@ -1,9 +1,8 @@
 -- Serves the proofs alone. The links that the rows of suffixes give.
 use Rattle.std.specs.Prelude.{◌≡◌, ℕ, ◌+◌, ◌<◌, ◌↔◌, ◌⊎◌, List, Bool, Some, IsTrue, IsFalse}
 use Rattle.std.specs.Prelude.{length, slice_get}
-use Rattle.spec_lbnf.specs.Expansion.{Expansion}
+use Rattle.spec_lbnf.specs.Expansion.{Expansion, symbol_count}
 use Rattle.binary_form.specs.declared.rows.SuffixRow.{SuffixRow}
-use Rattle.binary_form.specs.Symbols.{symbol_count}
 use Rattle.binary_form.specs.NumberSteps.{StepNumber}
 use Rattle.binary_form.specs.Links.{HasLink}
 use Rattle.binary_form.specs.Flags.{IsSet}

@@ -25,10 +25,6 @@ IsBinarySymbolOf g (plain s) = IsSymbolOf g s
 IsBinarySymbolOf g (suffix r p) =
     (rule : Rule) × (slice_get g.rules r ≡ Some rule) × (p < length rule.items)
 
--- how many symbols the binary form has: categories, kinds and all items of all rules
-abbrev pub symbol_count : Expansion → ℕ
-symbol_count g = length g.categories + length g.kinds + item_count g.rules
-
 -- the number of a binary symbol: categories first, then kinds, then the suffixes, rule by rule
 abbrev pub number_of : Expansion → BinarySymbol → ℕ
 number_of g (plain (Category c)) = c

@@ -2,8 +2,8 @@
 -- linked to that of the suffix which it begins.
 use Rattle.std.specs.Prelude.{◌≡◌, ℕ, suc, ◌↔◌, List, length}
 use Rattle.spec_grammar.specs.declared.rule.Symbol.{Symbol}
-use Rattle.spec_lbnf.specs.Expansion.{Expansion}
-use Rattle.binary_form.specs.Symbols.{plain, suffix, IsBinarySymbolOf, symbol_count}
+use Rattle.spec_lbnf.specs.Expansion.{Expansion, symbol_count}
+use Rattle.binary_form.specs.Symbols.{plain, suffix, IsBinarySymbolOf}
 use Rattle.binary_form.specs.UnitSteps.{HasItem}
 use Rattle.binary_form.specs.BinaryForm.{IsNumberOf}
 use Rattle.binary_form.specs.Links.{HasLink}

@@ -1,7 +1,6 @@
 //! Making the binary form of a grammar.
 ghost use Rattle.std.specs.Prelude.{◌≡◌, ℕ, ◌<◌, ◌≤◌, ◌↔◌, ◌⊎◌, length, Contains, IfOk};
-ghost use Rattle.spec_lbnf.specs.Expansion.{HasOwnSymbols};
-ghost use Rattle.binary_form.specs.Symbols.{symbol_count};
+ghost use Rattle.spec_lbnf.specs.Expansion.{HasOwnSymbols, symbol_count};
 ghost use Rattle.binary_form.specs.BinaryForm.{IsClosureOf, MakesBinary};
 ghost use Rattle.binary_form.specs.Flags.{IsSet};
 ghost use Rattle.binary_form.specs.Forms.{AreClosures};

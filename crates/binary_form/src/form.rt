@@ -1,8 +1,8 @@
 //! The binary form of a grammar: its symbols' numbers, their closures, and the product of cells.
 ghost use Rattle.std.specs.Prelude.{◌≡◌, ◌<◌, ◌≤◌, ◌↔◌, Some, IsTrue, IfOk};
-ghost use Rattle.spec_lbnf.specs.Expansion.{IsSymbolOf};
+ghost use Rattle.spec_lbnf.specs.Expansion.{IsSymbolOf, symbol_count};
 ghost use Rattle.binary_form.specs.Symbols.{plain, suffix, IsBinarySymbolOf};
-ghost use Rattle.binary_form.specs.Symbols.{symbol_count, number_of};
+ghost use Rattle.binary_form.specs.Symbols.{number_of};
 ghost use Rattle.binary_form.specs.BinaryForm.{IsNullableNumber, IsClosureOf, IsTokenCell};
 ghost use Rattle.binary_form.specs.BinaryForm.{IsProductOf, HasProduct};
 ghost use Rattle.binary_form.specs.Forms.{AreParts};

@@ -1,7 +1,7 @@
 //! Which symbols derive the empty span, as flags by number.
 ghost use Rattle.std.specs.Prelude.{◌↔◌, ◌<◌, ◌^◌, length, IsTrue, IfOk};
 ghost use Rattle.lbnf_grammar.specs.Nullable.{AreNullableFlags};
-ghost use Rattle.binary_form.specs.Symbols.{symbol_count};
+ghost use Rattle.spec_lbnf.specs.Expansion.{symbol_count};
 ghost use Rattle.binary_form.specs.Flags.{IsSet};
 ghost use Rattle.binary_form.specs.Rows.{AreRows, IsRowWithin};
 ghost use Rattle.binary_form.specs.NullableNumbers.{AreNullableNumbers, AreNullableFrom};

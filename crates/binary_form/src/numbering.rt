@@ -1,7 +1,7 @@
 //! How many symbols there are, and their numbers: categories, then kinds, then suffixes.
 ghost use Rattle.std.specs.Prelude.{◌≡◌, ◌+◌, ◌<◌, ◌^◌, length, IfOk};
-ghost use Rattle.spec_lbnf.specs.Expansion.{IsSymbolOf};
-ghost use Rattle.binary_form.specs.Symbols.{plain, symbol_count};
+ghost use Rattle.spec_lbnf.specs.Expansion.{IsSymbolOf, symbol_count};
+ghost use Rattle.binary_form.specs.Symbols.{plain};
 ghost use Rattle.binary_form.specs.BinaryForm.{IsNumberOf};
 ghost use Rattle.binary_form.specs.FirstSuffixes.{AreFirstSuffixes};
 

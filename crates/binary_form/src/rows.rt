@@ -1,8 +1,7 @@
 //! One row for each suffix, in the order of their numbers: what the rules say, without the rules.
 ghost use Rattle.std.specs.Prelude.{◌≡◌, ◌+◌, ◌<◌, ◌^◌, length, take, slice_get, Some, IfOk, OnOk};
 ghost use Rattle.spec_grammar.specs.declared.rule.Rule.{Rule};
-ghost use Rattle.spec_lbnf.specs.Expansion.{item_count};
-ghost use Rattle.binary_form.specs.Symbols.{symbol_count};
+ghost use Rattle.spec_lbnf.specs.Expansion.{item_count, symbol_count};
 ghost use Rattle.binary_form.specs.Rows.{IsRow, AreRowsUpTo, AreRows};
 
 use crate::numbering::number;

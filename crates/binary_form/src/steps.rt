@@ -1,6 +1,6 @@
 //! The unit steps of a grammar, and where its suffixes go on, as links between numbers.
 ghost use Rattle.std.specs.Prelude.{◌↔◌, ◌≡◌, ◌<◌, ◌^◌, ◌+◌, length, IsTrue, IsFalse, IfOk, OnOk};
-ghost use Rattle.binary_form.specs.Symbols.{symbol_count};
+ghost use Rattle.spec_lbnf.specs.Expansion.{symbol_count};
 ghost use Rattle.binary_form.specs.Links.{AddsLinks};
 ghost use Rattle.binary_form.specs.Wholes.{AreWholes};
 ghost use Rattle.binary_form.specs.Flags.{IsSet};

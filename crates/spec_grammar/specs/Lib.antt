@@ -1,4 +1,5 @@
 pub mod Trees
 pub mod Derivation
+pub mod Cycles
 pub mod Laws
 pub mod Examples

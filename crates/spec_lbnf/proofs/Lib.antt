@@ -1,8 +1,9 @@
-pub mod RunLemmas
-pub mod TokenLemmas
-pub mod FrontLemmas
-pub mod ReadingLemmas
-pub mod FileLemmas
 pub mod CheckLemmas
+pub mod CycleLemmas
+pub mod FileLemmas
+pub mod FrontLemmas
 pub mod NameLemmas
+pub mod ReadingLemmas
+pub mod RunLemmas
 pub mod SymbolLemmas
+pub mod TokenLemmas

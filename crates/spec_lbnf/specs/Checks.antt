@@ -1,9 +1,10 @@
--- What makes definitions unfit for a grammar: a category that no rule has.
+-- What makes definitions unfit for a grammar: a category that no rule has, or one that reaches itself.
 use Rattle.std.specs.Prelude.{◌≡◌, ℕ, ◌<◌, List, ◌∷◌, ◌++◌, map, slice_get, Some, All, Contains}
+use Rattle.spec_grammar.specs.Cycles.{IsCyclic}
 use Rattle.spec_lbnf.specs.declared.definition.RawRule.{RawRule}
 use Rattle.spec_lbnf.specs.declared.definition.Def.{Def}
 use Rattle.spec_lbnf.specs.declared.definition.Def.TheVariants.{Rule as RuleDef}
-use Rattle.spec_lbnf.specs.Expansion.{category_text, rules_of, item_categories}
+use Rattle.spec_lbnf.specs.Expansion.{Expansion, category_text, rules_of, item_categories}
 
 -- some rule has the category of this text
 abbrev pub IsKnown : List Def → List ℕ → Type 0
@@ -27,3 +28,10 @@ pub record IsFirstUnknown (defs : List Def) (name : List ℕ) (number : ℕ) : T
   pub unknown : IsKnown defs name → ⊥
   pub known_before : All (IsKnown defs) before
   pub earlier : (k : ℕ) (def : Def) → k < number → slice_get defs k ≡ Some def → NamesKnown defs def
+
+-- the first cyclic category is the one of this text: it reaches itself by steps, and none of a lesser number does
+pub record IsFirstCyclic (g : Expansion) (name : List ℕ) : Type 0 where
+  pub category : ℕ
+  pub is_category : slice_get g.categories category ≡ Some name
+  pub cyclic : IsCyclic g.rules category
+  pub earlier : (c : ℕ) → c < category → IsCyclic g.rules c → ⊥

@@ -1,5 +1,5 @@
 -- The grammar that definitions stand for: its rules in file order, and the numbers of its categories and kinds.
-use Rattle.std.specs.Prelude.{◌≡◌, ℕ, ◌<◌, List, [], ◌∷◌, ◌++◌, length, map, filter, flat_map, All}
+use Rattle.std.specs.Prelude.{◌≡◌, ℕ, ◌+◌, ◌<◌, List, [], ◌∷◌, ◌++◌, length, map, filter, flat_map, All}
 use Rattle.std.specs.Prelude.{not, replicate, bytes_eq, Some, slice_get}
 use Rattle.std.specs.List.{position_or_len, sum_by}
 use Rattle.spec_grammar.specs.declared.rule.Symbol.{Symbol}
@@ -36,6 +36,10 @@ HasOwnSymbols g = (r : ℕ) (rule : Rule) → slice_get g.rules r ≡ Some rule 
 -- how many items the rules have together
 abbrev pub item_count : List Rule → ℕ
 item_count rules = sum_by (λ (rule : Rule). length rule.items) rules
+
+-- how many symbols a chart of the grammar has to tell apart: categories, kinds and all items of all rules
+abbrev pub symbol_count : Expansion → ℕ
+symbol_count g = length g.categories + length g.kinds + item_count g.rules
 
 -- the text of a category: its name inside its brackets
 abbrev pub category_text : CatName → List ℕ

@@ -3,10 +3,11 @@ use Rattle.std.specs.Prelude.{◌≡◌, ℕ, ◌⊎◌, ◌↔◌, List, [], �
 use Rattle.spec_grammar.specs.declared.rule.Symbol.{Symbol}
 use Rattle.spec_grammar.specs.declared.rule.Symbol.TheVariants.{Category, Kind}
 use Rattle.spec_grammar.specs.declared.rule.Rule.{Rule}
+use Rattle.spec_grammar.specs.Cycles.{IsAcyclic}
 use Rattle.spec_lbnf.specs.declared.definition.Def.{Def}
 use Rattle.spec_lbnf.specs.FirstForm.{Spells, IsFirstUnbuilt}
-use Rattle.spec_lbnf.specs.Expansion.{distinct, number_of, expansion_of, HasOwnSymbols}
-use Rattle.spec_lbnf.specs.Checks.{AreAllKnown, IsFirstUnknown}
+use Rattle.spec_lbnf.specs.Expansion.{Expansion, distinct, number_of, expansion_of, HasOwnSymbols}
+use Rattle.spec_lbnf.specs.Checks.{AreAllKnown, IsFirstUnknown, IsFirstCyclic}
 
 -- no file both spells definitions and has a first piece that is not built
 abbrev pub SpelledOrUnbuilt : Type 0
@@ -49,6 +50,16 @@ abbrev pub OneUnknown : Type 0
 OneUnknown =
     (defs : List Def) (a b : List ℕ) (i j : ℕ) → IsFirstUnknown defs a i → IsFirstUnknown defs b j
     → (a ≡ b) × (i ≡ j)
+
+-- no grammar both is without a cycle and has a first cyclic category
+abbrev pub AcyclicOrCyclic : Type 0
+AcyclicOrCyclic =
+    (g : Expansion) (name : List ℕ) → IsAcyclic g.rules → IsFirstCyclic g name → ⊥
+
+-- at most one text is that of the first cyclic category
+abbrev pub OneCyclic : Type 0
+OneCyclic =
+    (g : Expansion) (a b : List ℕ) → IsFirstCyclic g a → IsFirstCyclic g b → a ≡ b
 
 -- the number of a listed name is a place where that name stands
 abbrev pub NumbersNameBack : Type 0

@@ -1,7 +1,7 @@
 //! Laws of the definitions: each function here does nothing, and its clause is a theorem.
 ghost use Rattle.spec_lbnf.specs.Laws.{SpelledOrUnbuilt, OneSpelling, OneUnbuilt, SimpleSides};
 ghost use Rattle.spec_lbnf.specs.Laws.{OwnSymbols, FitOrUnknown, OneUnknown, NumbersNameBack};
-ghost use Rattle.spec_lbnf.specs.Laws.{DistinctNames};
+ghost use Rattle.spec_lbnf.specs.Laws.{AcyclicOrCyclic, OneCyclic, DistinctNames};
 
 /// No file both spells definitions and has a piece that is not built.
 pub fn spelled_or_unbuilt()
@@ -31,6 +31,13 @@ pub fn own_symbols()
 pub fn fit_or_unknown()
     ensures either { FitOrUnknown }
     ensures one { OneUnknown }
+{}
+
+/// No grammar both is without a cycle and has a first cyclic category, and at most one text is that
+/// of the first.
+pub fn acyclic_or_cyclic()
+    ensures either { AcyclicOrCyclic }
+    ensures one { OneCyclic }
 {}
 
 /// The number of a listed name is a place where that name stands.

@@ -6,6 +6,6 @@ mod laws;
 
 pub use definition::{CatName, Def, RawItem, RawRule};
 pub use laws::{
-    distinct_names, fit_or_unknown, numbers_name_back, one_spelling, own_symbols, simple_sides,
+    acyclic_or_cyclic, distinct_names, fit_or_unknown, numbers_name_back, one_spelling, own_symbols, simple_sides,
     spelled_or_unbuilt,
 };

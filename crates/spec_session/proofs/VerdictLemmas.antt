@@ -7,11 +7,13 @@ use Rattle.std.proofs.lemmas.Option.{same_Some, slice_get_within}
 use Rattle.spec_lbnf.specs.declared.definition.Def.{Def}
 use Rattle.spec_lbnf.specs.declared.definition.Def.TheVariants.{Rule as RuleDef}
 use Rattle.spec_lbnf.specs.FirstForm.{pieces_of, SpellsDef, Spells, IsFirstUnbuilt}
-use Rattle.spec_lbnf.specs.Expansion.{Expansion, expansion_of, item_categories}
-use Rattle.spec_lbnf.specs.Checks.{IsKnown, NamesKnown, AreAllKnown, IsFirstUnknown}
+use Rattle.spec_lbnf.specs.Expansion.{Expansion, HasOwnSymbols, expansion_of, item_categories, symbol_count}
+use Rattle.spec_lbnf.specs.Checks.{IsKnown, NamesKnown, AreAllKnown, IsFirstUnknown, IsFirstCyclic}
 use Rattle.spec_lbnf.proofs.FileLemmas.{item_at}
-use Rattle.spec_session.specs.Replies.{IsAccepted, IsRefused, unbuilt, unknown, unbuilt_line, unknown_line}
-use Rattle.spec_session.proofs.DenialLemmas.{IsUndeniable, FirstWithout, AllOrFirst, all_or_first, at_each_place, first_place, holds_earlier}
+use Rattle.spec_lbnf.proofs.SymbolLemmas.{own_symbols}
+use Rattle.spec_grammar.specs.Cycles.{IsCyclic, IsAcyclic}
+use Rattle.spec_session.specs.Replies.{IsAccepted, IsRefused, unbuilt, unfit, AreFit, AreUnfit, unknown, cyclic, crowded, unbuilt_line, unknown_line, cyclic_line, symbols_line}
+use Rattle.spec_session.proofs.DenialLemmas.{IsUndeniable, decided, FirstWithout, AllOrFirst, all_or_first, at_each_place, first_place, holds_earlier}
 
 -- the piece spells some definition
 abbrev IsBuilt : List ℕ → Type 0
@@ -170,6 +172,59 @@ module _ (defs : List Def) where
             denied (inr (found.0, number, found.1)))
       ])
 
+module _ (g : Expansion) where
+  -- no category of a lesser number than this reaches itself
+  abbrev AreAcyclicBelow : ℕ → Type 0
+  AreAcyclicBelow n = (c : ℕ) → c < n → IsCyclic g.rules c → ⊥
+
+  -- the category reaches itself, and none of a lesser number does
+  abbrev IsLeastCyclic : ℕ → Type 0
+  IsLeastCyclic c = IsCyclic g.rules c × AreAcyclicBelow c
+
+  -- no category below this number reaches itself, or there is a least one that does
+  abbrev AreAcyclicOrNot : ℕ → Type 0
+  AreAcyclicOrNot n = AreAcyclicBelow n ⊎ ((c : ℕ) × (c < n) × IsLeastCyclic c)
+
+  -- one more category keeps it so, whether or not it reaches itself
+  one_more_category : (n : ℕ) → AreAcyclicBelow n →
+      IsCyclic g.rules n ⊎ (IsCyclic g.rules n → ⊥) → AreAcyclicOrNot (suc n)
+  one_more_category n below (inl reaches) = inr (n, omega arith, (reaches, below))
+  one_more_category n below (inr acyclic) = inl (λ c lt is. elim (cases_lt c n) [
+    | inl before ↦ below c before is
+    | inr behind ↦
+        let same : c ≡ n = omega arith in
+        acyclic (subst (IsCyclic g.rules) same is)
+  ])
+
+  -- that one of the two is so cannot be denied
+  acyclic_or_not : (n : ℕ) → IsUndeniable (AreAcyclicOrNot n)
+  acyclic_or_not zero denied = denied (inl (λ c lt is. omega arith))
+  acyclic_or_not (suc n) denied =
+      acyclic_or_not n (λ (split : AreAcyclicOrNot n). elim split [
+        | inl below ↦ decided (IsCyclic g.rules n)
+            (λ (last : IsCyclic g.rules n ⊎ (IsCyclic g.rules n → ⊥)).
+            denied (one_more_category n below last))
+        | inr least ↦ denied (inr (least.0, omega (arith, least.1), least.2))
+      ])
+
+  -- a category that reaches itself has a rule, so it is one of the grammar
+  cyclic_within : HasOwnSymbols g → (c : ℕ) → IsCyclic g.rules c → c < length g.categories
+  cyclic_within own c is =
+      let first = is.1.1 in
+      let within = (own first.r first.rule first.is_rule).0 in
+      omega (arith, first.is_of, within)
+
+  -- where there is no cycle below the count of categories, there is none
+  all_acyclic : HasOwnSymbols g → AreAcyclicBelow (length g.categories) → IsAcyclic g.rules
+  all_acyclic own below c is = below c (cyclic_within own c is) is
+
+  -- the least category that reaches itself is the first cyclic one, by its text
+  first_cyclic : (c : ℕ) → c < length g.categories → IsLeastCyclic c
+      → (name : List ℕ) × IsFirstCyclic g name
+  first_cyclic c lt least =
+      let name = item_at g.categories c lt in
+      (name.0, record { category = c; is_category = name.1; cyclic = least.0; earlier = least.1 })
+
 -- the block is accepted as a grammar or refused by a line
 abbrev pub HasVerdict : List ℕ → Type 0
 HasVerdict block =
@@ -183,11 +238,37 @@ some_verdict block denied =
       | inr first ↦ denied (inr (unbuilt_line first.0, unbuilt first.0 first.1 refl))
     ])
   where
+    by_count : (defs : List Def) → Spells block defs → AreAllKnown defs
+        → IsAcyclic (expansion_of defs).rules → ⊥
+    by_count defs spelled known acyclic =
+        let count : ℕ = symbol_count (expansion_of defs) in
+        elim (cases_lt 2048 count) [
+          | inl many ↦
+              denied (inr (symbols_line count, unfit defs spelled (crowded known acyclic many refl)))
+          | inr few ↦
+              let fit : AreFit defs = record { known = known; acyclic = acyclic; few = few } in
+              denied (inl (expansion_of defs, (defs, spelled, fit, refl)))
+        ]
+
+    by_cycles : (defs : List Def) → Spells block defs → AreAllKnown defs → ⊥
+    by_cycles defs spelled known =
+        let g : Expansion = expansion_of defs in
+        let own : HasOwnSymbols g = own_symbols defs in
+        acyclic_or_not g (length g.categories)
+        (λ (split : AreAcyclicOrNot g (length g.categories)). elim split [
+          | inl below ↦ by_count defs spelled known (all_acyclic g own below)
+          | inr least ↦
+              let first = first_cyclic g least.0 least.1 least.2 in
+              let why : AreUnfit defs (cyclic_line first.0) = cyclic first.0 known first.1 refl in
+              denied (inr (cyclic_line first.0, unfit defs spelled why))
+        ])
+
     by_categories : (defs : List Def) → Spells block defs → ⊥
     by_categories defs spelled =
         known_or_not defs (λ (split : AreKnownOrNot defs). elim split [
-          | inl known ↦ denied (inl (expansion_of defs, (defs, spelled, known, refl)))
+          | inl known ↦ by_cycles defs spelled known
           | inr first ↦
               let line : List ℕ = unknown_line first.0 first.1 in
-              denied (inr (line, unknown defs first.0 first.1 spelled first.2 refl))
+              let why : AreUnfit defs line = unknown first.0 first.1 first.2 refl in
+              denied (inr (line, unfit defs spelled why))
         ])

@@ -4,12 +4,13 @@ use Rattle.std.specs.Prelude.{slice_get, Some}
 use Rattle.spec_grammar.specs.declared.rule.Rule.{Rule}
 use Rattle.spec_grammar.specs.declared.rule.Symbol.TheVariants.{Category}
 use Rattle.spec_grammar.specs.Derivation.{Derives}
+use Rattle.spec_grammar.specs.Cycles.{IsAcyclic}
 use Rattle.spec_lexing.specs.declared.token.Token.{Token}
 use Rattle.spec_lexing.specs.Tokens.{AreTokensOf, kinds_of}
 use Rattle.spec_lbnf.specs.declared.definition.Def.{Def}
 use Rattle.spec_lbnf.specs.FirstForm.{Spells, IsFirstUnbuilt}
-use Rattle.spec_lbnf.specs.Expansion.{Expansion, expansion_of}
-use Rattle.spec_lbnf.specs.Checks.{AreAllKnown, IsFirstUnknown}
+use Rattle.spec_lbnf.specs.Expansion.{Expansion, expansion_of, symbol_count}
+use Rattle.spec_lbnf.specs.Checks.{AreAllKnown, IsFirstUnknown, IsFirstCyclic}
 use Rattle.spec_session.specs.Script.{Constituent, entry_whole, category_whole, category_span}
 use Rattle.spec_session.specs.Script.{Command, header, grammar, opens, has}
 
@@ -17,10 +18,16 @@ use Rattle.spec_session.specs.Script.{Command, header, grammar, opens, has}
 abbrev pub as_line : List ℕ → List ℕ
 as_line bytes = bytes ++ 10 ∷ []
 
+-- the definitions are fit for a grammar: each category that they name has a rule, none reaches itself, and there are
+-- at most 2,048 symbols
+pub record AreFit (defs : List Def) : Type 0 where
+  pub known : AreAllKnown defs
+  pub acyclic : IsAcyclic (expansion_of defs).rules
+  pub few : symbol_count (expansion_of defs) ≤ 2048
+
 -- the block is accepted as this grammar
 abbrev pub IsAccepted : List ℕ → Expansion → Type 0
-IsAccepted block g =
-    (defs : List Def) × Spells block defs × AreAllKnown defs × (g ≡ expansion_of defs)
+IsAccepted block g = (defs : List Def) × Spells block defs × AreFit defs × (g ≡ expansion_of defs)
 
 -- the reply to a grammar that is accepted: how many rules, categories and kinds it has
 abbrev pub grammar_reply : Expansion → List ℕ
@@ -38,12 +45,31 @@ abbrev pub unknown_line : List ℕ → ℕ → List ℕ
 unknown_line name number =
     codes "grammar refused category " ++ (name ++ (codes " " ++ as_line (decimal number)))
 
--- the block is refused with this line, for its first definition that is not built, or else for its first unknown category
+-- the line that refuses a grammar for a category that reaches itself
+abbrev pub cyclic_line : List ℕ → List ℕ
+cyclic_line name = codes "grammar refused cyclic " ++ as_line name
+
+-- the line that refuses a grammar for its count of symbols
+abbrev pub symbols_line : ℕ → List ℕ
+symbols_line count = codes "grammar refused symbols " ++ as_line (decimal count)
+
+-- the definitions are refused with this line, for their first unknown category, or else for the first that reaches
+-- itself, or else for too many symbols
+pub data AreUnfit (defs : List Def) (line : List ℕ) : Type 0 where
+  unknown : (name : List ℕ) (number : ℕ) → IsFirstUnknown defs name number
+      → line ≡ unknown_line name number → AreUnfit defs line
+  cyclic : (name : List ℕ) → AreAllKnown defs → IsFirstCyclic (expansion_of defs) name
+      → line ≡ cyclic_line name → AreUnfit defs line
+  crowded : AreAllKnown defs → IsAcyclic (expansion_of defs).rules
+      → 2048 < symbol_count (expansion_of defs)
+      → line ≡ symbols_line (symbol_count (expansion_of defs)) → AreUnfit defs line
+
+-- the block is refused with this line, for its first definition that is not built, or else since its definitions are
+-- unfit
 pub data IsRefused (block line : List ℕ) : Type 0 where
   unbuilt : (number : ℕ) → IsFirstUnbuilt block number → line ≡ unbuilt_line number
       → IsRefused block line
-  unknown : (defs : List Def) (name : List ℕ) (number : ℕ) → Spells block defs
-      → IsFirstUnknown defs name number → line ≡ unknown_line name number → IsRefused block line
+  unfit : (defs : List Def) → Spells block defs → AreUnfit defs line → IsRefused block line
 
 -- the reply to a text: its version's number and how many tokens it has
 abbrev pub version_reply : ℕ → ℕ → List ℕ
