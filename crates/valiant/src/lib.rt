@@ -1,6 +1,5 @@
 //! Charts: for each span of a text's tokens, the symbols that derive it (Valiant 1975).
 #![tactic(auto)]
 
-mod laws;
-
-pub use laws::leaf_stands_for_no_tokens;
+mod filling;
+mod rows;

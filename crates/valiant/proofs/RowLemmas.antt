@@ -1,0 +1,76 @@
+-- What a row has for the span up to an end.
+use Rattle.std.proofs.Common.{◌≡◌, ℕ, zero, suc, ◌+◌, ◌-◌, ◌<◌, ◌≤◌, ◌≢◌, ◌⊎◌, List, [], ◌∷◌, ◌++◌, length, get_or, slice_get, Some, if◌then◌else◌, ◌==◌, refl, sym, ap, inl, inr, arith, Contains}
+use Rattle.std.specs.Prelude.{Result, Ok, Err}
+use Rattle.std.specs.List.Sorted.{IsSearchInRange, IsBinarySearchResult, IsNonDecreasingBy}
+use Rattle.std.specs.Ordering.{nat_cmp, ordering_index}
+use Rattle.std.proofs.lemmas.Cmp.{ranked}
+use Rattle.std.proofs.lemmas.Bool.Decides.{nat_tests}
+use Rattle.valiant.specs.declared.rows.Entry.{Entry}
+use Rattle.valiant.specs.Rows.{found, HasRisingEnds, IsPlaceOf}
+
+module _ {C : Type 0} where
+  -- behind its first entry a row has rising ends
+  pub rising_tail : (e : Entry C) (row : List (Entry C)) → HasRisingEnds (e ∷ row) → HasRisingEnds row
+  rising_tail e row rising m n d order within = rising (suc m) (suc n) d (omega arith) (omega arith)
+
+  module _ (row : List (Entry C)) (rising : HasRisingEnds row) (end : ℕ) where
+    -- the comparisons with an end rise along the row, as a binary search asks
+    comparisons_rise : IsNonDecreasingBy (λ (e : Entry C). ordering_index (nat_cmp e.end end)) row
+    comparisons_rise i j d order within =
+        let rise : (get_or row i d).end ≤ (get_or row j d).end =
+        grind (arith, rising i j d, λ (same : i ≡ j). ap (λ n. (get_or row n d).end) same) in
+        grind (arith, nat_tests)
+
+    -- a binary search by ends answers the place of an end
+    pub searched :
+        (place : Result ℕ ℕ) → IsSearchInRange place (length row)
+        → IsBinarySearchResult (λ (e : Entry C). nat_cmp e.end end) row place
+        → IsPlaceOf row end place
+    searched (Ok at) within equal = (within, λ d. ranked _ end _ (sym (equal d)))
+    searched (Err at) within parted = λ k d in_row same.
+        let side : (k < at) ⊎ (at ≤ k) = grind arith in
+        elim side [
+          | inl before ↦
+              let below : (get_or row k d).end < end =
+              ranked _ end _ (sym ((parted comparisons_rise).0 k d (omega arith) before)) in
+              omega (arith, below, same)
+          | inr behind ↦
+              let above : end < (get_or row k d).end =
+              ranked _ end _ (sym ((parted comparisons_rise).1 k d behind in_row)) in
+              omega (arith, above, same)
+        ]
+
+  module _ (symbols : C → List ℕ) where
+    -- at the end of its first entry a row has the symbols of that entry
+    pub found_first :
+        (e : Entry C) (row : List (Entry C)) (end : ℕ)
+        → e.end ≡ end → found symbols (e ∷ row) end ≡ symbols e.cell
+    found_first e row end same = grind (arith, nat_tests)
+
+    -- at another end it has what the entries behind have
+    pub found_behind :
+        (e : Entry C) (row : List (Entry C)) (end : ℕ)
+        → e.end ≢ end → found symbols (e ∷ row) end ≡ found symbols row end
+    found_behind e row end other = grind (arith, nat_tests)
+
+    -- where no entry has the end, the row has nothing for it
+    pub found_none :
+        (row : List (Entry C)) (end : ℕ)
+        → ((k : ℕ) (d : Entry C) → k < length row → (get_or row k d).end ≢ end)
+        → found symbols row end ≡ []
+    found_none [] end missing = refl
+    found_none (e ∷ row) end missing =
+        rw (found_behind e row end (missing 0 e (omega arith)))
+        (found_none row end (λ k d within. missing (suc k) d (omega arith)))
+
+    -- where the entry at a place has the end, the row has the symbols of that entry
+    pub found_place :
+        (row : List (Entry C)) (end at : ℕ) (d : Entry C)
+        → HasRisingEnds row → at < length row → (get_or row at d).end ≡ end
+        → found symbols row end ≡ symbols (get_or row at d).cell
+    found_place [] end at d rising within same = absurd (omega arith)
+    found_place (e ∷ row) end zero d rising within same = found_first e row end same
+    found_place (e ∷ row) end (suc at) d rising within same =
+        let before : e.end < (get_or row at d).end = rising 0 (suc at) d (omega arith) within in
+        rw (found_behind e row end (λ is. omega (arith, before, same, is)))
+        (found_place row end at d (rising_tail e row rising) (omega arith) same)
