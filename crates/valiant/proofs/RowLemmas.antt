@@ -1,9 +1,10 @@
 -- What a row has for the span up to an end.
-use Rattle.std.proofs.Common.{◌≡◌, ℕ, zero, suc, ◌+◌, ◌-◌, ◌<◌, ◌≤◌, ◌≢◌, ◌⊎◌, List, [], ◌∷◌, ◌++◌, length, get_or, slice_get, Some, if◌then◌else◌, ◌==◌, refl, sym, ap, inl, inr, arith, Contains}
+use Rattle.std.proofs.Common.{◌≡◌, ℕ, zero, suc, ◌+◌, ◌-◌, ◌<◌, ◌≤◌, ◌≢◌, ◌⊎◌, List, [], ◌∷◌, ◌++◌, length, get_or, slice_get, Some, if◌then◌else◌, ◌==◌, refl, sym, ◌∙◌, ap, inl, inr, arith, Contains}
 use Rattle.std.specs.Prelude.{Result, Ok, Err}
 use Rattle.std.specs.List.Sorted.{IsSearchInRange, IsBinarySearchResult, IsNonDecreasingBy}
 use Rattle.std.specs.Ordering.{nat_cmp, ordering_index}
 use Rattle.std.proofs.lemmas.Cmp.{ranked}
+use Rattle.std.proofs.lemmas.Option.{slice_get_within, get_or_from_slice_get}
 use Rattle.std.proofs.lemmas.Bool.Decides.{nat_tests}
 use Rattle.valiant.specs.declared.rows.Entry.{Entry}
 use Rattle.valiant.specs.Rows.{found, HasRisingEnds, IsPlaceOf}
@@ -74,3 +75,45 @@ module _ {C : Type 0} where
         let before : e.end < (get_or row at d).end = rising 0 (suc at) d (omega arith) within in
         rw (found_behind e row end (λ is. omega (arith, before, same, is)))
         (found_place row end at d (rising_tail e row rising) (omega arith) same)
+
+    -- where an entry stands in the row, the row has its symbols up to its end
+    pub found_entry :
+        (row : List (Entry C)) (at : ℕ) (e : Entry C)
+        → HasRisingEnds row → slice_get row at ≡ Some e → found symbols row e.end ≡ symbols e.cell
+    found_entry row at e rising is =
+        let same : get_or row at e ≡ e = get_or_from_slice_get row at e e is in
+        let within = slice_get_within row at e is in
+        found_place row e.end at e rising within (ap (λ (d : Entry C). d.end) same)
+        ∙ ap (λ (d : Entry C). symbols d.cell) same
+
+    -- the entry up to this end stands at the place
+    pub record StandsAt (row : List (Entry C)) (end at : ℕ) : Type 0 where
+      pub e : Entry C
+      pub is : slice_get row at ≡ Some e
+      pub same_end : e.end ≡ end
+      pub same_symbols : found symbols row end ≡ symbols e.cell
+
+    -- what a row has for the span up to an end stands in one of its entries
+    pub entry_found :
+        (row : List (Entry C)) (end n : ℕ)
+        → Contains (found symbols row end) n → (at : ℕ) × StandsAt row end at
+    entry_found [] end n has = absurd (omega (arith, has.1))
+    entry_found (e ∷ row) end n has =
+        let side : (e.end ≡ end) ⊎ (e.end ≢ end) = grind arith in
+        elim side [
+          | inl same ↦ (0, record {
+              e = e;
+              is = refl;
+              same_end = same;
+              same_symbols = found_first e row end same;
+            })
+          | inr other ↦
+              let skip : found symbols (e ∷ row) end ≡ found symbols row end = found_behind e row end other in
+              let x = entry_found row end n (rw skip at has) in
+              (suc x.0, record {
+                e = x.1.e;
+                is = x.1.is;
+                same_end = x.1.same_end;
+                same_symbols = skip ∙ x.1.same_symbols;
+              })
+        ]
