@@ -1,5 +1,6 @@
 -- What the cuts of a span give, and that this is what derives it.
-use Rattle.std.proofs.Common.{◌≡◌, ℕ, zero, suc, ◌+◌, ◌-◌, ◌<◌, ◌≤◌, ◌⊎◌, ◌↔◌, List, [], ◌∷◌, Option, Some, None, length, slice_get, drop, length-drop, refl, sym, ◌∙◌, ap, subst, inl, inr, arith, Contains}
+use Rattle.std.proofs.Common.{◌≡◌, ℕ, zero, suc, ◌+◌, ◌-◌, ◌<◌, ◌≤◌, ◌⊎◌, ◌↔◌, List, [], ◌∷◌, Option, Some, None, length, slice_get, get_or, drop, length-drop, refl, sym, ◌∙◌, ap, subst, inl, inr, arith, Contains}
+use Rattle.std.proofs.lemmas.Option.{slice_get-get_or}
 use Rattle.spec_grammar.specs.declared.rule.Symbol.{Symbol}
 use Rattle.spec_grammar.specs.declared.rule.Symbol.TheVariants.{Kind}
 use Rattle.spec_grammar.specs.declared.rule.Rule.{Rule}
@@ -17,7 +18,7 @@ use Rattle.binary_form.proofs.ReachLemmas.{step_symbol}
 use Rattle.binary_form.proofs.ProductLemmas.{products_agree}
 use Rattle.binary_form.proofs.ClosureLemmas.{closure_is_derivation}
 use Rattle.valiant.specs.Charts.{IsEntryOf}
-use Rattle.valiant.specs.Filling.{AddsProduct}
+use Rattle.valiant.specs.Filling.{AddsProduct, HasSame}
 
 -- a union with the product of two cells adds the product
 pub adds_product :
@@ -26,6 +27,17 @@ pub adds_product :
 adds_product g left right old product new is union n = (
   (λ has. elim ((union n).0 has) [ inl kept ↦ inl kept | inr made ↦ inr ((is n).0 made) ]),
   (elim [ inl kept ↦ (union n).1 (inl kept) | inr made ↦ (union n).1 (inr ((is n).1 made)) ]),
+)
+
+-- a union with nothing has the same numbers
+pub same_union :
+    (none one other : List ℕ) → none ≡ [] → IsUnion none one other → HasSame one other
+same_union none one other empty union n = (
+  (λ has. elim ((union n).0 has) [
+    | inl kept ↦ let nothing : Contains [] n = rw empty at kept in absurd (omega (arith, nothing.1))
+    | inr it ↦ it
+  ]),
+  (λ has. (union n).1 (inr has)),
 )
 
 -- trees that cover a span that is not empty are those of at least one item
@@ -61,7 +73,7 @@ module _ (g : Expansion) (own : HasOwnSymbols g) where
 
   module _ (kinds : List (Option ℕ)) where
     -- the cell of a token has just the symbols that derive it
-    pub token_entry :
+    token_entry :
         (i : ℕ) (kind : Option ℕ) (cell : List ℕ)
         → slice_get kinds i ≡ Some kind → IsTokenCell g kind cell → IsEntryOf g kinds i (i + 1) cell
     token_entry i kind cell is_kind is n = (to, from)
@@ -79,6 +91,15 @@ module _ (g : Expansion) (own : HasOwnSymbols g) where
               (is n).1 (k, same, source_symbol (Kind k) a reaches number.0, (a, number, reaches))
           | inr (k, after, before, made) ↦ absurd (omega (arith, after, before))
         ]
+
+    -- and so has a cell with the same numbers, for the span of that token
+    pub one_token_entry :
+        (i end : ℕ) (cell copy : List ℕ)
+        → i < length kinds → end ≡ i + 1 → IsTokenCell g (get_or kinds i None) cell → HasSame cell copy
+        → IsEntryOf g kinds i end copy
+    one_token_entry i end cell copy within one is same n =
+        let token = token_entry i (get_or kinds i None) cell (slice_get-get_or kinds i None within) is n in
+        rw one ((λ has. token.0 ((same n).0 has)), (λ derived. (same n).1 (token.1 derived)))
 
     -- an entry has the symbols that derive its span
     has_derived :

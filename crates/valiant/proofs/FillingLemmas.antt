@@ -1,16 +1,17 @@
 -- Rows that are filled: each step keeps what they have, and all cuts of a span are those at a row's entries.
-use Rattle.std.proofs.Common.{◌≡◌, ℕ, zero, suc, ◌+◌, ◌-◌, ◌<◌, ◌≤◌, ◌⊎◌, ◌↔◌, List, [], ◌∷◌, ◌++◌, Option, Some, None, length, slice_get, get_or, refl, sym, ◌∙◌, ap, subst, inl, inr, arith, Contains}
+use Rattle.std.proofs.Common.{◌≡◌, ℕ, zero, suc, ◌+◌, ◌-◌, ◌<◌, ◌≤◌, ◌≢◌, ◌⊎◌, ◌↔◌, List, [], ◌∷◌, ◌++◌, Option, Some, None, length, slice_get, get_or, refl, sym, ◌∙◌, ap, subst, inl, inr, arith, Contains}
 use Rattle.std.proofs.lemmas.Option.{slice_get_within, get_or_from_slice_get, slice_get-get_or, slice_get_read}
 use Rattle.std.proofs.lemmas.List.{get_or_read}
 use Rattle.spec_lbnf.specs.Expansion.{Expansion, HasOwnSymbols}
 use Rattle.binary_form.specs.Symbols.{BinarySymbol, BinaryDerives, IsBinarySymbolOf, number_of}
 use Rattle.binary_form.specs.BinaryForm.{IsNumberOf, IsProductNumber}
+use Rattle.binary_form.proofs.BuildLemmas.{each_pushed}
 use Rattle.binary_form.proofs.ClosureLemmas.{closure_is_derivation}
 use Rattle.valiant.specs.declared.rows.Entry.{Entry}
 use Rattle.valiant.specs.Charts.{IsEntryOf}
 use Rattle.valiant.specs.Rows.{found, found_at, HasRisingEnds}
 use Rattle.valiant.specs.Filling.{IsRowUpTo, next_token, AreLastRows, AddsProduct, IsOfEntry, IsOfEntries, AddsEntry}
-use Rattle.valiant.proofs.RowLemmas.{found_entry, entry_found}
+use Rattle.valiant.proofs.RowLemmas.{found_none, found_entry, entry_found, found_push_other, found_push_same, within_push, rising_push}
 use Rattle.valiant.proofs.CutLemmas.{product_derived, derived_product}
 
 -- what is below n + 1 is below n, or n
@@ -137,3 +138,70 @@ module _ {C : Type 0} (symbols : C → List ℕ) (g : Expansion) where
             let y = derives_given n x.0 x.1 x.2 in
             (is n).1 (y.0, omega (arith, y.1), y.2)),
       )
+
+  module _ (kinds : List (Option ℕ)) where
+    -- a row without entries has the spans that end at its token's place
+    pub row_none : (i : ℕ) → IsRowUpTo {C = C} symbols g kinds i (i + 1) []
+    row_none i = record {
+      rising = λ m n d order within. absurd (omega arith);
+      within = λ k d within. absurd (omega arith);
+      exact = λ j after before. absurd (omega arith);
+    }
+
+    module _ (i limit : ℕ) (row new : List (Entry C)) (cell : C) (filled : IsRowUpTo symbols g kinds i limit row)
+        (order : i < limit) (is : IsEntryOf g kinds i limit (symbols cell)) where
+      abbrev e : Entry C
+      e = record { end = limit; cell = cell }
+
+      -- no entry has the limit as its end
+      none_at : (k : ℕ) (d : Entry C) → k < length row → (get_or row k d).end ≢ limit
+      none_at k d within same = omega (arith, (filled.within k d within).1, same)
+
+      -- an end below the next limit is below this one, or it
+      ends : (j : ℕ) → j < limit + 1 → (j < limit) ⊎ (j ≡ limit)
+      ends j below = grind arith
+
+      -- a row stays as it is where the next cell is empty
+      row_kept : symbols cell ≡ [] → IsRowUpTo symbols g kinds i (limit + 1) row
+      row_kept empty = record {
+        rising = filled.rising;
+        within = λ k d within. ((filled.within k d within).0, omega (arith, (filled.within k d within).1));
+        exact = λ j after before. elim (ends j before) [
+          | inl below ↦ filled.exact j after below
+          | inr last ↦
+              let nothing : IsEntryOf g kinds i limit (found symbols row limit) =
+              rw (found_none symbols row limit none_at) (rw empty at is) in
+              let At : ℕ → Type 0 = λ m. IsEntryOf g kinds i m (found symbols row m) in
+              subst At (sym last) nothing
+        ];
+      }
+
+      -- and gets the next cell as its last entry where it is not
+      row_pushed : IsRowUpTo symbols g kinds i (limit + 1) (row ++ e ∷ [])
+      row_pushed = record {
+        rising = rising_push row e i limit refl filled.within filled.rising;
+        within = within_push row e i limit refl filled.within order;
+        exact = λ j after before. elim (ends j before) [
+          | inl below ↦
+              rw (found_push_other symbols row e j (λ same. omega (arith, below, same))) (filled.exact j after below)
+          | inr last ↦
+              let At : ℕ → Type 0 = λ m. IsEntryOf g kinds i m (found symbols (row ++ e ∷ []) m) in
+              subst At (sym last) (rw (found_push_same symbols row e none_at) is)
+        ];
+      }
+
+      -- a row that goes on with the next cell has the spans up to the next limit
+      pub row_more : AddsEntry symbols row limit cell new → IsRowUpTo symbols g kinds i (limit + 1) new
+      row_more (inl (empty, same)) = rw same (row_kept empty)
+      row_more (inr same) = rw same row_pushed
+
+    -- the rows go on with that of the next token
+    pub rows_more :
+        (rows : List (List (Entry C))) (row : List (Entry C))
+        → AreLastRows symbols g kinds rows
+        → IsRowUpTo symbols g kinds (next_token kinds rows) (length kinds + 1) row
+        → AreLastRows symbols g kinds (rows ++ row ∷ [])
+    rows_more rows row before it =
+        let Is : ℕ → List (Entry C) → Type 0 =
+        λ k (x : List (Entry C)). IsRowUpTo symbols g kinds (length kinds - k - 1) (length kinds + 1) x in
+        each_pushed Is rows row before it

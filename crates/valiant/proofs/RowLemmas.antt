@@ -4,6 +4,7 @@ use Rattle.std.specs.Prelude.{Result, Ok, Err}
 use Rattle.std.specs.List.Sorted.{IsSearchInRange, IsBinarySearchResult, IsNonDecreasingBy}
 use Rattle.std.specs.Ordering.{nat_cmp, ordering_index}
 use Rattle.std.proofs.lemmas.Cmp.{ranked}
+use Rattle.std.proofs.lemmas.List.{length_push, get_or_push, get_or_append_left}
 use Rattle.std.proofs.lemmas.Option.{slice_get_within, get_or_from_slice_get}
 use Rattle.std.proofs.lemmas.Bool.Decides.{nat_tests}
 use Rattle.valiant.specs.declared.rows.Entry.{Entry}
@@ -116,4 +117,66 @@ module _ {C : Type 0} where
                 same_end = x.1.same_end;
                 same_symbols = skip ∙ x.1.same_symbols;
               })
+        ]
+
+    -- with one entry more a row has what it had for every other end
+    pub found_push_other :
+        (row : List (Entry C)) (e : Entry C) (end : ℕ)
+        → e.end ≢ end → found symbols (row ++ e ∷ []) end ≡ found symbols row end
+    found_push_other [] e end other = found_behind e [] end other
+    found_push_other (d ∷ row) e end other =
+        let side : (d.end ≡ end) ⊎ (d.end ≢ end) = grind arith in
+        elim side [
+          | inl same ↦ found_first d (row ++ e ∷ []) end same ∙ sym (found_first d row end same)
+          | inr behind ↦ found_behind d (row ++ e ∷ []) end behind ∙ found_push_other row e end other
+              ∙ sym (found_behind d row end behind)
+        ]
+
+    -- and for the end of that entry, where no other has it, the symbols of that entry
+    pub found_push_same :
+        (row : List (Entry C)) (e : Entry C)
+        → ((k : ℕ) (d : Entry C) → k < length row → (get_or row k d).end ≢ e.end)
+        → found symbols (row ++ e ∷ []) e.end ≡ symbols e.cell
+    found_push_same [] e missing = found_first e [] e.end refl
+    found_push_same (d ∷ row) e missing =
+        found_behind d (row ++ e ∷ []) e.end (missing 0 d (omega arith))
+        ∙ found_push_same row e (λ k c within. missing (suc k) c (omega arith))
+
+  -- the ends of a row are in a range
+  abbrev pub AreEndsWithin : ℕ → ℕ → List (Entry C) → Type 0
+  AreEndsWithin i limit row =
+      (k : ℕ) (d : Entry C) → k < length row → (i < (get_or row k d).end) × ((get_or row k d).end < limit)
+
+  module _ (row : List (Entry C)) (e : Entry C) (i limit : ℕ) (same : e.end ≡ limit)
+      (within : AreEndsWithin i limit row) where
+    -- what is below n + 1 is below n, or n
+    below_or_at : (k n : ℕ) → k < n + 1 → (k < n) ⊎ (k ≡ n)
+    below_or_at k n below = grind arith
+
+    -- with an entry at the limit, the limit is one further
+    pub within_push : i < limit → AreEndsWithin i (limit + 1) (row ++ e ∷ [])
+    within_push order k d below =
+        let longer : length (row ++ e ∷ []) ≡ length row + 1 = length_push row e in
+        elim (below_or_at k (length row) (omega arith)) [
+          | inl before ↦
+              let is : get_or (row ++ e ∷ []) k d ≡ get_or row k d = get_or_append_left row (e ∷ []) d k before in
+              rw is ((within k d before).0, omega (arith, (within k d before).1))
+          | inr last ↦
+              let is : get_or (row ++ e ∷ []) k d ≡ e = get_or_push row e d k (sym last) in
+              rw is (omega (arith, same), omega (arith, same))
+        ]
+
+    -- and the ends still rise
+    pub rising_push : HasRisingEnds row → HasRisingEnds (row ++ e ∷ [])
+    rising_push rising m n d order below =
+        let longer : length (row ++ e ∷ []) ≡ length row + 1 = length_push row e in
+        let first : get_or (row ++ e ∷ []) m d ≡ get_or row m d =
+        get_or_append_left row (e ∷ []) d m (omega (arith, longer)) in
+        elim (below_or_at n (length row) (omega (arith, longer))) [
+          | inl before ↦
+              let second : get_or (row ++ e ∷ []) n d ≡ get_or row n d = get_or_append_left row (e ∷ []) d n before in
+              rw (first, second) (rising m n d order before)
+          | inr last ↦
+              let second : get_or (row ++ e ∷ []) n d ≡ e = get_or_push row e d n (sym last) in
+              rw (first, second) (omega (arith, (within m d (omega arith)).1, same))
         ]

@@ -26,6 +26,10 @@ AreLastRows {C} symbols g kinds rows =
     (k : ℕ) (row : List (Entry C)) → slice_get rows k ≡ Some row
     → IsRowUpTo symbols g kinds (length kinds - k - 1) (length kinds + 1) row
 
+-- the two lists have the same numbers
+abbrev pub HasSame : List ℕ → List ℕ → Type 0
+HasSame one other = (n : ℕ) → Contains other n ↔ Contains one n
+
 -- the new cell has what the old one has, and the product of the two lists
 abbrev pub AddsProduct : Expansion → List ℕ → List ℕ → List ℕ → List ℕ → Type 0
 AddsProduct g left right old new =

@@ -5,7 +5,7 @@ ghost use Rattle.std.specs.Prelude.{◌≡◌, ℕ, ◌+◌, ◌<◌, ◌≤◌,
 ghost use Rattle.spec_lbnf.specs.Expansion.{HasOwnSymbols};
 ghost use Rattle.valiant.specs.Charts.{IsEntryOf};
 ghost use Rattle.valiant.specs.Rows.{found, HasRisingEnds};
-ghost use Rattle.valiant.specs.Filling.{AddsEntry, AddsProduct, AreLastRows, IsRowUpTo, next_token};
+ghost use Rattle.valiant.specs.Filling.{AddsEntry, AddsProduct, AreLastRows, HasSame, IsRowUpTo, next_token};
 
 use crate::rows::{Entry, Row, cell_at};
 use binary_form::Binary;
@@ -81,9 +81,10 @@ fn joined_cell<C: Cell>(
 
 /// A cell with the same symbols.
 fn copy_of<C: Cell>(alloc: Global, cell: &C) -> Result<C, AllocError>
-    ensures { IfOk result (λ copy. (n : ℕ) → Contains (C.symbols copy) n ↔ Contains (C.symbols cell.now) n) }
+    ensures { IfOk result (λ copy. HasSame (C.symbols cell.now) (C.symbols copy)) }
 {
-    C::empty().union(alloc, cell)
+    let copy = C::empty().union(alloc, cell)?;
+    Ok(copy)
 }
 
 /// What derives the span from the next token up to this end.
