@@ -16,10 +16,11 @@ pub record AreClosuresUpTo {C : Type 0} (symbols : C → List ℕ) (g : Expansio
 abbrev pub AreClosures : {C : Type 0} → (C → List ℕ) → Expansion → List C → Type 0
 AreClosures symbols g cells = AreClosuresUpTo symbols g (symbol_count g) cells
 
--- the parts are those of the grammar's binary form: where suffixes are numbered from, flags of what
--- is nullable, closures, wholes
+-- the grammar's rules have its own symbols, and the parts are those of its binary form: where
+-- suffixes are numbered from, flags of what is nullable, closures, wholes
 pub record AreParts {C : Type 0} (symbols : C → List ℕ) (most : ℕ) (g : Expansion) (firsts : List ℕ)
     (flags : List Bool) (cells : List C) (links : List (List ℕ)) : Type 0 where
+  pub own : HasOwnSymbols g
   pub few : symbol_count g ≤ 2048
   pub room : symbol_count g ≤ most
   pub firsts_are : AreFirstSuffixes g firsts

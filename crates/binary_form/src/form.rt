@@ -1,8 +1,7 @@
 //! The binary form of a grammar: its symbols' numbers, their closures, and the product of cells.
 ghost use Rattle.std.specs.Prelude.{◌≡◌, ◌<◌, ◌≤◌, ◌↔◌, Some, IsTrue, IfOk};
-ghost use Rattle.spec_lbnf.specs.Expansion.{IsSymbolOf, symbol_count};
-ghost use Rattle.binary_form.specs.Symbols.{plain, suffix, IsBinarySymbolOf};
-ghost use Rattle.binary_form.specs.Symbols.{number_of};
+ghost use Rattle.spec_lbnf.specs.Expansion.{IsSymbolOf, HasOwnSymbols, symbol_count};
+ghost use Rattle.binary_form.specs.Symbols.{plain, suffix, IsBinarySymbolOf, number_of};
 ghost use Rattle.binary_form.specs.BinaryForm.{IsNullableNumber, IsClosureOf, IsTokenCell};
 ghost use Rattle.binary_form.specs.BinaryForm.{IsProductOf, HasProduct};
 ghost use Rattle.binary_form.specs.Forms.{AreParts};
@@ -71,8 +70,10 @@ impl<C: Cell> Binary<C> {
         }
     }
 
-    /// How many symbols there are: their numbers are those below. It takes no memory.
+    /// How many symbols there are: their numbers are those below. The rules of the grammar have its
+    /// own symbols. It takes no memory.
     pub fn symbol_count(&self) -> u32
+        ensures own { HasOwnSymbols self.now }
         ensures count { result ≡ symbol_count self.now }
         ensures few { result ≤ 2048 }
         ensures room { result ≤ C.ROOM }

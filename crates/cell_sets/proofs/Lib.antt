@@ -2,3 +2,4 @@ pub mod CellsLemmas
 pub mod RisingLemmas
 pub mod PlacesLemmas
 pub mod MergingLemmas
+pub mod GridLemmas

@@ -10,5 +10,5 @@ mod places;
 mod tests;
 
 pub use cell::{Cell, Room, union_into};
-pub use laws::rising_lists_are_sets;
+pub use laws::{entries_are_values, rising_lists_are_sets};
 pub use list_cell::ListCell;

@@ -1,0 +1,207 @@
+-- Rows that are filled: each step keeps what they have, and all cuts of a span are those at a row's entries.
+use Rattle.std.proofs.Common.{◌≡◌, ℕ, zero, suc, ◌+◌, ◌-◌, ◌<◌, ◌≤◌, ◌≢◌, ◌⊎◌, ◌↔◌, List, [], ◌∷◌, ◌++◌, Option, Some, None, length, slice_get, get_or, refl, sym, ◌∙◌, ap, subst, inl, inr, arith, Contains}
+use Rattle.std.proofs.lemmas.Option.{slice_get_within, get_or_from_slice_get, slice_get-get_or, slice_get_read}
+use Rattle.std.proofs.lemmas.List.{get_or_read}
+use Rattle.spec_lbnf.specs.Expansion.{Expansion, HasOwnSymbols}
+use Rattle.binary_form.specs.Symbols.{BinarySymbol, BinaryDerives, IsBinarySymbolOf, number_of}
+use Rattle.binary_form.specs.BinaryForm.{IsNumberOf, IsProductNumber}
+use Rattle.binary_form.proofs.BuildLemmas.{each_pushed}
+use Rattle.binary_form.proofs.ClosureLemmas.{closure_is_derivation}
+use Rattle.valiant.specs.declared.rows.Entry.{Entry}
+use Rattle.valiant.specs.Charts.{IsEntryOf}
+use Rattle.valiant.specs.Rows.{found, found_at, HasRisingEnds}
+use Rattle.valiant.specs.Filling.{IsRowUpTo, next_token, AreLastRows, AddsProduct, IsOfEntry, IsOfEntries, AddsEntry}
+use Rattle.valiant.proofs.RowLemmas.{found_none, found_entry, entry_found, found_push_other, found_push_same, within_push, rising_push}
+use Rattle.valiant.proofs.CutLemmas.{product_derived, derived_product}
+
+-- what is below n + 1 is below n, or n
+last_or_before : (k n : ℕ) → k < n + 1 → (k < n) ⊎ (k ≡ n)
+last_or_before k n below = grind arith
+
+module _ {C : Type 0} (symbols : C → List ℕ) (g : Expansion) where
+  module _ (count : ℕ) (rows : List (List (Entry C))) (row : List (Entry C)) (end : ℕ) where
+    -- no entries give nothing
+    pub entries_none : IsOfEntries symbols g count rows row end 0 []
+    entries_none n = ((λ has. absurd (omega (arith, has.1))), (λ x. absurd (omega (arith, x.1))))
+
+    -- with the cut at the end of one more entry
+    pub entries_more :
+        (many : ℕ) (e : Entry C) (old new : List ℕ)
+        → slice_get row many ≡ Some e
+        → AddsProduct g (symbols e.cell) (found_at symbols count rows e.end end) old new
+        → IsOfEntries symbols g count rows row end many old
+        → IsOfEntries symbols g count rows row end (many + 1) new
+    entries_more many e old new is adds before n = (to, from)
+      where
+        to : Contains new n → (k : ℕ) × (k < many + 1) × IsOfEntry symbols g count rows row end k n
+        to has = elim ((adds n).0 has) [
+          | inl kept ↦
+              let x = (before n).0 kept in
+              (x.0, omega (arith, x.1), x.2)
+          | inr made ↦ (many, omega arith, (e, is, made))
+        ]
+
+        from : (k : ℕ) × (k < many + 1) × IsOfEntry symbols g count rows row end k n → Contains new n
+        from (k, below, (d, is_d, made)) = elim (last_or_before k many below) [
+          | inl earlier ↦ (adds n).1 (inl ((before n).1 (k, earlier, (d, is_d, made))))
+          | inr last ↦
+              let At : ℕ → Type 0 = λ m. slice_get row m ≡ Some d in
+              let is_last : slice_get row many ≡ Some d = subst At last is_d in
+              let same : d ≡ e = cc in
+              (adds n).1 (inr (rw same at made))
+        ]
+
+  module _ (own : HasOwnSymbols g) (kinds : List (Option ℕ)) (rows : List (List (Entry C)))
+      (last : AreLastRows symbols g kinds rows) (short : length rows < length kinds) where
+    -- the row of a later token has the symbols of each span that begins with it
+    pub later_entry :
+        (k end : ℕ)
+        → next_token kinds rows < k → k < end → end ≤ length kinds
+        → IsEntryOf g kinds k end (found_at symbols (length kinds) rows k end)
+    later_entry k end later order within =
+        let place = length kinds - k - 1 in
+        let is = last place (get_or rows place []) (slice_get-get_or rows place [] (omega arith)) in
+        let token : length kinds - place - 1 ≡ k = omega arith in
+        let P : ℕ → Type 0 = λ i. IsEntryOf g kinds i end (found_at symbols (length kinds) rows k end) in
+        subst P token (is.exact end (omega arith) (omega arith))
+
+    module _ (row : List (Entry C)) (end : ℕ) (filled : IsRowUpTo symbols g kinds (next_token kinds rows) end row)
+        (later : next_token kinds rows + 1 < end) (within : end ≤ length kinds) where
+      abbrev i : ℕ
+      i = next_token kinds rows
+
+      -- the entry is that of a shorter span
+      within_entry : (at : ℕ) (e : Entry C) → slice_get row at ≡ Some e → (i < e.end) × (e.end < end)
+      within_entry at e is =
+          let same : get_or row at e ≡ e = get_or_from_slice_get row at e e is in
+          rw same at (filled.within at e (slice_get_within row at e is))
+
+      -- with the next entry of the row, and the row behind its end
+      pub entries_next :
+          (many : ℕ) (e : Entry C) (behind : List (Entry C)) (old new : List ℕ)
+          → many < length row → e ≡ get_or row many e → behind ≡ get_or rows (length kinds - e.end - 1) behind
+          → AddsProduct g (symbols e.cell) (found symbols behind end) old new
+          → IsOfEntries symbols g (length kinds) rows row end many old
+          → IsOfEntries symbols g (length kinds) rows row end (many + 1) new
+      entries_next many e behind old new below is is_behind adds before =
+          let at : slice_get row many ≡ Some e = slice_get_read row (length row) many e refl below is in
+          let bounds = within_entry many e at in
+          let Adds : List (Entry C) → Type 0 = λ (x : List (Entry C)). AddsProduct g (symbols e.cell) (found symbols x end) old new in
+          let same : behind ≡ get_or rows (length kinds - e.end - 1) [] =
+          get_or_read rows (length kinds - e.end - 1) behind (omega (arith, bounds.0, bounds.1)) is_behind [] in
+          entries_more (length kinds) rows row end many e old new at (subst Adds same adds) before
+
+      -- a cut at an entry's end gives what derives the span
+      given_derives :
+          (at n : ℕ)
+          → IsOfEntry symbols g (length kinds) rows row end at n
+          → (a : BinarySymbol) × IsNumberOf g a n × BinaryDerives g.rules kinds a i end
+      given_derives at n (e, is, made) =
+          let bounds = within_entry at e is in
+          let a = made.4.reaches.0 in
+          let number = made.4.reaches.1 in
+          let left : IsEntryOf g kinds i e.end (symbols e.cell) =
+          rw (found_entry symbols row at e filled.rising is) at (filled.exact e.end bounds.0 bounds.1) in
+          let right = later_entry e.end end bounds.0 bounds.1 within in
+          let Made : ℕ → Type 0 = λ m. IsProductNumber g (symbols e.cell) (found_at symbols (length kinds) rows e.end end) m in
+          let product =
+          product_derived g own kinds i e.end end (symbols e.cell) (found_at symbols (length kinds) rows e.end end)
+          left right bounds.1 a number.0 (subst Made (sym number.1) made) in
+          (a, number, (closure_is_derivation g.rules kinds a i end (omega arith)).1 (inr (e.end, bounds.0, bounds.1, product)))
+
+      -- what derives the span is given by a cut at an entry's end
+      derives_given :
+          (n : ℕ) (a : BinarySymbol)
+          → IsNumberOf g a n → BinaryDerives g.rules kinds a i end
+          → (at : ℕ) × (at < length row) × IsOfEntry symbols g (length kinds) rows row end at n
+      derives_given n a number derives = elim ((closure_is_derivation g.rules kinds a i end (omega arith)).0 derives) [
+        | inl token ↦ absurd (omega (arith, token.2))
+        | inr (k, after, before, product) ↦
+            let right = later_entry k end after before within in
+            let made =
+            derived_product g own kinds i k end (found symbols row k) (found_at symbols (length kinds) rows k end)
+            (filled.exact k after before) right before a number.0 product in
+            let x = entry_found symbols row k made.0 made.2 in
+            let Given : ℕ → Type 0 = λ m. IsProductNumber g (symbols (x.1.e).cell) (found_at symbols (length kinds) rows m end) n in
+            let given : Given k = rw (x.1.same_symbols, number.1) at made in
+            (x.0, slice_get_within row x.0 x.1.e x.1.is, (x.1.e, x.1.is, subst Given (sym x.1.same_end) given))
+      ]
+
+      -- the cuts at the ends of all entries give just what derives the span
+      pub entries_all :
+          (many : ℕ) (cell : List ℕ)
+          → length row ≤ many → IsOfEntries symbols g (length kinds) rows row end many cell
+          → IsEntryOf g kinds i end cell
+      entries_all many cell all is n = (
+        (λ has. let x = (is n).0 has in given_derives x.0 n x.2),
+        (λ x.
+            let y = derives_given n x.0 x.1 x.2 in
+            (is n).1 (y.0, omega (arith, y.1), y.2)),
+      )
+
+  module _ (kinds : List (Option ℕ)) where
+    -- a row without entries has the spans that end at its token's place
+    pub row_none : (i : ℕ) → IsRowUpTo {C = C} symbols g kinds i (i + 1) []
+    row_none i = record {
+      rising = λ m n d order within. absurd (omega arith);
+      within = λ k d within. absurd (omega arith);
+      exact = λ j after before. absurd (omega arith);
+    }
+
+    module _ (i limit : ℕ) (row new : List (Entry C)) (cell : C) (filled : IsRowUpTo symbols g kinds i limit row)
+        (order : i < limit) (is : IsEntryOf g kinds i limit (symbols cell)) where
+      abbrev e : Entry C
+      e = record { end = limit; cell = cell }
+
+      -- no entry has the limit as its end
+      none_at : (k : ℕ) (d : Entry C) → k < length row → (get_or row k d).end ≢ limit
+      none_at k d within same = omega (arith, (filled.within k d within).1, same)
+
+      -- an end below the next limit is below this one, or it
+      ends : (j : ℕ) → j < limit + 1 → (j < limit) ⊎ (j ≡ limit)
+      ends j below = grind arith
+
+      -- a row stays as it is where the next cell is empty
+      row_kept : symbols cell ≡ [] → IsRowUpTo symbols g kinds i (limit + 1) row
+      row_kept empty = record {
+        rising = filled.rising;
+        within = λ k d within. ((filled.within k d within).0, omega (arith, (filled.within k d within).1));
+        exact = λ j after before. elim (ends j before) [
+          | inl below ↦ filled.exact j after below
+          | inr last ↦
+              let nothing : IsEntryOf g kinds i limit (found symbols row limit) =
+              rw (found_none symbols row limit none_at) (rw empty at is) in
+              let At : ℕ → Type 0 = λ m. IsEntryOf g kinds i m (found symbols row m) in
+              subst At (sym last) nothing
+        ];
+      }
+
+      -- and gets the next cell as its last entry where it is not
+      row_pushed : IsRowUpTo symbols g kinds i (limit + 1) (row ++ e ∷ [])
+      row_pushed = record {
+        rising = rising_push row e i limit refl filled.within filled.rising;
+        within = within_push row e i limit refl filled.within order;
+        exact = λ j after before. elim (ends j before) [
+          | inl below ↦
+              rw (found_push_other symbols row e j (λ same. omega (arith, below, same))) (filled.exact j after below)
+          | inr last ↦
+              let At : ℕ → Type 0 = λ m. IsEntryOf g kinds i m (found symbols (row ++ e ∷ []) m) in
+              subst At (sym last) (rw (found_push_same symbols row e none_at) is)
+        ];
+      }
+
+      -- a row that goes on with the next cell has the spans up to the next limit
+      pub row_more : AddsEntry symbols row limit cell new → IsRowUpTo symbols g kinds i (limit + 1) new
+      row_more (inl (empty, same)) = rw same (row_kept empty)
+      row_more (inr same) = rw same row_pushed
+
+    -- the rows go on with that of the next token
+    pub rows_more :
+        (rows : List (List (Entry C))) (row : List (Entry C))
+        → AreLastRows symbols g kinds rows
+        → IsRowUpTo symbols g kinds (next_token kinds rows) (length kinds + 1) row
+        → AreLastRows symbols g kinds (rows ++ row ∷ [])
+    rows_more rows row before it =
+        let Is : ℕ → List (Entry C) → Type 0 =
+        λ k (x : List (Entry C)). IsRowUpTo symbols g kinds (length kinds - k - 1) (length kinds + 1) x in
+        each_pushed Is rows row before it

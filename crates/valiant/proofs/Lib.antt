@@ -1,0 +1,3 @@
+pub mod RowLemmas
+pub mod CutLemmas
+pub mod FillingLemmas

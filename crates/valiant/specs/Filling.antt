@@ -1,0 +1,54 @@
+-- Serves the proofs alone. How far the rows of a chart are filled, and what each step adds.
+use Rattle.std.specs.Prelude.{◌≡◌, ℕ, ◌+◌, ◌-◌, ◌<◌, ◌↔◌, ◌⊎◌, List, [], ◌∷◌, ◌++◌, Option, Some, Contains}
+use Rattle.std.specs.Prelude.{length, slice_get, slice_index_or}
+use Rattle.spec_lbnf.specs.Expansion.{Expansion}
+use Rattle.binary_form.specs.BinaryForm.{IsProductNumber}
+use Rattle.valiant.specs.declared.rows.Entry.{Entry}
+use Rattle.valiant.specs.Charts.{IsEntryOf}
+use Rattle.valiant.specs.Rows.{found, found_at, HasRisingEnds}
+
+-- the row has just the symbols of each span that begins with token i and ends below the limit
+pub record IsRowUpTo {C : Type 0} (symbols : C → List ℕ) (g : Expansion) (kinds : List (Option ℕ))
+    (i limit : ℕ) (row : List (Entry C)) : Type 0 where
+  pub rising : HasRisingEnds row
+  pub within :
+      (k : ℕ) (d : Entry C) → k < length row
+      → (i < (slice_index_or row k d).end) × ((slice_index_or row k d).end < limit)
+  pub exact : (j : ℕ) → i < j → j < limit → IsEntryOf g kinds i j (found symbols row j)
+
+-- the token whose row comes next, after those of the tokens behind it
+abbrev pub next_token : {C : Type 0} → List (Option ℕ) → List (List (Entry C)) → ℕ
+next_token kinds rows = length kinds - length rows - 1
+
+-- the rows are those of the last tokens, and each has the symbols of all spans that begin with its token
+abbrev pub AreLastRows : {C : Type 0} → (C → List ℕ) → Expansion → List (Option ℕ) → List (List (Entry C)) → Type 0
+AreLastRows {C} symbols g kinds rows =
+    (k : ℕ) (row : List (Entry C)) → slice_get rows k ≡ Some row
+    → IsRowUpTo symbols g kinds (length kinds - k - 1) (length kinds + 1) row
+
+-- the two lists have the same numbers
+abbrev pub HasSame : List ℕ → List ℕ → Type 0
+HasSame one other = (n : ℕ) → Contains other n ↔ Contains one n
+
+-- the new cell has what the old one has, and the product of the two lists
+abbrev pub AddsProduct : Expansion → List ℕ → List ℕ → List ℕ → List ℕ → Type 0
+AddsProduct g left right old new =
+    (n : ℕ) → Contains new n ↔ (Contains old n ⊎ IsProductNumber g left right n)
+
+-- the cut at the end of the row's entry k, in the span up to this end, gives the number
+abbrev pub IsOfEntry : {C : Type 0} → (C → List ℕ) → Expansion → ℕ → List (List (Entry C)) → List (Entry C)
+    → ℕ → ℕ → ℕ → Type 0
+IsOfEntry {C} symbols g count rows row end k n =
+    (e : Entry C) × (slice_get row k ≡ Some e)
+    × IsProductNumber g (symbols e.cell) (found_at symbols count rows e.end end) n
+
+-- the cell has just what the cuts at the ends of the row's first entries give, so many of them
+abbrev pub IsOfEntries : {C : Type 0} → (C → List ℕ) → Expansion → ℕ → List (List (Entry C)) → List (Entry C)
+    → ℕ → ℕ → List ℕ → Type 0
+IsOfEntries symbols g count rows row end many cell =
+    (n : ℕ) → Contains cell n ↔ ((k : ℕ) × (k < many) × IsOfEntry symbols g count rows row end k n)
+
+-- the new row has the cell behind the old one's entries, if the cell has symbols
+abbrev pub AddsEntry : {C : Type 0} → (C → List ℕ) → List (Entry C) → ℕ → C → List (Entry C) → Type 0
+AddsEntry symbols old end cell new =
+    ((symbols cell ≡ []) × (new ≡ old)) ⊎ (new ≡ old ++ record { end = end; cell = cell } ∷ [])

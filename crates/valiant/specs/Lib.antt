@@ -1,0 +1,4 @@
+pub mod Charts
+pub mod Shapes
+pub mod Rows
+pub mod Filling

@@ -1,0 +1,5 @@
+//! Charts: for each span of a text's tokens, the symbols that derive it (Valiant 1975).
+#![tactic(auto)]
+
+mod filling;
+mod rows;
