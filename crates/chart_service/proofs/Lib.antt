@@ -1,4 +1,3 @@
-pub mod TableLemmas
 pub mod LexingLemmas
 pub mod FormsLemmas
 pub mod QuestionLemmas

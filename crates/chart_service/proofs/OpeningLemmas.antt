@@ -1,38 +1,80 @@
 -- Accepting a grammar or refusing it, and opening a text.
-use Rattle.std.proofs.Common.{◌≡◌, ℕ, inl, inr, List, length, Option, Err, sym, ◌∙◌, ap, subst}
+use Rattle.std.proofs.Common.{◌≡◌, ℕ, inl, inr, List, length, Option, Ok, Err, ◌≤◌, arith, sym, ◌∙◌, ap, subst}
 use Rattle.std.proofs.lemmas.List.{length-map}
-use Rattle.spec_lbnf.proofs.FileLemmas.{simple_sides}
 use Rattle.spec_lbnf.proofs.NameLemmas.{distinct_names}
 use Rattle.cyk_io.specs.Streams.{GrowsByPrefix}
 use Rattle.spec_lexing.specs.declared.token.Token.{Token}
 use Rattle.spec_lbnf.specs.declared.definition.Def.{Def}
-use Rattle.spec_lbnf.specs.Expansion.{Expansion, expansion_of}
+use Rattle.spec_grammar.specs.Cycles.{IsAcyclic}
+use Rattle.spec_lbnf.specs.Expansion.{Expansion, expansion_of, symbol_count}
 use Rattle.spec_lbnf.specs.FirstForm.{Spells}
 use Rattle.spec_lbnf.specs.Checks.{AreAllKnown}
-use Rattle.spec_session.specs.Replies.{IsAccepted, IsRefused, unbuilt, unknown, version_reply}
+use Rattle.spec_session.specs.Replies.{IsAccepted, IsRefused, AreFit, unbuilt, unfit, unknown, cyclic, crowded, symbols_line, version_reply}
 use Rattle.lbnf_text.specs.declared.fault.TextFault.TheVariants.{Memory as TextMemory, Unbuilt}
-use Rattle.lbnf_grammar.specs.declared.fault.GrammarFault.TheVariants.{Memory as GrammarMemory, UnknownCategory}
+use Rattle.lbnf_grammar.specs.declared.fault.GrammarFault.{GrammarFault}
+use Rattle.lbnf_grammar.specs.declared.fault.GrammarFault.TheVariants.{Memory as GrammarMemory, UnknownCategory, Cyclic}
+use Rattle.lbnf_grammar.specs.Grammars.{Expands}
+use Rattle.binary_form.specs.declared.fault.BinaryFault.{BinaryFault}
+use Rattle.binary_form.specs.declared.fault.BinaryFault.TheVariants.{Memory as BinaryMemory, TooManySymbols}
+use Rattle.valiant.specs.Charts.{ChartValue}
 use Rattle.chart_service.specs.declared.opening.LanguageFault.{LanguageFault}
-use Rattle.chart_service.specs.declared.opening.LanguageFault.TheVariants.{Text, Grammar}
+use Rattle.chart_service.specs.declared.opening.LanguageFault.TheVariants.{Text, Grammar, Binary}
+use Rattle.chart_service.specs.declared.opening.Language.{Language}
 use Rattle.chart_service.specs.declared.status.Status.{Status}
 use Rattle.chart_service.specs.declared.status.Status.TheVariants.{Ok as Fine, BadGrammar, BadScript, ReadFault, WriteFault, OutOfMemory}
 use Rattle.chart_service.specs.Statuses.{IsWriteStop}
 use Rattle.chart_service.specs.Writing.{EndsWith}
-use Rattle.chart_service.specs.Opening.{IsFit, ReadsLanguage, IsRefusal, IsGrammarLine, EndsAtGrammar, IsOpened, IsTextLine, EndsAtText}
+use Rattle.chart_service.specs.Opening.{IsFit, MakesLanguage, ReadsLanguage, IsRefusal, IsGrammarLine, EndsAtGrammar, IsOpened, IsTextLine, EndsAtText}
 
--- a grammar that a block spells is fit
-pub accepted_fit : (block : List ℕ) (defs : List Def) → Spells block defs → AreAllKnown defs → (g : Expansion) → g ≡ expansion_of defs → IsAccepted block g × IsFit g
-accepted_fit block defs s k g e = (
-  (defs, s, k, e),
-  subst IsFit (sym e) (record { simple = simple_sides block defs s; distinct = (distinct_names _).once }),
+-- no category's text stands twice in the grammar that definitions stand for
+spelled_fit : (defs : List Def) (g : Expansion) → g ≡ expansion_of defs → IsFit g
+spelled_fit defs g e = subst IsFit (sym e) (record { distinct = (distinct_names _).once })
+
+-- the language of what a block spells is accepted, where the definitions are fit
+pub accepted : (block : List ℕ) (defs : List Def) (g : Expansion) (language : Language)
+    → Spells block defs → AreAllKnown defs → IsAcyclic g.rules → g ≡ expansion_of defs
+    → MakesLanguage g (Ok language) → ReadsLanguage block (Ok language)
+accepted block defs g language spells known acyclic e made =
+    let same : language.grammar ≡ expansion_of defs = made.1 ∙ e in
+    let fit : AreFit defs = record {
+      known = known;
+      acyclic = subst (λ (x : Expansion). IsAcyclic x.rules) e acyclic;
+      few = subst (λ (x : Expansion). symbol_count x ≤ 2048) e made.0;
+    } in
+    ((defs, spells, fit, same), spelled_fit defs language.grammar same)
+
+-- a grammar of too many symbols is refused for their count
+pub crowded_language : (block : List ℕ) (defs : List Def) (g : Expansion) (fault : BinaryFault)
+    → Spells block defs → AreAllKnown defs → IsAcyclic g.rules → g ≡ expansion_of defs
+    → MakesLanguage g (Err fault) → ReadsLanguage block (Err (Binary fault))
+crowded_language block defs g BinaryMemory spells known acyclic e made = tt
+crowded_language block defs g (TooManySymbols count) spells known acyclic e made = (
+  defs,
+  spells,
+  known,
+  subst (λ (x : Expansion). IsAcyclic x.rules) e acyclic,
+  made.0 ∙ ap symbol_count e,
+  made.1,
 )
+
+-- what keeps definitions from being a grammar keeps the block from being accepted
+pub unfit_language : (block : List ℕ) (defs : List Def) (fault : GrammarFault)
+    → Spells block defs → Expands defs (Err fault) → ReadsLanguage block (Err (Grammar fault))
+unfit_language block defs GrammarMemory spells why = tt
+unfit_language block defs (UnknownCategory name number) spells why = (defs, spells, why)
+unfit_language block defs (Cyclic name) spells why = (defs, spells, why.0, why.1)
 
 -- the line that refuses is the fault's
 pub refusal_is : (block : List ℕ) (fault : LanguageFault) (line : List ℕ) → ReadsLanguage block (Err fault) → IsRefusal fault line → IsRefused block line
 refusal_is block (Text TextMemory) line h r = absurd r
 refusal_is block (Text (Unbuilt number)) line h r = unbuilt number h r
 refusal_is block (Grammar GrammarMemory) line h r = absurd r
-refusal_is block (Grammar (UnknownCategory name number)) line h r = unknown h.0 name number h.1 h.2 r
+refusal_is block (Grammar (UnknownCategory name number)) line h r = unfit h.0 h.1 (unknown name number h.2 r)
+refusal_is block (Grammar (Cyclic name)) line h r = unfit h.0 h.1 (cyclic name h.2 h.3 r)
+refusal_is block (Binary BinaryMemory) line h r = absurd r
+refusal_is block (Binary (TooManySymbols count)) line h r =
+    let g : Expansion = expansion_of h.0 in
+    unfit h.0 h.1 (crowded h.2 h.3 (omega (arith, h.4, h.5)) (r ∙ ap symbols_line h.4))
 
 -- a reply that was cut short, at a fault's status
 pub cut_short : (block line : List ℕ) (old new : Option (List ℕ)) → IsGrammarLine block line → GrowsByPrefix old new line → (status : Status) → IsWriteStop status → EndsAtGrammar block old new status
@@ -48,11 +90,11 @@ refused_so block line old new is status (inl h) = let P : Status → Type 0 = En
 refused_so block line old new is status (inr h) = cut_short block line old new (inl is) h.0 status h.1
 
 -- the chart has as many tokens as the text
-pub chart_len : (g : Expansion) (chart : List (List (List ℕ))) (text : List ℕ) (tokens : List Token) → IsOpened g chart text tokens → length chart ≡ length tokens
-chart_len g chart text tokens o = o.is_table.len ∙ length-map tokens (λ (token : Token). token.kind)
+pub chart_len : (g : Expansion) (chart : ChartValue) (text : List ℕ) (tokens : List Token) → IsOpened g chart text tokens → length chart.kinds ≡ length tokens
+chart_len g chart text tokens o = ap length (o.is_chart.same_kinds) ∙ length-map tokens (λ (token : Token). token.kind)
 
 -- the reply to a text that was cut short, at a fault's status
-pub cut_text : (g : Expansion) (chart : List (List (List ℕ))) (text : List ℕ) (old new : Option (List ℕ)) → ((tokens : List Token) × IsOpened g chart text tokens) → (count : ℕ) → count ≡ length chart → GrowsByPrefix old new (version_reply 0 count) → (status : Status) → IsWriteStop status → EndsAtText g text old new status
+pub cut_text : (g : Expansion) (chart : ChartValue) (text : List ℕ) (old new : Option (List ℕ)) → ((tokens : List Token) × IsOpened g chart text tokens) → (count : ℕ) → count ≡ length chart.kinds → GrowsByPrefix old new (version_reply 0 count) → (status : Status) → IsWriteStop status → EndsAtText g text old new status
 cut_text g chart text old new o count e cut status stop = by_status status stop
   where
     line : List ℕ

@@ -207,11 +207,11 @@ module _ (input before : List ℕ) (coming : Option (List ℕ)) (at : ℕ) (now 
   front = header ∷ grammar r.block ∷ opens r.text ∷ r.questions
 
   told : List ℕ
-  told = grammar_reply opened.grammar ++ (version_reply 0 (length r.tokens) ++ r.replies)
+  told = grammar_reply opened.language.grammar ++ (version_reply 0 (length r.tokens) ++ r.replies)
 
   all_replies : AreAllReplies front told
   unfolding front told
-  all_replies = text_told opened.grammar r.block r.text r.tokens r.questions r.replies r.accepted (r.is_opened).are_tokens r.are_replies
+  all_replies = text_told opened.language.grammar r.block r.text r.tokens r.questions r.replies r.accepted (r.is_opened).are_tokens r.are_replies
 
   -- a fault
   pub running_stopped : (status : Status) → IsFaultStatus (number_of status) → Ends input before now status
@@ -238,7 +238,7 @@ module _ (input before : List ℕ) (coming : Option (List ℕ)) (at : ℕ) (now 
       now new r.has_written Fine status refl says
 
   -- a question follows, and its answer is written or cut short
-  module _ (constituent : Constituent) (to : ℕ) (later : Option (List ℕ)) (taken : TakesCommand at to coming later (has constituent)) (line : List ℕ) (answer : IsAnswer opened.grammar r.tokens constituent line) where
+  module _ (constituent : Constituent) (to : ℕ) (later : Option (List ℕ)) (taken : TakesCommand at to coming later (has constituent)) (line : List ℕ) (answer : IsAnswer opened.language.grammar r.tokens constituent line) where
     question : Command
     question = has constituent
 
@@ -251,14 +251,14 @@ module _ (input before : List ℕ) (coming : Option (List ℕ)) (at : ℕ) (now 
     are_more : AreQuestions (r.questions ++ has constituent ∷ [])
     are_more = questions_more r.questions (has constituent) r.are_questions tt
 
-    replies_are : AreReplies opened.grammar (r.text ∷ []) (r.questions ++ has constituent ∷ []) (r.replies ++ line)
-    replies_are = replies_more opened.grammar (r.text ∷ []) r.questions r.replies (has constituent) line r.are_questions r.are_replies (r.text, r.tokens, ([], refl), (r.is_opened).are_tokens, answer)
+    replies_are : AreReplies opened.language.grammar (r.text ∷ []) (r.questions ++ has constituent ∷ []) (r.replies ++ line)
+    replies_are = replies_more opened.language.grammar (r.text ∷ []) r.questions r.replies (has constituent) line r.are_questions r.are_replies (r.text, r.tokens, ([], refl), (r.is_opened).are_tokens, answer)
 
-    longer : (told_more : List ℕ) → told ++ told_more ≡ grammar_reply opened.grammar ++ (version_reply 0 (length r.tokens) ++ (r.replies ++ told_more))
+    longer : (told_more : List ℕ) → told ++ told_more ≡ grammar_reply opened.language.grammar ++ (version_reply 0 (length r.tokens) ++ (r.replies ++ told_more))
     unfolding told
     longer told_more =
-        append_assoc (grammar_reply opened.grammar) (version_reply 0 (length r.tokens) ++ r.replies) told_more
-        ∙ ap (λ bytes. grammar_reply opened.grammar ++ bytes) (append_assoc (version_reply 0 (length r.tokens)) r.replies told_more)
+        append_assoc (grammar_reply opened.language.grammar) (version_reply 0 (length r.tokens) ++ r.replies) told_more
+        ∙ ap (λ bytes. grammar_reply opened.language.grammar ++ bytes) (append_assoc (version_reply 0 (length r.tokens)) r.replies told_more)
 
     pub running_answered : (new : Option (List ℕ)) → Grows now new line → Running input before later to new opened
     unfolding told
@@ -283,7 +283,7 @@ module _ (input before : List ℕ) (coming : Option (List ℕ)) (at : ℕ) (now 
     running_cut new cut status fault =
         let P : List ℕ → Type 0 = AreAllReplies (header ∷ grammar r.block ∷ opens r.text ∷ (r.questions ++ has constituent ∷ [])) in
         cut_behind input before (header ∷ grammar r.block ∷ opens r.text ∷ (r.questions ++ has constituent ∷ [])) to behind.0 told line are_more begins_more
-        (subst P (sym (longer line)) (text_told opened.grammar r.block r.text r.tokens (r.questions ++ has constituent ∷ []) (r.replies ++ line) r.accepted (r.is_opened).are_tokens replies_are))
+        (subst P (sym (longer line)) (text_told opened.language.grammar r.block r.text r.tokens (r.questions ++ has constituent ∷ []) (r.replies ++ line) r.accepted (r.is_opened).are_tokens replies_are))
         now new r.has_written cut status fault
 
 -- a command is short
@@ -400,8 +400,8 @@ module _ (input before : List ℕ) (from : ℕ) (at_start : from ≡ 0) (coming 
             has_written = h.written (before ++ grammar_reply g) reply_written ∙ ap Some (append_assoc before (grammar_reply g) (version_reply 0 (length h.tokens)) ∙ ap (λ bytes. before ++ bytes) same_reply);
           }
             where
-              same_reply : grammar_reply g ++ version_reply 0 (length h.tokens) ≡ grammar_reply opened.grammar ++ (version_reply 0 (length h.tokens) ++ [])
-              same_reply = ap (λ (x : Expansion). grammar_reply x ++ version_reply 0 (length h.tokens)) (sym h.grammar) ∙ ap (λ bytes. grammar_reply opened.grammar ++ bytes) (sym (append-nil (version_reply 0 (length h.tokens))))
+              same_reply : grammar_reply g ++ version_reply 0 (length h.tokens) ≡ grammar_reply opened.language.grammar ++ (version_reply 0 (length h.tokens) ++ [])
+              same_reply = ap (λ (x : Expansion). grammar_reply x ++ version_reply 0 (length h.tokens)) (sym h.grammar) ∙ ap (λ bytes. grammar_reply opened.language.grammar ++ bytes) (sym (append-nil (version_reply 0 (length h.tokens))))
 
           pub text_opened : (new : Option (List ℕ)) (r : Result Opened Status) → OpensText g text mid new r → Begun input before rest_later end new r
           text_opened new (Ok opened) h = opened_runs new opened h

@@ -4,7 +4,6 @@ pub mod Forms
 pub mod Reading
 pub mod Writing
 pub mod Lexing
-pub mod Table
 pub mod Opening
 pub mod Answering
 pub mod Progress

@@ -1,48 +1,65 @@
 -- Serves the proofs alone: what is known of a grammar that was accepted and of a text that is open under it.
-use Rattle.std.specs.Prelude.{◌≡◌, ℕ, ◌⊎◌, List, length, slice_get, Some}
+use Rattle.std.specs.Prelude.{◌≡◌, ◌<◌, ◌≤◌, ℕ, ◌⊎◌, List, length, slice_get, Some}
 use Rattle.std.specs.Prelude.{Option, Result, Ok, Err}
+use Rattle.spec_grammar.specs.Cycles.{IsAcyclic}
 use Rattle.spec_lexing.specs.declared.token.Token.{Token}
 use Rattle.spec_lexing.specs.Tokens.{AreTokensOf, kinds_of}
 use Rattle.spec_lbnf.specs.declared.definition.Def.{Def}
-use Rattle.spec_lbnf.specs.Expansion.{Expansion}
+use Rattle.spec_lbnf.specs.Expansion.{Expansion, expansion_of, symbol_count}
 use Rattle.spec_lbnf.specs.FirstForm.{Spells, IsFirstUnbuilt}
-use Rattle.spec_lbnf.specs.Checks.{IsFirstUnknown}
+use Rattle.spec_lbnf.specs.Checks.{AreAllKnown, IsFirstUnknown, IsFirstCyclic}
 use Rattle.spec_session.specs.Replies.{IsAccepted, IsRefused, unbuilt_line, unknown_line}
+use Rattle.spec_session.specs.Replies.{cyclic_line, symbols_line}
 use Rattle.spec_session.specs.Replies.{grammar_reply, version_reply}
 use Rattle.cyk_io.specs.Streams.{Grows, GrowsByPrefix, Stays}
 use Rattle.lbnf_text.specs.declared.fault.TextFault.TheVariants.{Memory as TextMemory, Unbuilt}
 use Rattle.lbnf_grammar.specs.declared.fault.GrammarFault.TheVariants.{Memory as GrammarMemory}
-use Rattle.lbnf_grammar.specs.declared.fault.GrammarFault.TheVariants.{UnknownCategory}
+use Rattle.lbnf_grammar.specs.declared.fault.GrammarFault.TheVariants.{UnknownCategory, Cyclic}
+use Rattle.binary_form.specs.declared.fault.BinaryFault.{BinaryFault}
+use Rattle.binary_form.specs.declared.fault.BinaryFault.TheVariants.{Memory as BinaryMemory}
+use Rattle.binary_form.specs.declared.fault.BinaryFault.TheVariants.{TooManySymbols}
+use Rattle.valiant.specs.Charts.{ChartValue, IsChartOf}
 use Rattle.chart_service.specs.declared.opening.LanguageFault.{LanguageFault}
-use Rattle.chart_service.specs.declared.opening.LanguageFault.TheVariants.{Text, Grammar}
+use Rattle.chart_service.specs.declared.opening.LanguageFault.TheVariants.{Text, Grammar, Binary}
+use Rattle.chart_service.specs.declared.opening.Language.{Language}
 use Rattle.chart_service.specs.declared.opening.Opened.{Opened}
 use Rattle.chart_service.specs.declared.status.Status.{Status}
 use Rattle.chart_service.specs.declared.status.Status.TheVariants.{Ok as Fine, BadGrammar}
 use Rattle.chart_service.specs.declared.status.Status.TheVariants.{BadScript, ReadFault, WriteFault}
 use Rattle.chart_service.specs.declared.status.Status.TheVariants.{OutOfMemory}
-use Rattle.chart_service.specs.Table.{AreSimple, IsTableOf}
 
--- no category's text stands twice, and the right sides are those that a table takes
+-- no category's text stands twice
 pub record IsFit (g : Expansion) : Type 0 where
-  pub simple : AreSimple g.rules
   pub distinct : (c d : ℕ) (name : List ℕ) → slice_get g.categories c ≡ Some name
       → slice_get g.categories d ≡ Some name → c ≡ d
 
+-- the language is the grammar's, or the grammar has too many symbols; want of memory is free
+abbrev pub MakesLanguage : Expansion → Result Language BinaryFault → Type 0
+MakesLanguage g (Ok language) = (symbol_count g ≤ 2048) × (language.grammar ≡ g)
+MakesLanguage g (Err BinaryMemory) = Unit {0}
+MakesLanguage g (Err (TooManySymbols count)) = (count ≡ symbol_count g) × (2048 < count)
+
 -- the grammar that the block spells, or why it is refused; want of memory is free
-abbrev pub ReadsLanguage : List ℕ → Result Expansion LanguageFault → Type 0
-ReadsLanguage block (Ok g) = IsAccepted block g × IsFit g
+abbrev pub ReadsLanguage : List ℕ → Result Language LanguageFault → Type 0
+ReadsLanguage block (Ok language) = IsAccepted block language.grammar × IsFit language.grammar
 ReadsLanguage block (Err (Text TextMemory)) = Unit {0}
 ReadsLanguage block (Err (Text (Unbuilt number))) = IsFirstUnbuilt block number
 ReadsLanguage block (Err (Grammar GrammarMemory)) = Unit {0}
 ReadsLanguage block (Err (Grammar (UnknownCategory name number))) =
     (defs : List Def) × Spells block defs × IsFirstUnknown defs name number
+ReadsLanguage block (Err (Grammar (Cyclic name))) =
+    (defs : List Def) × Spells block defs × AreAllKnown defs × IsFirstCyclic (expansion_of defs) name
+ReadsLanguage block (Err (Binary BinaryMemory)) = Unit {0}
+ReadsLanguage block (Err (Binary (TooManySymbols count))) =
+    (defs : List Def) × Spells block defs × AreAllKnown defs × IsAcyclic (expansion_of defs).rules
+    × (count ≡ symbol_count (expansion_of defs)) × (2048 < count)
 
 -- the chart is that of the text's tokens under the grammar
-pub record IsOpened (g : Expansion) (chart : List (List (List ℕ))) (text : List ℕ)
+pub record IsOpened (g : Expansion) (chart : ChartValue) (text : List ℕ)
     (tokens : List Token) : Type 0 where
   pub fit : IsFit g
   pub are_tokens : AreTokensOf g.kinds text tokens
-  pub is_table : IsTableOf g.rules (kinds_of tokens) chart
+  pub is_chart : IsChartOf g (kinds_of tokens) chart
 
 -- the line that refuses a grammar for this fault; there is none for want of memory
 abbrev pub IsRefusal : LanguageFault → List ℕ → Type 0
@@ -50,6 +67,9 @@ IsRefusal (Text TextMemory) line = ⊥
 IsRefusal (Text (Unbuilt number)) line = line ≡ unbuilt_line number
 IsRefusal (Grammar GrammarMemory) line = ⊥
 IsRefusal (Grammar (UnknownCategory name number)) line = line ≡ unknown_line name number
+IsRefusal (Grammar (Cyclic name)) line = line ≡ cyclic_line name
+IsRefusal (Binary BinaryMemory) line = ⊥
+IsRefusal (Binary (TooManySymbols count)) line = line ≡ symbols_line count
 
 -- the reply to the block's grammar: accepted, or refused
 abbrev pub IsGrammarLine : List ℕ → List ℕ → Type 0
@@ -68,8 +88,10 @@ EndsAtGrammar block old new BadScript = ⊥
 EndsAtGrammar block old new ReadFault = ⊥
 
 -- the block's grammar was accepted and its reply written, or the session was ended there
-abbrev pub Accepts : List ℕ → Option (List ℕ) → Option (List ℕ) → Result Expansion Status → Type 0
-Accepts block old new (Ok g) = IsAccepted block g × IsFit g × Grows old new (grammar_reply g)
+abbrev pub Accepts : List ℕ → Option (List ℕ) → Option (List ℕ) → Result Language Status → Type 0
+Accepts block old new (Ok language) =
+    IsAccepted block language.grammar × IsFit language.grammar
+    × Grows old new (grammar_reply language.grammar)
 Accepts block old new (Err status) = EndsAtGrammar block old new status
 
 -- the reply to the text is this line
@@ -92,9 +114,9 @@ EndsAtText g text old new ReadFault = ⊥
 -- the text was opened and its reply written
 pub record HasOpened (g : Expansion) (text : List ℕ) (old new : Option (List ℕ))
     (opened : Opened) : Type 0 where
-  pub grammar : opened.grammar ≡ g
+  pub grammar : opened.language.grammar ≡ g
   pub tokens : List Token
-  pub is_opened : IsOpened opened.grammar opened.chart text tokens
+  pub is_opened : IsOpened opened.language.grammar opened.chart text tokens
   pub written : Grows old new (version_reply 0 (length tokens))
 
 -- the text was opened and its reply written, or the session was ended there

@@ -23,11 +23,11 @@ pub record Running (input before : List ℕ) (coming : Option (List ℕ)) (at : 
   pub comes : coming ≡ Some rest
   pub are_questions : AreQuestions questions
   pub begins : Begins 0 input (header ∷ grammar block ∷ opens text ∷ questions) at rest
-  pub accepted : IsAccepted block opened.grammar
-  pub is_opened : IsOpened opened.grammar opened.chart text tokens
-  pub are_replies : AreReplies opened.grammar (text ∷ []) questions replies
+  pub accepted : IsAccepted block opened.language.grammar
+  pub is_opened : IsOpened opened.language.grammar opened.chart text tokens
+  pub are_replies : AreReplies opened.language.grammar (text ∷ []) questions replies
   pub has_written : now ≡ Some (before
-      ++ (grammar_reply opened.grammar ++ (version_reply 0 (length tokens) ++ replies)))
+      ++ (grammar_reply opened.language.grammar ++ (version_reply 0 (length tokens) ++ replies)))
 
 -- the session was ended with this status: all of it was written, or a fault left a prefix
 abbrev pub Ends : List ℕ → List ℕ → Option (List ℕ) → Status → Type 0

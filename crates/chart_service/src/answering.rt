@@ -57,16 +57,23 @@ fn category_of(grammar: &Grammar, constituent: &Constituent<'_>) -> Option<u16>
     }
 }
 
-/// Whether the category derives the span. No category derives an empty span in this form.
+/// Whether the category derives the span: a span that is not empty by its entry in the chart, an
+/// empty one where the category is nullable.
 fn is_derived(opened: &Opened, category: u16, first: usize, end: usize) -> bool
+    requires own { category < length opened.now.language.grammar.categories }
     requires order { first ≤ end }
-    requires within { end ≤ length opened.now.chart }
+    requires within { end ≤ length opened.now.chart.kinds }
     ensures { (text : List ℕ) (tokens : List Token)
-        → IsOpened opened.now.grammar opened.now.chart text tokens
+        → IsOpened opened.now.language.grammar opened.now.chart text tokens
         → IsTrue result
-        ↔ Derives opened.now.grammar.rules (kinds_of tokens) (Category category) first end }
+        ↔ Derives opened.now.language.grammar.rules (kinds_of tokens) (Category category) first end }
 {
-    first < end && opened.chart.has(category, first, end)
+    let symbol = opened.language.binary.symbol_of(Symbol::Category(category));
+    if first < end {
+        opened.chart.has(symbol, first as u32, end as u32)
+    } else {
+        opened.language.binary.nullable(symbol)
+    }
 }
 
 /// The place at which the constituent begins.
@@ -94,13 +101,13 @@ fn end_of(constituent: &Constituent<'_>, tokens: usize) -> usize
 /// The answer to whether the constituent is derived.
 pub(crate) fn answer_of(opened: &Opened, constituent: &Constituent<'_>) -> Answer
     ensures { (text : List ℕ) (tokens : List Token)
-        → IsOpened opened.now.grammar opened.now.chart text tokens
-        → IsAnswer opened.now.grammar tokens (meant constituent.now) (answer_line result) }
+        → IsOpened opened.now.language.grammar opened.now.chart text tokens
+        → IsAnswer opened.now.language.grammar tokens (meant constituent.now) (answer_line result) }
 {
-    let Some(category) = category_of(&opened.grammar, constituent) else {
+    let Some(category) = category_of(&opened.language.grammar, constituent) else {
         return Answer::UnknownCategory;
     };
-    let tokens = opened.chart.len();
+    let tokens = opened.chart.len() as usize;
     let first = first_of(constituent);
     let end = end_of(constituent, tokens);
     if end < first {

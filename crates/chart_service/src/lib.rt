@@ -9,7 +9,6 @@ mod options;
 mod reading;
 mod serving;
 mod status;
-mod table;
 #[cfg(test)]
 mod tests;
 mod writing;

@@ -1,5 +1,5 @@
 //! Accepting a grammar, and opening a text under it.
-ghost use Rattle.std.specs.Prelude.{◌≡◌, ◌+◌, ℕ, List, length, IfOk, IfErr, OnOk, OnErr, Err};
+ghost use Rattle.std.specs.Prelude.{◌≡◌, ◌+◌, ◌≤◌, ℕ, List, length, IfOk, IfErr, OnOk, OnErr, Err};
 ghost use Rattle.std.specs.Prelude.{IsErrOf, string_bytes};
 ghost use Rattle.cyk_io.specs.Causes.{HasCause};
 ghost use Rattle.cyk_io.specs.Streams.{Grows, GrowsByPrefix};
@@ -7,36 +7,60 @@ ghost use Rattle.std.specs.Str.{IsAscii};
 ghost use Rattle.spec_lexing.specs.declared.token.Token.{Token};
 ghost use Rattle.spec_session.specs.Replies.{grammar_reply, version_reply};
 ghost use Rattle.chart_service.specs.Statuses.{IsWriteStop};
-ghost use Rattle.chart_service.specs.Opening.{ReadsLanguage, IsFit, IsRefusal, EndsAtGrammar};
+ghost use Rattle.chart_service.specs.Opening.{MakesLanguage, ReadsLanguage, IsFit, IsRefusal, EndsAtGrammar};
 ghost use Rattle.chart_service.specs.Opening.{Accepts, IsOpened, OpensText};
 
 use crate::lexing::{kinds_of, tokens_of};
 use crate::status::Status;
-use crate::table::SpanTable;
 use crate::writing::{finish, say};
+use binary_form::{Binary, BinaryFault, binary};
+use cell_sets::ListCell;
 use cyk_io::Sink;
 use lbnf_grammar::{Grammar, GrammarFault, expand};
 use lbnf_text::{TextFault, read_defs};
 use std::alloc::{AllocError, Global};
+use valiant::Chart;
 
 /// Why a grammar is refused.
 #[derive(Debug, Drop)]
 pub(crate) enum LanguageFault {
     Text(TextFault),
     Grammar(GrammarFault),
+    Binary(BinaryFault),
 }
 
-/// The grammar that the block spells.
-fn read_language(alloc: Global, block: &[u8]) -> Result<Grammar, LanguageFault>
+/// A grammar that was accepted, and its binary form.
+#[derive(Drop)]
+pub(crate) struct Language {
+    pub(crate) grammar: Grammar,
+    pub(crate) binary: Binary<ListCell>,
+    pub(crate) ghost same: { binary ≡ grammar },
+}
+
+/// The grammar with its binary form, or that it has too many symbols.
+fn language_of(alloc: Global, grammar: Grammar) -> Result<Language, BinaryFault>
+    ensures { MakesLanguage grammar result }
+{
+    let binary = binary::<ListCell>(alloc, &grammar)?;
+    Ok(Language { grammar, binary })
+}
+
+/// The language of the grammar that the block spells.
+fn read_language(alloc: Global, block: &[u8]) -> Result<Language, LanguageFault>
+    requires small { length block.now ≤ 65536 }
     ensures { ReadsLanguage block.now result }
 {
     let defs = match read_defs(alloc, block) {
         Ok(defs) => defs,
         Err(fault) => return Err(LanguageFault::Text(fault)),
     };
-    match expand(alloc, &defs) {
-        Ok(grammar) => Ok(grammar),
-        Err(fault) => Err(LanguageFault::Grammar(fault)),
+    let grammar = match expand(alloc, &defs) {
+        Ok(grammar) => grammar,
+        Err(fault) => return Err(LanguageFault::Grammar(fault)),
+    };
+    match language_of(alloc, grammar) {
+        Ok(language) => Ok(language),
+        Err(fault) => Err(LanguageFault::Binary(fault)),
     }
 }
 
@@ -52,8 +76,16 @@ fn refusal_line(alloc: Global, fault: &LanguageFault) -> Result<String, AllocErr
             let name = name.as_str();
             format!(in alloc; "grammar refused category {name} {def}\n")
         }
+        LanguageFault::Grammar(GrammarFault::Cyclic { name }) => {
+            let name = name.as_str();
+            format!(in alloc; "grammar refused cyclic {name}\n")
+        }
+        LanguageFault::Binary(BinaryFault::TooManySymbols { count }) => {
+            format!(in alloc; "grammar refused symbols {count}\n")
+        }
         LanguageFault::Text(TextFault::Memory) => Err(AllocError),
         LanguageFault::Grammar(GrammarFault::Memory) => Err(AllocError),
+        LanguageFault::Binary(BinaryFault::Memory) => Err(AllocError),
     }
 }
 
@@ -96,14 +128,15 @@ fn say_grammar<K: Sink>(alloc: Global, sink: &mut K, grammar: &Grammar) -> Resul
 }
 
 /// Accepts the grammar that the block spells and writes its reply, or refuses it.
-pub(crate) fn accept<K: Sink>(alloc: Global, sink: &mut K, block: &[u8]) -> Result<Grammar, Status>
+pub(crate) fn accept<K: Sink>(alloc: Global, sink: &mut K, block: &[u8]) -> Result<Language, Status>
+    requires small { length block.now ≤ 65536 }
     ensures ok { Accepts block.now (K.written sink.old) (K.written sink.new) result }
     ensures cause { HasCause (K.faults sink.old) (K.faults sink.new)
         (IsErrOf result Status.WriteFault) }
 {
     match read_language(alloc, block) {
-        Ok(grammar) => match say_grammar(alloc, sink, &grammar) {
-            Ok(()) => Ok(grammar),
+        Ok(language) => match say_grammar(alloc, sink, &language.grammar) {
+            Ok(()) => Ok(language),
             Err(status) => Err(status),
         },
         Err(fault) => Err(refuse_grammar(alloc, sink, &fault)),
@@ -113,20 +146,25 @@ pub(crate) fn accept<K: Sink>(alloc: Global, sink: &mut K, block: &[u8]) -> Resu
 /// A text that is open under a grammar: the categories that derive each span of its tokens.
 #[derive(Drop)]
 pub(crate) struct Opened {
-    pub(crate) grammar: Grammar,
-    pub(crate) chart: SpanTable,
+    pub(crate) language: Language,
+    pub(crate) chart: Chart<ListCell>,
 }
 
 /// The chart of the text's tokens.
-fn chart_of(alloc: Global, grammar: &Grammar, text: &[u8]) -> Result<SpanTable, AllocError>
-    requires fit { IsFit grammar.now }
+fn chart_of(
+    alloc: Global,
+    language: &Language,
+    text: &[u8],
+) -> Result<Chart<ListCell>, AllocError>
+    requires fit { IsFit language.now.grammar }
     requires ascii { IsAscii text.now }
+    requires short { length text.now ≤ 4096 }
     ensures { IfOk result
-        (λ chart. (tokens : List Token) × IsOpened grammar.now chart text.now tokens) }
+        (λ chart. (tokens : List Token) × IsOpened language.now.grammar chart text.now tokens) }
 {
-    let tokens = tokens_of(alloc, grammar.kinds(), text)?;
+    let tokens = tokens_of(alloc, language.grammar.kinds(), text)?;
     let kinds = kinds_of(alloc, tokens.as_slice())?;
-    SpanTable::of(alloc, grammar.rules(), kinds.as_slice())
+    Chart::of_kinds(alloc, &language.binary, kinds.as_slice())
 }
 
 /// The reply to a text that is opened.
@@ -156,20 +194,21 @@ fn say_version<K: Sink>(alloc: Global, sink: &mut K, tokens: usize) -> Result<()
 pub(crate) fn open_text<K: Sink>(
     alloc: Global,
     sink: &mut K,
-    grammar: Grammar,
+    language: Language,
     text: &[u8],
 ) -> Result<Opened, Status>
-    requires fit { IsFit grammar }
+    requires fit { IsFit language.grammar }
     requires ascii { IsAscii text.now }
-    ensures ok { OpensText grammar text.now (K.written sink.old) (K.written sink.new) result }
+    requires short { length text.now ≤ 4096 }
+    ensures ok { OpensText language.grammar text.now (K.written sink.old) (K.written sink.new) result }
     ensures cause { HasCause (K.faults sink.old) (K.faults sink.new)
         (IsErrOf result Status.WriteFault) }
 {
-    let Ok(chart) = chart_of(alloc, &grammar, text) else {
+    let Ok(chart) = chart_of(alloc, &language, text) else {
         return Err(Status::OutOfMemory);
     };
-    match say_version(alloc, sink, chart.len()) {
-        Ok(()) => Ok(Opened { grammar, chart }),
+    match say_version(alloc, sink, chart.len() as usize) {
+        Ok(()) => Ok(Opened { language, chart }),
         Err(status) => Err(status),
     }
 }

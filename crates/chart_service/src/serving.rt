@@ -47,13 +47,13 @@ fn begin<S: Source, K: Sink>(
     let Some(block) = read_grammar(alloc, source, ahead, line)? else {
         return Err(refuse_script(alloc, sink, start));
     };
-    let grammar = match accept(alloc, sink, block.as_slice()) {
-        Ok(grammar) => grammar,
+    let language = match accept(alloc, sink, block.as_slice()) {
+        Ok(language) => language,
         Err(status) => return Err(status),
     };
     let start = ahead.offset();
     match read_text(alloc, source, ahead, line) {
-        Ok(Some(text)) => open_text(alloc, sink, grammar, text.as_slice()),
+        Ok(Some(text)) => open_text(alloc, sink, language, text.as_slice()),
         Ok(None) => Err(refuse_script(alloc, sink, start)),
         Err(status) => Err(status),
     }

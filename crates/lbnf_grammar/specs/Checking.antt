@@ -7,7 +7,7 @@ use Rattle.spec_lbnf.specs.declared.definition.Def.TheVariants.{Rule as RuleDef}
 use Rattle.spec_lbnf.specs.Expansion.{category_text, item_categories}
 use Rattle.spec_lbnf.specs.Checks.{AreAllKnown, IsFirstUnknown}
 use Rattle.lbnf_grammar.specs.declared.fault.GrammarFault.{GrammarFault}
-use Rattle.lbnf_grammar.specs.declared.fault.GrammarFault.TheVariants.{Memory, UnknownCategory}
+use Rattle.lbnf_grammar.specs.declared.fault.GrammarFault.TheVariants.{Memory, UnknownCategory, Cyclic}
 use Rattle.lbnf_grammar.specs.Numbering.{with_name}
 
 -- the names with the category of the definition's rule
@@ -41,3 +41,4 @@ abbrev pub ChecksDefs : List Def → Result (Unit {0}) GrammarFault → Type 0
 ChecksDefs defs (Ok done) = AreAllKnown defs
 ChecksDefs defs (Err Memory) = Unit {0}
 ChecksDefs defs (Err (UnknownCategory name number)) = IsFirstUnknown defs name number
+ChecksDefs defs (Err (Cyclic name)) = ⊥

@@ -2,21 +2,24 @@
 -- category up.
 use Rattle.std.specs.Prelude.{◌≡◌, ◌<◌, ◌^◌, ℕ, List, [], Option, Some, None, Result, Ok, Err}
 use Rattle.std.specs.Prelude.{length, slice_get, Contains, MatchOption}
+use Rattle.spec_grammar.specs.Cycles.{IsAcyclic}
 use Rattle.spec_grammar.specs.declared.rule.Rule.{Rule}
 use Rattle.spec_grammar.specs.declared.rule.Symbol.{Symbol}
 use Rattle.spec_grammar.specs.declared.rule.Symbol.TheVariants.{Category}
 use Rattle.spec_lbnf.specs.declared.definition.Def.{Def}
 use Rattle.spec_lbnf.specs.Expansion.{Expansion, expansion_of, HasOwnSymbols, item_count}
-use Rattle.spec_lbnf.specs.Checks.{AreAllKnown, IsFirstUnknown}
+use Rattle.spec_lbnf.specs.Checks.{AreAllKnown, IsFirstUnknown, IsFirstCyclic}
 use Rattle.lbnf_grammar.specs.declared.fault.GrammarFault.{GrammarFault}
-use Rattle.lbnf_grammar.specs.declared.fault.GrammarFault.TheVariants.{Memory, UnknownCategory}
+use Rattle.lbnf_grammar.specs.declared.fault.GrammarFault.TheVariants.{Memory, UnknownCategory, Cyclic}
 
 -- the answer on the definitions is the grammar that they stand for, or their first unknown
 -- category; want of memory is free
 abbrev pub Expands : List Def → Result Expansion GrammarFault → Type 0
-Expands defs (Ok grammar) = AreAllKnown defs × (grammar ≡ expansion_of defs)
+Expands defs (Ok grammar) =
+    AreAllKnown defs × IsAcyclic grammar.rules × (grammar ≡ expansion_of defs)
 Expands defs (Err Memory) = Unit {0}
 Expands defs (Err (UnknownCategory name number)) = IsFirstUnknown defs name number
+Expands defs (Err (Cyclic name)) = AreAllKnown defs × IsFirstCyclic (expansion_of defs) name
 
 -- numbers of rules, categories and kinds have 16 bits, there are fewer than 2 ^ 31 items, and the
 -- rules have symbols of the grammar

@@ -12,4 +12,8 @@ pub enum GrammarFault {
     /// definition that names it. Definitions are numbered from 0.
     #[error("definition {def} names an unknown category")]
     UnknownCategory { name: Name, def: u32 },
+    /// The category of least number that reaches itself by steps: its text. A category steps to an
+    /// item of one of its rules where each other item of that rule derives the empty span.
+    #[error("a category reaches itself")]
+    Cyclic { name: Name },
 }

@@ -1,6 +1,4 @@
--- A grammar that is spelled and known is accepted.
-use Rattle.chart_service.proofs.OpeningLemmas.{accepted_fit}
+-- A grammar that is spelled, known and without a cycle is accepted, where it has few symbols.
+use Rattle.chart_service.proofs.OpeningLemmas.{accepted, crowded_language, unfit_language}
 use Rattle.chart_service.proofs.opening.read_language.Goals as goal
 
-pub returns-in-Ok-expand : goal.returns-in-Ok-expand
-returns-in-Ok-expand c = accepted_fit c.args.block.now c.in-Ok.defs c.in-Ok.ensures c.in-Ok-expand.ensures.0 c.in-Ok-expand.grammar c.in-Ok-expand.ensures.1
