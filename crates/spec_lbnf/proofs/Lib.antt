@@ -1,6 +1,6 @@
+pub mod SizeLemmas
 pub mod RunLemmas
 pub mod TokenLemmas
-pub mod FrontLemmas
 pub mod ReadingLemmas
 pub mod FileLemmas
 pub mod CheckLemmas
