@@ -10,6 +10,9 @@ use crate::rule::read_def;
 use spec_lbnf::Def;
 use std::alloc::Global;
 
+/// The most bytes of a file.
+pub const MAX_FILE: usize = 65_536;
+
 /// The most definitions of a file.
 const MAX_DEFS: usize = 1024;
 
