@@ -1,11 +1,12 @@
 -- Reading the pieces one after another.
-use Rattle.std.proofs.Common.{◌≡◌, ℕ, zero, suc, ◌+◌, ◌*◌, ◌<◌, ◌≤◌, ◌⊎◌, List, [], ◌∷◌, ◌++◌, length, Some, refl, sym, ap, subst, ◌∙◌, inl, inr, arith, length-append, slice_get, lit≤, Err, Bor, map, get_or}
+use Rattle.std.proofs.Common.{◌≡◌, ℕ, zero, suc, ◌+◌, ◌<◌, ◌≤◌, ◌⊎◌, List, [], ◌∷◌, ◌++◌, length, Some, refl, sym, ap, subst, ◌∙◌, inl, inr, arith, length-append, slice_get, Err, Bor, map, get_or}
 use Rattle.std.specs.Option.{option_map}
-use Rattle.std.proofs.lemmas.List.Sums.{sum_by-append}
+use Rattle.std.proofs.lemmas.List.{length-map}
 use Rattle.std.proofs.lemmas.Option.{none-some, same_Some, slice_get-map, slice_get-get_or}
 use Rattle.spec_lbnf.specs.declared.definition.Def.{Def}
-use Rattle.spec_lbnf.specs.FirstForm.{pieces_of, def_size, size_of, SpellsDef, Spells, IsUnbuilt, IsFirstUnbuilt}
+use Rattle.spec_lbnf.specs.FirstForm.{pieces_of, size_of, SpellsDef, Spells, IsUnbuilt, IsFirstUnbuilt}
 use Rattle.spec_lbnf.proofs.FileLemmas.{item_at}
+use Rattle.spec_lbnf.proofs.SizeLemmas.{two_bytes_each}
 use Rattle.lbnf_text.specs.declared.fault.TextFault.{TextFault}
 use Rattle.lbnf_text.specs.declared.fault.TextFault.TheVariants.{Memory, Unbuilt}
 use Rattle.lbnf_text.specs.Reading.{ReadsDefs}
@@ -22,22 +23,16 @@ slice_get_push (z ∷ xs) x y (suc k) e = elim (slice_get_push xs x y k e) [
   | inr h ↦ inr (ap suc h.0, h.1)
 ]
 
--- a definition and its items are at most three
-spelled_small : (piece : List ℕ) (def : Def) → SpellsDef piece def → def_size def ≤ 3
-spelled_small piece def (inl spelled) = subst (λ d. def_size d ≤ 3) (sym spelled.4) (lit≤ tt)
-spelled_small piece def (inr spelled) = subst (λ d. def_size d ≤ 3) (sym spelled.5) (lit≤ tt)
-
 -- the first pieces, so many, spell these definitions
 pub record AreReadUpTo (pieces : List (List ℕ)) (number : ℕ) (defs : List Def) : Type 0 where
   pub few : number ≤ 1024
   pub count : length defs ≡ number
-  pub small : size_of defs ≤ 3 * number
   pub each : (k : ℕ) (piece : List ℕ) (def : Def) → slice_get pieces k ≡ Some piece
       → slice_get defs k ≡ Some def → SpellsDef piece def
 
 -- at first nothing is read
 pub none_read : (pieces : List (List ℕ)) → AreReadUpTo pieces 0 []
-none_read pieces = record { few = omega arith; count = refl; small = omega arith; each = λ k piece def at e. absurd (none-some def e) }
+none_read pieces = record { few = omega arith; count = refl; each = λ k piece def at e. absurd (none-some def e) }
 
 module _ (pieces : List (List ℕ)) (number : ℕ) (defs : List Def) (read : AreReadUpTo pieces number defs) where
   -- the definition of the next piece is read
@@ -46,7 +41,6 @@ module _ (pieces : List (List ℕ)) (number : ℕ) (defs : List Def) (read : Are
   more_read piece def at few spelled = record {
     few = omega arith;
     count = omega (arith, length-append defs (def ∷ []));
-    small = omega (arith, sum_by-append def_size defs (def ∷ []), spelled_small piece def spelled);
     each = λ k other d at_k e. by k other d at_k (slice_get_push defs def d k e);
   }
     where
@@ -91,3 +85,13 @@ pub piece_at : (slices : List (Bor (List ℕ))) (number : ℕ) (d : Bor (List �
 piece_at slices number d lt =
     let now : Bor (List ℕ) → List ℕ = λ p. p.now in
     slice_get-map now slices number ∙ ap (option_map now) (slice_get-get_or slices number d lt)
+
+-- where all pieces of at most 65,536 bytes are read, the definitions and items are at most 32,768
+pub few_read : (slices : List (Bor (List ℕ))) (bytes : List ℕ) (number : ℕ) (defs : List Def)
+    → map (λ p. p.now) slices ≡ pieces_of bytes → AreReadUpTo (map (λ p. p.now) slices) number defs
+    → number ≡ length slices → length bytes ≤ 65536 → size_of defs ≤ 32768
+few_read slices bytes number defs pieces read all short =
+    let now : Bor (List ℕ) → List ℕ = λ p. p.now in
+    let read_all : AreReadUpTo (pieces_of bytes) number defs = subst (λ ps. AreReadUpTo ps number defs) pieces read in
+    let spelled = all_read bytes number defs read_all (all ∙ sym (length-map slices now) ∙ ap length pieces) in
+    omega (arith, two_bytes_each bytes defs spelled, short)

@@ -1,3 +1,4 @@
 pub mod Reading
 pub mod PieceReading
 pub mod ByteSorts
+pub mod ItemReading

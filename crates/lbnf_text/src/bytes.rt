@@ -1,7 +1,7 @@
 //! Bytes and runs of bytes of one sort.
 ghost use Rattle.std.specs.Prelude.{◌≡◌, ◌≤◌, length, take, drop};
 ghost use Rattle.std.specs.List.{prefix_len, list_all};
-ghost use Rattle.spec_lbnf.specs.FirstForm.{is_white, is_upper, is_name_byte, is_word_byte, starts_upper};
+ghost use Rattle.spec_lbnf.specs.FirstForm.{is_white, is_name_byte, is_word_byte, starts_upper};
 ghost use Rattle.spec_lbnf.specs.Reading.{skip_white, starts_quote};
 ghost use Rattle.lbnf_text.specs.ByteSorts.{test_of};
 
@@ -34,26 +34,16 @@ fn is_white(byte: u8) -> bool
     byte == b' ' || (9 <= byte && byte <= 13)
 }
 
-fn is_upper(byte: u8) -> bool
-    ensures { result ≡ is_upper byte }
-{
-    b'A' <= byte && byte <= b'Z'
-}
-
 fn is_name_byte(byte: u8) -> bool
     ensures { result ≡ is_name_byte byte }
 {
-    is_upper(byte)
-        || (b'a' <= byte && byte <= b'z')
-        || (b'0' <= byte && byte <= b'9')
-        || byte == b'_'
-        || byte == b'\''
+    byte.is_ascii_alphanumeric() || byte == b'_' || byte == b'\''
 }
 
 fn is_word_byte(byte: u8) -> bool
     ensures { result ≡ is_word_byte byte }
 {
-    0x21 <= byte && byte <= 0x7e && !(byte == b'"' || byte == b';' || byte == b'\\')
+    byte.is_ascii_graphic() && !(byte == b'"' || byte == b';' || byte == b'\\')
 }
 
 /// How many bytes of the sort the bytes begin with.
@@ -92,7 +82,7 @@ pub fn starts_upper(bytes: &[u8]) -> bool
 {
     match bytes {
         [] => false,
-        [byte, ..] => is_upper(*byte),
+        [byte, ..] => byte.is_ascii_uppercase(),
     }
 }
 

@@ -11,7 +11,7 @@ mod tokens;
 
 pub use defs::Defs;
 pub use fault::TextFault;
-pub use reading::read_defs;
+pub use reading::{MAX_FILE, read_defs};
 pub use spec_grammar::Label;
 pub use spec_lbnf::{CatName, Def, RawItem, RawRule};
 pub use spec_text::Name;

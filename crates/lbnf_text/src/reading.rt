@@ -1,5 +1,5 @@
 //! Reading a file's definitions, piece by piece.
-ghost use Rattle.std.specs.Prelude.{◌≤◌};
+ghost use Rattle.std.specs.Prelude.{◌≤◌, length};
 ghost use Rattle.lbnf_text.specs.Reading.{ReadsDefs};
 ghost use Rattle.lbnf_text.specs.PieceReading.{ReadsPiece};
 
@@ -9,6 +9,9 @@ use crate::pieces::split_pieces;
 use crate::rule::read_def;
 use spec_lbnf::Def;
 use std::alloc::Global;
+
+/// The most bytes of a file.
+pub const MAX_FILE: usize = 65_536;
 
 /// The most definitions of a file.
 const MAX_DEFS: usize = 1024;
@@ -30,10 +33,11 @@ fn read_piece(alloc: Global, number: usize, piece: &[u8]) -> Result<Def, TextFau
 }
 
 /// The definitions that the bytes of a grammar file spell, or the number of the first piece that
-/// is not of the built form: labelled BNF in our own profile, of which rules of one word and of
-/// two categories are built. At most 1,024 definitions are read. Their names are copied; it takes
-/// time and memory in proportion to the file.
+/// is not of the built form: labelled BNF in our own profile, of which rules of any number of
+/// categories and words are built. At most 1,024 definitions are read. Their names are copied; it
+/// takes time and memory in proportion to the file.
 pub fn read_defs(alloc: Global, bytes: &[u8]) -> Result<Defs, TextFault>
+    requires { length bytes.now ≤ 65536 }
     ensures { ReadsDefs bytes.now result }
 {
     let pieces = split_pieces(alloc, bytes).map_err(|_| TextFault::Memory)?;

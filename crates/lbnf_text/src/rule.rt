@@ -1,13 +1,13 @@
 //! The rule that a piece spells.
-ghost use Rattle.std.specs.Prelude.{◌≡◌, if◌then◌else◌, IfOk, IfSome};
+ghost use Rattle.std.specs.Prelude.{◌≡◌, IfOk, IfSome};
 ghost use Rattle.std.specs.Option.{option_map};
 ghost use Rattle.std.specs.Str.{IsAscii};
 ghost use Rattle.spec_lbnf.specs.FirstForm.{category_of};
-ghost use Rattle.spec_lbnf.specs.Reading.{head_at, closed_word, word_at, pair_at, word_side};
-ghost use Rattle.spec_lbnf.specs.Reading.{pair_side, side_at, def_at};
+ghost use Rattle.spec_lbnf.specs.Reading.{head_at, side_at, def_at};
+ghost use Rattle.lbnf_text.specs.ItemReading.{item_of, text_of};
 
-use crate::bytes::{ByteSort, is_blank, skip_white, split_run, starts_quote};
-use crate::tokens::{category, name, sign};
+use crate::bytes::is_blank;
+use crate::tokens::{ItemText, category, item, name, sign};
 use spec_grammar::Label;
 use spec_lbnf::{CatName, Def, RawItem, RawRule};
 use spec_text::Name;
@@ -35,43 +35,6 @@ fn read_front(piece: &[u8]) -> Option<RuleFront<'_>>
     Some(RuleFront { label, cat, rest })
 }
 
-#[tactic(auto, unfolding(spec_lbnf::specs::Reading::closed_word))]
-fn is_closed(word: &[u8], rest: &[u8]) -> bool
-    ensures { (if result then Some word.now else None) ≡ closed_word word.now rest.now }
-{
-    !word.is_empty() && starts_quote(rest) && is_blank(&rest[1..])
-}
-
-/// The word in quotes that stands alone in the bytes.
-#[tactic(auto, unfolding(spec_lbnf::specs::Reading::word_at))]
-fn word(bytes: &[u8]) -> Option<&[u8]>
-    ensures read { option_map (λ w. w.now) result ≡ word_at bytes.now }
-    ensures ascii { IfSome result (λ w. IsAscii w.now) }
-{
-    let quoted = sign(b"\"".as_slice(), bytes)?;
-    let (word, rest) = split_run(quoted, ByteSort::InWord);
-    if is_closed(word, rest) {
-        Some(word)
-    } else {
-        None
-    }
-}
-
-/// The two categories that stand alone in the bytes.
-#[tactic(auto, unfolding(spec_lbnf::specs::Reading::pair_at))]
-fn pair(bytes: &[u8]) -> Option<(&[u8], &[u8])>
-    ensures read { option_map (λ x. (x.0.now, x.1.now)) result ≡ pair_at bytes.now }
-    ensures ascii { IfSome result (λ x. IsAscii x.0.now × IsAscii x.1.now) }
-{
-    let (left, rest) = category(bytes)?;
-    let (right, rest) = category(rest)?;
-    if is_blank(rest) {
-        Some((left, right))
-    } else {
-        None
-    }
-}
-
 fn owned(alloc: Global, text: &[u8]) -> Result<Name, AllocError>
     requires { IsAscii text.now }
     ensures { IfOk result (λ owned. owned ≡ text.now) }
@@ -88,41 +51,30 @@ fn owned_category(alloc: Global, text: &[u8]) -> Result<CatName, AllocError>
     Ok(CatName { name, depth: 0 })
 }
 
-#[tactic(auto, unfolding(spec_lbnf::specs::Reading::word_side))]
-fn word_side(alloc: Global, bytes: &[u8]) -> Result<Option<Items<RawItem>>, AllocError>
-    ensures { IfOk result (λ items. items ≡ word_side bytes.now) }
+fn owned_item(alloc: Global, item: ItemText<'_>) -> Result<RawItem, AllocError>
+    requires { IsAscii (text_of item) }
+    ensures { IfOk result (λ owned. owned ≡ item_of item.entry) }
 {
-    let Some(word) = word(bytes) else {
-        return Ok(None);
-    };
-    let mut items = Items::new(alloc);
-    items.push(RawItem::Word(owned(alloc, word)?))?;
-    Ok(Some(items))
+    match item {
+        ItemText::Category(name) => Ok(RawItem::Cat(owned_category(alloc, name)?)),
+        ItemText::Word(word) => Ok(RawItem::Word(owned(alloc, word)?)),
+    }
 }
 
-#[tactic(auto, unfolding(spec_lbnf::specs::Reading::pair_side))]
-fn pair_side(alloc: Global, bytes: &[u8]) -> Result<Option<Items<RawItem>>, AllocError>
-    ensures { IfOk result (λ items. items ≡ pair_side bytes.now) }
-{
-    let Some((left, right)) = pair(bytes) else {
-        return Ok(None);
-    };
-    let mut items = Items::new(alloc);
-    items.push(RawItem::Cat(owned_category(alloc, left)?))?;
-    items.push(RawItem::Cat(owned_category(alloc, right)?))?;
-    Ok(Some(items))
-}
-
-/// The right side that the bytes are: a word where a quote comes first, and else two categories.
-#[tactic(auto, unfolding(spec_lbnf::specs::Reading::side_at))]
+/// The items that the bytes are, and `None` where what comes next is no item.
 fn side(alloc: Global, bytes: &[u8]) -> Result<Option<Items<RawItem>>, AllocError>
     ensures { IfOk result (λ items. items ≡ side_at bytes.now) }
 {
-    if starts_quote(skip_white(bytes)) {
-        word_side(alloc, bytes)
-    } else {
-        pair_side(alloc, bytes)
+    let mut items = Items::new(alloc);
+    let mut rest = bytes;
+    while !is_blank(rest) {
+        let Some((text, behind)) = item(rest) else {
+            return Ok(None);
+        };
+        items.push(owned_item(alloc, text)?)?;
+        rest = behind;
     }
+    Ok(Some(items))
 }
 
 /// The definition that the piece spells, and `None` where it spells none.

@@ -2,9 +2,17 @@
 ghost use Rattle.std.specs.Prelude.{◌≡◌, IfSome};
 ghost use Rattle.std.specs.Option.{option_map};
 ghost use Rattle.std.specs.Str.{IsAscii};
-ghost use Rattle.spec_lbnf.specs.Reading.{is_predefined, name_at, sign_at, category_at};
+ghost use Rattle.spec_lbnf.specs.Reading.{is_predefined, name_at, sign_at, category_at, word_at, item_at};
+ghost use Rattle.lbnf_text.specs.ItemReading.{item_of, text_of};
 
-use crate::bytes::{ByteSort, skip_white, split_run, starts_upper};
+use crate::bytes::{ByteSort, skip_white, split_run, starts_quote, starts_upper};
+
+/// An item of a right side, as it stands in the piece.
+#[derive(Drop)]
+pub enum ItemText<'a> {
+    Category(&'a [u8]),
+    Word(&'a [u8]),
+}
 
 /// The most bytes of an identifier.
 const MAX_NAME: usize = 64;
@@ -29,12 +37,7 @@ pub fn name(bytes: &[u8]) -> Option<(&[u8], &[u8])>
 pub fn sign<'a>(sign: &[u8], bytes: &'a [u8]) -> Option<&'a [u8]>
     ensures { option_map (λ x. x.now) result ≡ sign_at sign.now bytes.now }
 {
-    let here = skip_white(bytes);
-    if sign.len() <= here.len() && &here[..sign.len()] == sign {
-        Some(&here[sign.len()..])
-    } else {
-        None
-    }
+    skip_white(bytes).strip_prefix(sign)
 }
 
 fn is_predefined(text: &[u8]) -> bool
@@ -58,4 +61,35 @@ pub fn category(bytes: &[u8]) -> Option<(&[u8], &[u8])>
         return None;
     }
     Some((name, rest))
+}
+
+/// The word in quotes at the front, and what is behind it.
+#[tactic(auto, unfolding(spec_lbnf::specs::Reading::word_at, spec_lbnf::specs::Reading::closed_word))]
+fn word(bytes: &[u8]) -> Option<(&[u8], &[u8])>
+    ensures read { option_map (λ x. (x.0.now, x.1.now)) result ≡ word_at bytes.now }
+    ensures ascii { IfSome result (λ x. IsAscii x.0.now) }
+{
+    let quoted = sign(b"\"".as_slice(), bytes)?;
+    let (word, rest) = split_run(quoted, ByteSort::InWord);
+    if !word.is_empty() && starts_quote(rest) {
+        Some((word, &rest[1..]))
+    } else {
+        None
+    }
+}
+
+/// The item at the front, and what is behind it: a word where a quote comes first, and else a
+/// category.
+#[tactic(auto, unfolding(spec_lbnf::specs::Reading::item_at, spec_lbnf::specs::Reading::word_item, spec_lbnf::specs::Reading::category_item))]
+pub fn item(bytes: &[u8]) -> Option<(ItemText<'_>, &[u8])>
+    ensures read { option_map (λ x. (item_of x.0, x.1.now)) result ≡ item_at bytes.now }
+    ensures ascii { IfSome result (λ x. IsAscii (text_of x.0)) }
+{
+    if starts_quote(skip_white(bytes)) {
+        let (word, rest) = word(bytes)?;
+        Some((ItemText::Word(word), rest))
+    } else {
+        let (name, rest) = category(bytes)?;
+        Some((ItemText::Category(name), rest))
+    }
 }

@@ -1,16 +1,10 @@
 -- What a file spells is one list of definitions, and what it does not is one piece.
-use Rattle.std.proofs.Common.{◌≡◌, ℕ, zero, suc, ◌<◌, List, [], ◌∷◌, length, map, Some, slice_get, refl, sym, subst, ◌∙◌, inl, inr, arith}
-use Rattle.std.specs.List.{AllByRecursion}
+use Rattle.std.proofs.Common.{◌≡◌, ℕ, zero, suc, ◌<◌, List, [], ◌∷◌, length, Some, slice_get, refl, sym, ◌∙◌, inl, inr, arith}
 use Rattle.std.proofs.lemmas.Bool.{cases_lt, cases_eq}
-use Rattle.std.proofs.lemmas.List.Elements.{All-from_recursion, All-map}
 use Rattle.std.proofs.lemmas.Option.{slice_get_within}
-use Rattle.spec_grammar.specs.declared.rule.Rule.{Rule}
-use Rattle.spec_lbnf.specs.declared.definition.RawRule.{RawRule}
 use Rattle.spec_lbnf.specs.declared.definition.Def.{Def}
-use Rattle.spec_lbnf.specs.declared.definition.Def.TheVariants.{Rule as RuleDef}
-use Rattle.spec_lbnf.specs.FirstForm.{pieces_of, SpellsDef, IsFirstUnbuilt}
-use Rattle.spec_lbnf.specs.Expansion.{rules_of, categories_of, words_of, symbol_of, numbered_rule}
-use Rattle.spec_lbnf.specs.Laws.{SpelledOrUnbuilt, OneSpelling, OneUnbuilt, IsSimpleSide, SimpleSides}
+use Rattle.spec_lbnf.specs.FirstForm.{pieces_of, IsFirstUnbuilt}
+use Rattle.spec_lbnf.specs.Laws.{SpelledOrUnbuilt, OneSpelling, OneUnbuilt}
 use Rattle.spec_lbnf.proofs.ReadingLemmas.{one_def}
 
 -- there is an item at each place of a list
@@ -67,34 +61,3 @@ one_unbuilt bytes a b first second = elim (cases_eq a b) [
     | inr le ↦ absurd (no_earlier bytes b a second first (omega arith))
   ]
 ]
-
-module _ (categories words : List (List ℕ)) where
-  -- the definition's rule has one kind or two categories as its items
-  abbrev HasSimpleSide : Def → Type 0
-  HasSimpleSide (RuleDef rule) = IsSimpleSide (map (symbol_of categories words) rule.items)
-
-  -- a definition that a piece spells has
-  simple_def : (piece : List ℕ) (def : Def) → SpellsDef piece def → HasSimpleSide def
-  simple_def piece def (inl spelled) = subst HasSimpleSide (sym spelled.4) (inl (_, refl))
-  simple_def piece def (inr spelled) = subst HasSimpleSide (sym spelled.5) (inr (_, _, refl))
-
-  -- the rules of definitions that have such sides have them
-  simple_rules : (defs : List Def) → ((k : ℕ) (def : Def) → slice_get defs k ≡ Some def → HasSimpleSide def)
-      → AllByRecursion (λ (rule : RawRule). IsSimpleSide (map (symbol_of categories words) rule.items)) (rules_of defs)
-  simple_rules [] each = tt
-  simple_rules (RuleDef rule ∷ defs) each = (each 0 (RuleDef rule) refl, simple_rules defs (λ k. each (suc k)))
-
--- the rules of a file have one kind or two categories as their items
-pub simple_sides : SimpleSides
-simple_sides bytes defs spelled =
-    let rules : List RawRule = rules_of defs in
-    let cs : List (List ℕ) = categories_of rules in
-    let ws : List (List ℕ) = words_of rules in
-    All-map (λ (rule : Rule). IsSimpleSide rule.items) (numbered_rule cs ws) rules
-    (All-from_recursion (λ (rule : RawRule). IsSimpleSide (map (symbol_of cs ws) rule.items)) rules (simple_rules cs ws defs each))
-  where
-    each : (k : ℕ) (def : Def) → slice_get defs k ≡ Some def
-        → HasSimpleSide (categories_of (rules_of defs)) (words_of (rules_of defs)) def
-    each k def at =
-        let piece = item_at (pieces_of bytes) k (omega (arith, spelled.count, slice_get_within defs k def at)) in
-        simple_def (categories_of (rules_of defs)) (words_of (rules_of defs)) piece.0 def (spelled.each k piece.0 def piece.1 at)

@@ -1,9 +1,10 @@
+pub mod SizeLemmas
+pub mod RunLemmas
+pub mod TokenLemmas
+pub mod ReadingLemmas
+pub mod FileLemmas
 pub mod CheckLemmas
 pub mod CycleLemmas
-pub mod FileLemmas
 pub mod FrontLemmas
 pub mod NameLemmas
-pub mod ReadingLemmas
-pub mod RunLemmas
 pub mod SymbolLemmas
-pub mod TokenLemmas

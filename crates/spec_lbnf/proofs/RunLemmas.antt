@@ -1,16 +1,11 @@
 -- Runs: the longest front of a list of bytes that passes a test, and what stops it.
-use Rattle.std.proofs.Common.{◌≡◌, ℕ, List, [], ◌∷◌, ◌++◌, length, take, drop, Bool, true, false, refl, sym, inl, inr, arith, take-append-drop, one-add}
+use Rattle.std.proofs.Common.{◌≡◌, ℕ, List, [], ◌∷◌, ◌++◌, length, take, drop, Bool, true, refl, sym, inl, inr, arith, take-append-drop, one-add}
 use Rattle.std.proofs.lemmas.Bool.{cases_Bool}
 use Rattle.std.specs.List.{prefix_len, AllByRecursion}
 use Rattle.std.proofs.lemmas.List.{take_at, drop_at}
-use Rattle.std.proofs.lemmas.List.Elements.{All-from_recursion, recursion_from_All, All-cons, All-nil, All-append}
-use Rattle.spec_lbnf.specs.FirstForm.{is_white, AreWhite}
+use Rattle.std.proofs.lemmas.List.Elements.{All-from_recursion, recursion_from_All}
+use Rattle.spec_lbnf.specs.FirstForm.{is_white, AreWhite, Stops}
 use Rattle.spec_lbnf.specs.Reading.{skip_white}
-
--- the bytes do not begin with one that passes
-abbrev pub Stops : (ℕ → Bool) → List ℕ → Type 0
-Stops passes [] = Unit {0}
-Stops passes (byte ∷ bytes) = passes byte ≡ false
 
 module _ (passes : ℕ → Bool) where
   -- a run that is stopped is the longest front that passes
@@ -61,16 +56,3 @@ skip_white_run space rest white stops = run_drop is_white space rest (recursion_
 pub skipped_white : (bytes : List ℕ) → (space : List ℕ) × AreWhite space × (bytes ≡ space ++ skip_white bytes)
 skipped_white bytes =
     (take (prefix_len is_white bytes) bytes, All-from_recursion (λ b. is_white b ≡ true) _ (run_passes is_white bytes), sym (run_whole is_white bytes))
-
--- no white byte is white
-pub AreWhite-nil : AreWhite []
-AreWhite-nil = All-nil (λ b. is_white b ≡ true)
-
--- white bytes behind white bytes are white
-pub AreWhite-append : (front back : List ℕ) → AreWhite front → AreWhite back → AreWhite (front ++ back)
-AreWhite-append front back white other = All-append (λ b. is_white b ≡ true) front back white other
-
--- a white byte in front of white bytes
-pub AreWhite-cons : (space : ℕ) (bytes : List ℕ) → is_white space ≡ true → AreWhite bytes
-    → AreWhite (space ∷ bytes)
-AreWhite-cons space bytes is_space white = All-cons (λ b. is_white b ≡ true) space bytes is_space white

@@ -10,21 +10,16 @@ use Rattle.std.proofs.lemmas.Slice.Eq.{bytes_eq-Decides}
 use Rattle.std.proofs.lemmas.List.{take-append-drop, take_at, drop_at}
 use Rattle.std.proofs.lemmas.List.Elements.{All-from_recursion, recursion_from_All}
 use Rattle.std.proofs.lemmas.Map.Views.{Contains-from_any, list_any-from_Contains}
-use Rattle.spec_lbnf.specs.FirstForm.{is_white, is_upper, is_name_byte, starts_upper, predefined_names, AreWhite, IsName}
+use Rattle.spec_lbnf.specs.declared.definition.CatName.{CatName}
+use Rattle.spec_lbnf.specs.FirstForm.{is_white, is_upper, is_name_byte, starts_upper, predefined_names, Stops, IsName, IsToken, category_of, BeginsWithCategory}
 use Rattle.spec_lbnf.specs.Reading.{◌>>=◌, only_if, skip_white, is_predefined, name_at, sign_at, category_at}
-use Rattle.spec_lbnf.proofs.RunLemmas.{Stops, run_passes, run_stops, run_whole, run_take, run_drop, run_len, skip_white_run, skipped_white}
+use Rattle.spec_lbnf.proofs.RunLemmas.{run_passes, run_stops, run_whole, run_take, run_drop, run_len, skip_white_run, skipped_white}
 
 -- what a chain gives comes from what its first step gives
 pub chain_some : {A B : Type 0} (o : Option A) (next : A → Option B) (y : B) → (o >>= next) ≡ Some y
     → (x : A) × (o ≡ Some x) × (next x ≡ Some y)
 chain_some (Some x) next y e = (x, refl, e)
 chain_some None next y e = absurd (none-some y e)
-
--- the token stands at the front of the bytes, white bytes or none before it, and the rest behind it
-pub record IsToken (token bytes rest : List ℕ) : Type 0 where
-  pub space : List ℕ
-  pub white : AreWhite space
-  pub whole : bytes ≡ space ++ (token ++ rest)
 
 -- what is read behind the white bytes is a token
 pub token_of_skipped : (token bytes rest : List ℕ) → skip_white bytes ≡ token ++ rest
@@ -139,27 +134,25 @@ not_predefined text free =
 predefined : (text : List ℕ) → is_predefined text ≡ false → Contains predefined_names text → ⊥
 predefined text h there = both_ways (is_predefined text) h (list_any-from_Contains nat_list_eq_equiv text predefined_names there)
 
--- the parts of a category that is read
-pub record ReadsCategory (bytes name rest : List ℕ) : Type 0 where
-  pub reads : ReadsName bytes name rest
-  pub free : Contains predefined_names name → ⊥
-
 -- a category that is read is spelled
 pub category_read : (bytes : List ℕ) (read : List ℕ × List ℕ) → category_at bytes ≡ Some read
-    → ReadsCategory bytes read.0 read.1
+    → BeginsWithCategory (category_of read.0) bytes read.1
 unfolding category_at
 category_read bytes read e =
     let name = chain_some (name_at bytes) (λ (name : List ℕ × List ℕ). only_if (not (is_predefined name.0)) name) read e in
     let split = cond_some (not (is_predefined name.0.0)) name.0 read name.2 in
-    let Reads : List ℕ × List ℕ → Type 0 = λ r. ReadsCategory bytes r.0 r.1 in
+    let is = name_read bytes name.0 name.1 in
+    let Reads : List ℕ × List ℕ → Type 0 = λ r. BeginsWithCategory (category_of r.0) bytes r.1 in
     subst Reads split.1 (record {
-      reads = name_read bytes name.0 name.1;
-      free = predefined name.0.0 (not-true (is_predefined name.0.0) split.0);
+      is_name = (is.is_name, predefined name.0.0 (not-true (is_predefined name.0.0) split.0));
+      bare = refl;
+      token = is.token;
+      longest = is.stops;
     })
 
 -- a category that is spelled is read
-pub category_again : (bytes name rest : List ℕ) → ReadsCategory bytes name rest
-    → category_at bytes ≡ Some (name, rest)
+pub category_again : (cat : CatName) (bytes rest : List ℕ) → BeginsWithCategory cat bytes rest
+    → category_at bytes ≡ Some (cat.name, rest)
 unfolding category_at
-category_again bytes name rest is =
-    rw (name_again bytes name rest is.reads, not_predefined name is.free) refl
+category_again cat bytes rest is =
+    rw (name_again bytes cat.name rest (record { is_name = is.is_name.0; token = is.token; stops = is.longest }), not_predefined cat.name is.is_name.1) refl

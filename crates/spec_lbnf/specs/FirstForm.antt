@@ -1,4 +1,4 @@
--- What a grammar file spells in the form that is built so far: rules of one word or of two categories.
+-- What a grammar file spells in the form that is built so far: rules of categories and words.
 -- The file is cut at each semicolon, and the pieces that are not white alone are numbered from 0.
 use Rattle.std.specs.Prelude.{◌≡◌, ℕ, ◌<◌, ◌≤◌, ◌⊎◌, List, [], ◌∷◌, ◌++◌, length, codes, Bool, true}
 use Rattle.std.specs.Prelude.{false, not, ◌&&◌, ◌||◌, nat_eq, nat_le, slice_get, Some, All}
@@ -6,6 +6,7 @@ use Rattle.std.specs.Prelude.{Contains, filter, ◌+◌, sum_by}
 use Rattle.std.specs.List.{slice_split, list_all}
 use Rattle.spec_grammar.specs.declared.rule.Label.TheVariants.{Named}
 use Rattle.spec_lbnf.specs.declared.definition.CatName.{CatName}
+use Rattle.spec_lbnf.specs.declared.definition.RawItem.{RawItem}
 use Rattle.spec_lbnf.specs.declared.definition.RawItem.TheVariants.{Cat, Word}
 use Rattle.spec_lbnf.specs.declared.definition.Def.{Def}
 use Rattle.spec_lbnf.specs.declared.definition.Def.TheVariants.{Rule}
@@ -57,51 +58,66 @@ IsCategoryName bytes = IsName bytes × (Contains predefined_names bytes → ⊥)
 abbrev pub IsWord : List ℕ → Type 0
 IsWord bytes = (0 < length bytes) × All (λ byte. is_word_byte byte ≡ true) bytes
 
--- the bytes are these tokens, with white bytes, or none, before each of them and behind the last
-abbrev pub IsSpaced : List (List ℕ) → List ℕ → Type 0
-IsSpaced [] bytes = AreWhite bytes
-IsSpaced (token ∷ tokens) bytes =
-    (space : List ℕ) × (rest : List ℕ) × AreWhite space × (bytes ≡ space ++ (token ++ rest))
-    × IsSpaced tokens rest
+-- the bytes do not begin with one that passes
+abbrev pub Stops : (ℕ → Bool) → List ℕ → Type 0
+Stops passes [] = Unit {0}
+Stops passes (byte ∷ bytes) = passes byte ≡ false
+
+-- the token stands at the front of the bytes, white bytes or none before it, and the rest behind it
+pub record IsToken (token bytes rest : List ℕ) : Type 0 where
+  pub space : List ℕ
+  pub white : AreWhite space
+  pub whole : bytes ≡ space ++ (token ++ rest)
+
+-- these tokens stand in turn at the front of the bytes, and the rest behind the last
+abbrev pub AreTokens : List (List ℕ) → List ℕ → List ℕ → Type 0
+AreTokens [] bytes rest = bytes ≡ rest
+AreTokens (token ∷ tokens) bytes rest =
+    (behind : List ℕ) × IsToken token bytes behind × AreTokens tokens behind rest
+
+-- the word in its quotes
+abbrev pub quoted_word : List ℕ → List ℕ
+quoted_word word = 34 ∷ word ++ 34 ∷ []
+
+-- the bytes begin with the category, in no brackets, and the rest with no byte of an identifier
+pub record BeginsWithCategory (cat : CatName) (bytes rest : List ℕ) : Type 0 where
+  pub is_name : IsCategoryName cat.name
+  pub bare : cat.depth ≡ 0
+  pub token : IsToken cat.name bytes rest
+  pub longest : Stops is_name_byte rest
+
+-- the bytes begin with the word in its quotes, and the rest is behind it
+pub record BeginsWithWord (word bytes rest : List ℕ) : Type 0 where
+  pub is_word : IsWord word
+  pub token : IsToken (quoted_word word) bytes rest
+
+-- the bytes begin with the item, and the rest is behind it
+abbrev pub BeginsWithItem : RawItem → List ℕ → List ℕ → Type 0
+BeginsWithItem (Cat cat) bytes rest = BeginsWithCategory cat bytes rest
+BeginsWithItem (Word word) bytes rest = BeginsWithWord word bytes rest
+
+-- white bytes spell no items, and others the first item and, behind it, the items that follow
+abbrev pub SpellsItems : List RawItem → List ℕ → Type 0
+SpellsItems [] bytes = AreWhite bytes
+SpellsItems (item ∷ items) bytes =
+    (rest : List ℕ) × BeginsWithItem item bytes rest × SpellsItems items rest
 
 -- the category of this name, in no brackets
 abbrev pub category_of : List ℕ → CatName
 category_of name = record { name = name; depth = 0 }
 
--- a piece that spells a rule of one word: Label . Cat ::= "w"
-pub record SpellsWordRule (piece label cat word : List ℕ) : Type 0 where
+-- the piece spells a rule: Label . Cat ::= Items
+pub record SpellsRule (piece label cat : List ℕ) (items : List RawItem) : Type 0 where
   pub is_label : IsName label
   pub is_cat : IsCategoryName cat
-  pub is_word : IsWord word
-  pub spelled : IsSpaced (label ∷ codes "." ∷ cat ∷ codes "::=" ∷ (34 ∷ word ++ 34 ∷ []) ∷ []) piece
+  pub side : List ℕ
+  pub front : AreTokens (label ∷ codes "." ∷ cat ∷ codes "::=" ∷ []) piece side
+  pub spelled : SpellsItems items side
 
--- a piece that spells a rule of two categories: Label . Cat ::= Cat Cat, with a white byte between the last two
-pub record SpellsPairRule (piece label cat left right : List ℕ) : Type 0 where
-  pub is_label : IsName label
-  pub is_cat : IsCategoryName cat
-  pub is_left : IsCategoryName left
-  pub is_right : IsCategoryName right
-  pub front : List ℕ
-  pub back : List ℕ
-  pub space : ℕ
-  pub cut : piece ≡ front ++ (space ∷ back)
-  pub is_space : is_white space ≡ true
-  pub spelled_front : IsSpaced (label ∷ codes "." ∷ cat ∷ codes "::=" ∷ left ∷ []) front
-  pub spelled_back : IsSpaced (right ∷ []) back
-
--- the rule of one word
-abbrev pub word_rule : List ℕ → List ℕ → List ℕ → Def
-word_rule label cat word =
-    Rule (record { label = Named label; cat = category_of cat; items = Word word ∷ [] })
-
--- the rule of two categories
-abbrev pub pair_rule : List ℕ → List ℕ → List ℕ → List ℕ → Def
-pair_rule label cat left right =
-    Rule (record {
-      label = Named label;
-      cat = category_of cat;
-      items = Cat (category_of left) ∷ Cat (category_of right) ∷ [];
-    })
+-- the rule of this label, category and items
+abbrev pub rule_of : List ℕ → List ℕ → List RawItem → Def
+rule_of label cat items =
+    Rule (record { label = Named label; cat = category_of cat; items = items })
 
 -- the definition and its items, counted together
 abbrev pub def_size : Def → ℕ
@@ -111,13 +127,11 @@ def_size (Rule rule) = 1 + length rule.items
 abbrev pub size_of : List Def → ℕ
 size_of defs = sum_by def_size defs
 
--- the piece spells the definition
+-- the piece spells the definition: the rule that it spells
 abbrev pub SpellsDef : List ℕ → Def → Type 0
 SpellsDef piece def =
-    ((label cat word : List ℕ) × SpellsWordRule piece label cat word
-    × (def ≡ word_rule label cat word))
-    ⊎ ((label cat left right : List ℕ) × SpellsPairRule piece label cat left right
-    × (def ≡ pair_rule label cat left right))
+    (label cat : List ℕ) × (items : List RawItem) × SpellsRule piece label cat items
+    × (def ≡ rule_of label cat items)
 
 -- the pieces of a file: it is cut at each semicolon, and pieces of white bytes alone are passed over
 abbrev pub pieces_of : List ℕ → List (List ℕ)

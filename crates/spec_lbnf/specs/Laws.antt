@@ -1,11 +1,8 @@
 -- What is true of these definitions, for every file and every list of definitions.
-use Rattle.std.specs.Prelude.{◌≡◌, ℕ, ◌⊎◌, ◌↔◌, List, [], ◌∷◌, Some, slice_get, All, Contains}
-use Rattle.spec_grammar.specs.declared.rule.Symbol.{Symbol}
-use Rattle.spec_grammar.specs.declared.rule.Symbol.TheVariants.{Category, Kind}
-use Rattle.spec_grammar.specs.declared.rule.Rule.{Rule}
+use Rattle.std.specs.Prelude.{◌≡◌, ℕ, ◌*◌, ◌≤◌, ◌↔◌, List, length, Some, slice_get, Contains}
 use Rattle.spec_grammar.specs.Cycles.{IsAcyclic}
 use Rattle.spec_lbnf.specs.declared.definition.Def.{Def}
-use Rattle.spec_lbnf.specs.FirstForm.{Spells, IsFirstUnbuilt}
+use Rattle.spec_lbnf.specs.FirstForm.{Spells, IsFirstUnbuilt, size_of}
 use Rattle.spec_lbnf.specs.Expansion.{Expansion, distinct, number_of, expansion_of, HasOwnSymbols}
 use Rattle.spec_lbnf.specs.Checks.{AreAllKnown, IsFirstUnknown, IsFirstCyclic}
 
@@ -23,17 +20,10 @@ OneSpelling = (bytes : List ℕ) (a b : List Def) → Spells bytes a → Spells 
 abbrev pub OneUnbuilt : Type 0
 OneUnbuilt = (bytes : List ℕ) (a b : ℕ) → IsFirstUnbuilt bytes a → IsFirstUnbuilt bytes b → a ≡ b
 
--- the items are one kind or two categories
-abbrev pub IsSimpleSide : List Symbol → Type 0
-IsSimpleSide items =
-    ((k : ℕ) × (items ≡ Kind k ∷ []))
-    ⊎ ((a : ℕ) × (b : ℕ) × (items ≡ Category a ∷ Category b ∷ []))
-
--- each rule of what a file spells has one kind or two categories as its items
-abbrev pub SimpleSides : Type 0
-SimpleSides =
-    (bytes : List ℕ) (defs : List Def) → Spells bytes defs
-    → All (λ (rule : Rule). IsSimpleSide rule.items) (expansion_of defs).rules
+-- a file has at least two bytes for each definition and each item that it spells
+abbrev pub TwoBytesEach : Type 0
+TwoBytesEach =
+    (bytes : List ℕ) (defs : List Def) → Spells bytes defs → 2 * size_of defs ≤ length bytes
 
 -- the rules that definitions give have symbols of their grammar alone
 abbrev pub OwnSymbols : Type 0

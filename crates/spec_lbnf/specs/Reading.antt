@@ -1,14 +1,12 @@
 -- Reading a piece from left to right. Serves the proofs alone: what a piece spells is said in FirstForm.
-use Rattle.std.specs.Prelude.{ℕ, List, [], ◌∷◌, length, take, drop, codes, Bool, false, not, ◌&&◌}
+use Rattle.std.specs.Prelude.{ℕ, zero, suc, List, [], ◌∷◌, length, take, drop, codes, Bool, false, not, ◌&&◌}
 use Rattle.std.specs.Prelude.{cond, nat_eq, nat_le, nat_lt, bytes_eq, Option, Some, None}
 use Rattle.std.specs.List.{prefix_len, list_all, list_any}
-use Rattle.spec_grammar.specs.declared.rule.Label.TheVariants.{Named}
 use Rattle.spec_lbnf.specs.declared.definition.RawItem.{RawItem}
 use Rattle.spec_lbnf.specs.declared.definition.RawItem.TheVariants.{Cat, Word}
 use Rattle.spec_lbnf.specs.declared.definition.Def.{Def}
-use Rattle.spec_lbnf.specs.declared.definition.Def.TheVariants.{Rule}
 use Rattle.spec_lbnf.specs.FirstForm.{is_white, is_name_byte, is_word_byte, starts_upper}
-use Rattle.spec_lbnf.specs.FirstForm.{predefined_names, category_of}
+use Rattle.spec_lbnf.specs.FirstForm.{predefined_names, category_of, rule_of}
 
 infixl 10 ◌>>=◌
 -- the next step on what the first gives
@@ -61,45 +59,54 @@ head_at bytes = do
   gives ← sign_at (codes "::=") cat.1
   Some (label.0, cat.0, gives)
 
--- the word, where it has a byte, and its quote and white bytes are all that follows
-unfoldable pub closed_word : List ℕ → List ℕ → Option (List ℕ)
+-- the word and what is behind its closing quote, where it has a byte and that quote
+unfoldable pub closed_word : List ℕ → List ℕ → Option (List ℕ × List ℕ)
 closed_word word bytes =
-    only_if (nat_lt 0 (length word)
-    && (starts_quote bytes && list_all is_white (drop 1 bytes))) word
+    only_if (nat_lt 0 (length word) && starts_quote bytes) (word, drop 1 bytes)
 
--- the word that stands alone in the bytes
-unfoldable pub word_at : List ℕ → Option (List ℕ)
+-- the word in quotes at the front, and what is behind it
+unfoldable pub word_at : List ℕ → Option (List ℕ × List ℕ)
 word_at bytes = do
   quoted ← sign_at (34 ∷ []) bytes
   closed_word (take (prefix_len is_word_byte quoted) quoted)
       (drop (prefix_len is_word_byte quoted) quoted)
 
--- the two categories that stand alone in the bytes
-unfoldable pub pair_at : List ℕ → Option (List ℕ × List ℕ)
-pair_at bytes = do
-  left ← category_at bytes
-  right ← category_at left.1
-  only_if (list_all is_white right.1) (left.0, right.0)
-
--- the right side of one word
-unfoldable pub word_side : List ℕ → Option (List RawItem)
-word_side bytes = do
+-- the item that is a word, and what is behind it
+unfoldable pub word_item : List ℕ → Option (RawItem × List ℕ)
+word_item bytes = do
   word ← word_at bytes
-  Some (Word word ∷ [])
+  Some (Word word.0, word.1)
 
--- the right side of two categories
-unfoldable pub pair_side : List ℕ → Option (List RawItem)
-pair_side bytes = do
-  pair ← pair_at bytes
-  Some (Cat (category_of pair.0) ∷ Cat (category_of pair.1) ∷ [])
+-- the item that is a category, and what is behind it
+unfoldable pub category_item : List ℕ → Option (RawItem × List ℕ)
+category_item bytes = do
+  cat ← category_at bytes
+  Some (Cat (category_of cat.0), cat.1)
+
+-- the item at the front, and what is behind it
+unfoldable pub item_at : List ℕ → Option (RawItem × List ℕ)
+item_at bytes = cond (starts_quote (skip_white bytes)) (word_item bytes) (category_item bytes)
+
+-- the item at the front, and the others that are read behind it
+unfoldable pub item_then : (List ℕ → Option (List RawItem)) → List ℕ → Option (List RawItem)
+item_then others bytes = do
+  item ← item_at bytes
+  items ← others item.1
+  Some (item.0 ∷ items)
+
+-- the items that the bytes are, where they are fewer than the turns
+unfoldable pub items_at : ℕ → List ℕ → Option (List RawItem)
+items_at zero bytes = None
+items_at (suc turns) bytes =
+    cond (list_all is_white bytes) (Some []) (item_then (items_at turns) bytes)
 
 -- the right side that the bytes are
 unfoldable pub side_at : List ℕ → Option (List RawItem)
-side_at bytes = cond (starts_quote (skip_white bytes)) (word_side bytes) (pair_side bytes)
+side_at bytes = items_at (suc (length bytes)) bytes
 
 -- the definition that the piece is
 unfoldable pub def_at : List ℕ → Option Def
 def_at piece = do
   head ← head_at piece
   items ← side_at head.2
-  Some (Rule (record { label = Named head.0; cat = category_of head.1; items = items }))
+  Some (rule_of head.0 head.1 items)

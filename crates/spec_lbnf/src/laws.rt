@@ -1,5 +1,5 @@
 //! Laws of the definitions: each function here does nothing, and its clause is a theorem.
-ghost use Rattle.spec_lbnf.specs.Laws.{SpelledOrUnbuilt, OneSpelling, OneUnbuilt, SimpleSides};
+ghost use Rattle.spec_lbnf.specs.Laws.{SpelledOrUnbuilt, OneSpelling, OneUnbuilt, TwoBytesEach};
 ghost use Rattle.spec_lbnf.specs.Laws.{OwnSymbols, FitOrUnknown, OneUnknown, NumbersNameBack};
 ghost use Rattle.spec_lbnf.specs.Laws.{AcyclicOrCyclic, OneCyclic, DistinctNames};
 
@@ -15,9 +15,9 @@ pub fn one_spelling()
     ensures piece { OneUnbuilt }
 {}
 
-/// The rules of a file in this form have one kind or two categories as their items.
-pub fn simple_sides()
-    ensures { SimpleSides }
+/// A file has at least two bytes for each definition and each item that it spells.
+pub fn two_bytes_each()
+    ensures { TwoBytesEach }
 {}
 
 /// Each rule of the grammar that definitions stand for is of a category of that grammar, and its

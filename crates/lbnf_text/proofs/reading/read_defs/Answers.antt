@@ -2,7 +2,7 @@ use Rattle.std.proofs.Common.{◌≡◌, ◌++◌, ◌∷◌, [], ℕ, List, map
 use Rattle.std.proofs.lemmas.Result.{err_from_is_err_and}
 use Rattle.spec_lbnf.specs.FirstForm.{pieces_of}
 use Rattle.spec_lbnf.specs.declared.definition.Def.{Def}
-use Rattle.lbnf_text.proofs.PieceLemmas.{AreReadUpTo, more_read, fails, piece_at}
+use Rattle.lbnf_text.proofs.PieceLemmas.{AreReadUpTo, more_read, fails, piece_at, few_read}
 use Rattle.lbnf_text.proofs.reading.read_defs.Goals as goal
 
 pub returns-in_err-def : goal.returns-in_err-def
@@ -22,3 +22,9 @@ loop-number-preserved c =
     let items : c.push.new.self.items ≡ list ++ c.in_ok-def.def ∷ [] = search rules in
     let read = c.in_ok-def.ensures in
     rw items (more_read (map (λ p. p.now) slices) number list c.loop-number.invariant _ c.in_ok-def.def (piece_at slices number _ c.loop-number-test.true) read.0 read.1)
+
+pub of-requires : goal.of-requires
+of-requires c =
+    let slices : List (Bor (List ℕ)) = c.deref-piece-items.result.now in
+    let pieces : map (λ p. p.now) slices ≡ pieces_of c.args.bytes.now = search rules in
+    few_read slices c.args.bytes.now c.loop-number.number c.loop-number.list.items pieces c.loop-number.invariant (search rules) c.requires
