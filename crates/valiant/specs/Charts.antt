@@ -1,14 +1,23 @@
 -- What a caller sees of a chart: its kinds, its height, its shape, and which symbols derive each span.
-use Rattle.std.specs.Prelude.{◌≡◌, ℕ, ◌<◌, ◌≤◌, ◌↔◌, List, Option, length, Contains, refl}
-use Rattle.std.specs.Coded.{Coded, code_by, coded×, coded_list, coded_option, coded_ℕ}
+use Rattle.std.specs.Prelude.{◌≡◌, ℕ, zero, suc, ◌<◌, ◌≤◌, ◌↔◌, List, [], Option, length, Contains}
 use Rattle.spec_lbnf.specs.Expansion.{Expansion}
-use Rattle.cell_sets.specs.Grids.{Grid, entry}
+use Rattle.cell_sets.specs.Grids.{Grid, entry, grid_of}
 use Rattle.binary_form.specs.Symbols.{BinarySymbol, BinaryDerives}
 use Rattle.binary_form.specs.BinaryForm.{IsNumberOf}
-use Rattle.valiant.specs.Shapes.{Shape, coded_shape}
 
--- the kinds of a text's tokens, None for a stray one; how high the chart is joined, and from what parts; and for
--- each span i..j that is not empty the numbers of its symbols, in row i and column j
+-- how a chart is joined: a leaf has no tokens, and a node has one token between what is left and right of it
+pub data Shape : Type 0 where
+  leaf : Shape
+  node : (left right : Shape) → Shape
+
+-- the shape of so many tokens, each with a leaf on its left, and on its right the shape of the later tokens
+abbrev pub spine : ℕ → Shape
+spine zero = leaf
+spine (suc n) = node leaf (spine n)
+
+-- a chart: the kinds of its tokens, none for a stray one; how high it is joined; how it is joined; and its
+-- entries, that of the span i..j, with i below j, in row i and column j, so with a row for each token and a column
+-- for each place between tokens
 pub record ChartValue : Type 0 where
   pub kinds : List (Option ℕ)
   pub height : ℕ
@@ -27,3 +36,16 @@ pub record IsChartOf (g : Expansion) (kinds : List (Option ℕ)) (chart : ChartV
   pub same_kinds : chart.kinds ≡ kinds
   pub exact :
       (i j : ℕ) → i < j → j ≤ length kinds → IsEntryOf g kinds i j (entry chart.entries i j)
+
+-- the chart is joined token by token
+abbrev pub IsSpine : ChartValue → Type 0
+IsSpine chart = (chart.height ≡ length chart.kinds) × (chart.shape ≡ spine (length chart.kinds))
+
+-- the chart of no tokens
+abbrev pub leaf_chart : ChartValue
+leaf_chart = record {
+  kinds = [];
+  height = 0;
+  shape = leaf;
+  entries = grid_of 0 1 (λ _ _. []);
+}

@@ -1,4 +1,4 @@
 pub mod Charts
-pub mod Shapes
+pub mod Codes
 pub mod Rows
 pub mod Filling

@@ -1,13 +1,12 @@
 -- Serves the proofs alone. The entries that a chart keeps: for each token the row of those that begin with it and
 -- are not empty, in the order of their ends. The rows stand in the order of filling, that of the last token first.
-use Rattle.std.specs.Prelude.{◌≡◌, ℕ, ◌+◌, ◌-◌, ◌<◌, ◌≤◌, ◌≢◌, ◌↔◌, ◌⊎◌, List, [], ◌∷◌, ◌++◌, Option, Some, Contains}
-use Rattle.std.specs.Prelude.{if◌then◌else◌, ◌==◌, length, slice_get, slice_index_or, Result, MatchResult, MatchOption}
-use Rattle.spec_lbnf.specs.Expansion.{Expansion}
+use Rattle.std.specs.Prelude.{◌≡◌, ℕ, ◌+◌, ◌-◌, ◌<◌, ◌≤◌, ◌≢◌, ◌↔◌, ◌⊎◌, List, [], ◌∷◌, ◌++◌, Option, Some, None}
+use Rattle.std.specs.Prelude.{if◌then◌else◌, ◌==◌, length, slice_get, slice_index_or, Result, MatchResult}
+use Rattle.std.specs.declared.alloc.Global.{Global}
+use Rattle.std.specs.declared.sync.Arc.{Arc}
 use Rattle.cell_sets.specs.Grids.{grid_of}
-use Rattle.binary_form.specs.BinaryForm.{IsProductNumber}
 use Rattle.valiant.specs.declared.rows.Entry.{Entry}
-use Rattle.valiant.specs.Charts.{ChartValue, IsEntryOf}
-use Rattle.valiant.specs.Shapes.{spine}
+use Rattle.valiant.specs.Charts.{ChartValue, spine, leaf_chart}
 
 -- the symbols that the row has for the span up to this end
 abbrev pub found : {C : Type 0} → (C → List ℕ) → List (Entry C) → ℕ → List ℕ
@@ -44,3 +43,8 @@ pub record AreRows {C : Type 0} (kinds : List (Option ℕ)) (rows : List (List (
   pub few : length kinds ≤ 16384
   pub count : length rows ≡ length kinds
   pub rising : (k : ℕ) (row : List (Entry C)) → slice_get rows k ≡ Some row → HasRisingEnds row
+
+-- a chart that is shared, and that of no tokens where there is none
+abbrev pub shared_chart : Option (Arc ChartValue Global) → ChartValue
+shared_chart None = leaf_chart
+shared_chart (Some shared) = shared.value

@@ -1,17 +1,9 @@
--- The shape of a chart: how it is joined from parts. Its code, as a list of marks, serves the proofs alone.
-use Rattle.std.specs.Prelude.{◌≡◌, ℕ, zero, suc, List, [], ◌∷◌, ◌++◌, refl}
-use Rattle.std.specs.Coded.{Coded, code_by, coded_list, coded_ℕ}
-use Rattle.std.proofs.Common.{◌∙◌, ap, append_assoc, append-nil}
-
--- a leaf, which has no tokens, or a node: one token with the shapes of what is left and right of it
-pub data Shape : Type 0 where
-  leaf : Shape
-  node : (left right : Shape) → Shape
-
--- the shape of so many tokens, each with a leaf on its left, and on its right the shape of the later tokens
-abbrev pub spine : ℕ → Shape
-spine zero = leaf
-spine (suc n) = node leaf (spine n)
+-- Serves the proofs alone. Charts as data: a shape is stored as its marks, and a chart as its parts.
+use Rattle.std.specs.Prelude.{◌≡◌, ℕ, zero, suc, List, [], ◌∷◌, ◌++◌, Option}
+use Rattle.std.specs.Coded.{Coded, code_by, coded×, coded_list, coded_option, coded_ℕ}
+use Rattle.std.proofs.Common.{refl, ◌∙◌, ap}
+use Rattle.cell_sets.specs.Grids.{Grid}
+use Rattle.valiant.specs.Charts.{Shape, leaf, node, ChartValue}
 
 -- the marks of a shape, the whole before its parts: 0 for a leaf and 1 for a node
 abbrev pub marks_of : Shape → List ℕ
@@ -54,3 +46,17 @@ abbrev pub coded_shape : Coded Shape
 coded_shape =
     code_by (List ℕ) (coded_list coded_ℕ) marks_of (λ marks. first_shape (shapes_of marks []))
     (λ shape. ap first_shape (shapes-marks shape []))
+
+-- a grid is stored as its rows, its columns and its table
+abbrev pub coded_grid : Coded Grid
+coded_grid =
+    code_by (ℕ × (ℕ × List (List (List ℕ)))) (coded× coded_ℕ (coded× coded_ℕ (coded_list (coded_list (coded_list coded_ℕ)))))
+    (λ g. (g.rows, (g.columns, g.table))) (λ p. record { rows = p.0; columns = p.1.0; table = p.1.1 }) (λ _. refl)
+
+-- a chart is stored as its kinds, its height, its shape and its entries
+abbrev pub coded_chart : Coded ChartValue
+coded_chart =
+    code_by (List (Option ℕ) × (ℕ × (Shape × Grid)))
+    (coded× (coded_list (coded_option coded_ℕ)) (coded× coded_ℕ (coded× coded_shape coded_grid)))
+    (λ c. (c.kinds, (c.height, (c.shape, c.entries))))
+    (λ p. record { kinds = p.0; height = p.1.0; shape = p.1.1.0; entries = p.1.1.1 }) (λ _. refl)
