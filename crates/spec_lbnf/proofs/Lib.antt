@@ -5,6 +5,5 @@ pub mod ReadingLemmas
 pub mod FileLemmas
 pub mod CheckLemmas
 pub mod CycleLemmas
-pub mod FrontLemmas
 pub mod NameLemmas
 pub mod SymbolLemmas
