@@ -51,20 +51,20 @@ module _ {C : Type 0} (symbols : C → List ℕ) (g : Expansion) where
               (adds n).1 (inr (rw same at made))
         ]
 
+  -- the row of a token has the symbols of each span that begins with it
+  pub entry_of_row :
+      (kinds : List (Option ℕ)) (rows : List (List (Entry C))) (k end : ℕ)
+      → AreLastRows symbols g kinds rows → length kinds - k - 1 < length rows → k < end → end ≤ length kinds
+      → IsEntryOf g kinds k end (found_at symbols (length kinds) rows k end)
+  entry_of_row kinds rows k end last is_row order within =
+      let place = length kinds - k - 1 in
+      let is = last place (get_or rows place []) (slice_get-get_or rows place [] is_row) in
+      let token : length kinds - place - 1 ≡ k = omega arith in
+      let P : ℕ → Type 0 = λ i. IsEntryOf g kinds i end (found_at symbols (length kinds) rows k end) in
+      subst P token (is.exact end (omega arith) (omega arith))
+
   module _ (own : HasOwnSymbols g) (kinds : List (Option ℕ)) (rows : List (List (Entry C)))
       (last : AreLastRows symbols g kinds rows) (short : length rows < length kinds) where
-    -- the row of a later token has the symbols of each span that begins with it
-    pub later_entry :
-        (k end : ℕ)
-        → next_token kinds rows < k → k < end → end ≤ length kinds
-        → IsEntryOf g kinds k end (found_at symbols (length kinds) rows k end)
-    later_entry k end later order within =
-        let place = length kinds - k - 1 in
-        let is = last place (get_or rows place []) (slice_get-get_or rows place [] (omega arith)) in
-        let token : length kinds - place - 1 ≡ k = omega arith in
-        let P : ℕ → Type 0 = λ i. IsEntryOf g kinds i end (found_at symbols (length kinds) rows k end) in
-        subst P token (is.exact end (omega arith) (omega arith))
-
     module _ (row : List (Entry C)) (end : ℕ) (filled : IsRowUpTo symbols g kinds (next_token kinds rows) end row)
         (later : next_token kinds rows + 1 < end) (within : end ≤ length kinds) where
       abbrev i : ℕ
@@ -102,7 +102,7 @@ module _ {C : Type 0} (symbols : C → List ℕ) (g : Expansion) where
           let number = made.4.reaches.1 in
           let left : IsEntryOf g kinds i e.end (symbols e.cell) =
           rw (found_entry symbols row at e filled.rising is) at (filled.exact e.end bounds.0 bounds.1) in
-          let right = later_entry e.end end bounds.0 bounds.1 within in
+          let right = entry_of_row kinds rows e.end end last (omega (arith, bounds.0, bounds.1)) bounds.1 within in
           let Made : ℕ → Type 0 = λ m. IsProductNumber g (symbols e.cell) (found_at symbols (length kinds) rows e.end end) m in
           let product =
           product_derived g own kinds i e.end end (symbols e.cell) (found_at symbols (length kinds) rows e.end end)
@@ -117,7 +117,7 @@ module _ {C : Type 0} (symbols : C → List ℕ) (g : Expansion) where
       derives_given n a number derives = elim ((closure_is_derivation g.rules kinds a i end (omega arith)).0 derives) [
         | inl token ↦ absurd (omega (arith, token.2))
         | inr (k, after, before, product) ↦
-            let right = later_entry k end after before within in
+            let right = entry_of_row kinds rows k end last (omega (arith, after, before)) before within in
             let made =
             derived_product g own kinds i k end (found symbols row k) (found_at symbols (length kinds) rows k end)
             (filled.exact k after before) right before a number.0 product in

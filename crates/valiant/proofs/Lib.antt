@@ -1,3 +1,4 @@
 pub mod RowLemmas
 pub mod CutLemmas
 pub mod FillingLemmas
+pub mod ChartLemmas
