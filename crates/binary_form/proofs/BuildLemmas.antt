@@ -3,10 +3,10 @@ use Rattle.std.proofs.Common.{◌≡◌, ℕ, zero, suc, ◌+◌, ◌<◌, ◌�
 use Rattle.spec_lbnf.specs.Expansion.{Expansion}
 use Rattle.cell_sets.specs.Cells.{AddsSymbol}
 use Rattle.binary_form.specs.BinaryForm.{IsClosureOf}
-use Rattle.binary_form.specs.Flags.{IsSet}
+use Rattle.number_graph.specs.Graphs.{IsSet}
 use Rattle.binary_form.specs.Forms.{AreClosuresUpTo}
 use Rattle.binary_form.specs.Products.{Adds}
-use Rattle.binary_form.proofs.FlagLemmas.{set_within}
+use Rattle.number_graph.proofs.FlagLemmas.{set_within}
 
 module _ (flags : List Bool) where
   -- the cell has the numbers below the limit whose flags are set

@@ -8,9 +8,11 @@ use Rattle.spec_lbnf.specs.Expansion.{Expansion, IsSymbolOf, HasOwnSymbols}
 use Rattle.binary_form.specs.Symbols.{BinarySymbol, plain, suffix}
 use Rattle.binary_form.specs.UnitSteps.{HasItem}
 use Rattle.binary_form.specs.BinaryForm.{IsNumberOf, IsReachedNumber, IsClosureOf, IsTokenCell, MakesNumber, IsProductOf, IsProductNumber}
-use Rattle.binary_form.specs.NumberSteps.{StepNumber, NumberReaches}
+use Rattle.binary_form.specs.NumberSteps.{StepNumber}
+use Rattle.number_graph.specs.Graphs.{NumberReaches}
 use Rattle.binary_form.proofs.NumberLemmas.{number_is_one}
-use Rattle.binary_form.proofs.ReachLemmas.{number_reaches_within, reaches_numbers}
+use Rattle.number_graph.proofs.ReachLemmas.{number_reaches_within}
+use Rattle.binary_form.proofs.ReachLemmas.{reaches_numbers}
 
 -- the number is one of these
 abbrev pub IsOneOf : List ℕ → ℕ → Type 0

@@ -5,7 +5,7 @@ use Rattle.std.proofs.lemmas.List.{take_more, take_all}
 use Rattle.std.proofs.lemmas.List.Elements.{Contains-append_left, Contains-append_right, Contains-append_cases}
 use Rattle.cell_sets.specs.Cells.{IsUnion, IsNextFrom}
 use Rattle.binary_form.specs.Products.{Adds, OneGives, OneGivesBelow, GoesOn, IsInCellAt, WholeGives, IsNextBelow}
-use Rattle.binary_form.proofs.LinkLemmas.{Contains-one}
+use Rattle.number_graph.proofs.LinkLemmas.{Contains-one}
 
 -- false is not true
 pub not_true : IsTrue false → ⊥

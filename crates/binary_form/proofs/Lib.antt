@@ -11,8 +11,6 @@ pub mod Examples
 pub mod FormLemmas
 pub mod GivingLemmas
 pub mod WholeLemmas
-pub mod LinkLemmas
-pub mod FlagLemmas
 pub mod RowLemmas
 pub mod NullableLemmas
 pub mod StepLemmas

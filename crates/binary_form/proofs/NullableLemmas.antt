@@ -17,12 +17,12 @@ use Rattle.binary_form.specs.UnitSteps.{AreNullable}
 use Rattle.binary_form.specs.BinaryForm.{IsNumberOf, IsNullableNumber}
 use Rattle.binary_form.specs.Rows.{IsRowAt, suffix_number}
 use Rattle.binary_form.specs.NullableNumbers.{AreNullableNumbers, AreNullableFrom, IsRestNullable}
-use Rattle.binary_form.specs.Flags.{IsSet}
+use Rattle.number_graph.specs.Graphs.{IsSet}
 use Rattle.binary_form.proofs.EmptySpanLemmas.{none_nullable, some_nullable, kind_not_nullable}
 use Rattle.binary_form.proofs.NumberLemmas.{number_is_one}
 use Rattle.binary_form.proofs.ItemLemmas.{items_behind, same_rule}
-use Rattle.binary_form.proofs.LinkLemmas.{same_or_other}
-use Rattle.binary_form.proofs.FlagLemmas.{none_set}
+use Rattle.number_graph.proofs.LinkLemmas.{same_or_other}
+use Rattle.number_graph.proofs.FlagLemmas.{none_set}
 use Rattle.binary_form.proofs.RowLemmas.{none_or_more, number_below, whole_number, next_number}
 
 -- what comes to the same as another, which comes to the same as a third

@@ -5,7 +5,8 @@ use Rattle.spec_lbnf.specs.Expansion.{Expansion, HasOwnSymbols, symbol_count}
 use Rattle.binary_form.specs.Symbols.{BinarySymbol, IsBinarySymbolOf, number_of}
 use Rattle.binary_form.specs.UnitSteps.{UnitStep, whole_side, last_item, passed_item, Reaches, stay, step}
 use Rattle.binary_form.specs.BinaryForm.{IsNumberOf, IsReachedNumber}
-use Rattle.binary_form.specs.NumberSteps.{StepNumber, NumberReaches, stay as stay_number, step as step_number}
+use Rattle.binary_form.specs.NumberSteps.{StepNumber}
+use Rattle.number_graph.specs.Graphs.{NumberReaches, stay as stay_number, step as step_number}
 use Rattle.binary_form.proofs.ItemLemmas.{suffix_symbol}
 use Rattle.binary_form.proofs.NumberLemmas.{number_is_one, numbers_below}
 
@@ -16,30 +17,6 @@ pub reaches_on :
 reaches_on rules a b c before stay = before
 reaches_on rules a b d before (step {b = c} behind last) =
     step (reaches_on rules a b c before behind) last
-
--- what a reached number reaches is reached
-pub number_reaches_on :
-    (Step : ℕ → ℕ → Type 0) (l m n : ℕ)
-    → NumberReaches Step l m → NumberReaches Step m n → NumberReaches Step l n
-number_reaches_on Step l m n before stay_number = before
-number_reaches_on Step l m n before (step_number {m = k} behind last) =
-    step_number (number_reaches_on Step l m k before behind) last
-
--- where each step is one of another relation, what is reached by the one is reached by the other
-pub number_reaches_more :
-    (Step Other : ℕ → ℕ → Type 0) (m n : ℕ)
-    → ((k l : ℕ) → Step k l → Other k l) → NumberReaches Step m n → NumberReaches Other m n
-number_reaches_more Step Other m n more stay_number = stay_number
-number_reaches_more Step Other m n more (step_number {m = k} before last) =
-    step_number (number_reaches_more Step Other m k more before) (more k n last)
-
--- where each step from what is within goes to what is within, so does what is reached from there
-pub number_reaches_within :
-    (Step : ℕ → ℕ → Type 0) (Within : ℕ → Type 0) (m n : ℕ)
-    → ((k l : ℕ) → Step k l → Within k → Within l) → Within m → NumberReaches Step m n → Within n
-number_reaches_within Step Within m n closed within stay_number = within
-number_reaches_within Step Within m n closed within (step_number {m = k} before last) =
-    closed k n last (number_reaches_within Step Within m k closed within before)
 
 module _ (g : Expansion) where
   -- a unit step goes to a symbol of the grammar

@@ -4,11 +4,11 @@ use Rattle.spec_lbnf.specs.Expansion.{Expansion, HasOwnSymbols, symbol_count}
 use Rattle.binary_form.specs.Symbols.{BinarySymbol}
 use Rattle.binary_form.specs.BinaryForm.{IsNumberOf, IsReachedNumber}
 use Rattle.binary_form.specs.NumberSteps.{StepNumber}
-use Rattle.binary_form.specs.Links.{HasLink}
-use Rattle.binary_form.specs.Flags.{IsSet, AreLinksWithin, AreReachedFlags}
+use Rattle.number_graph.specs.Graphs.{HasLink, IsSet, AreLinksWithin, AreReachedFlags}
 use Rattle.binary_form.specs.RowLinks.{AreUnitSteps}
 use Rattle.binary_form.proofs.NumberLemmas.{numbers_used}
-use Rattle.binary_form.proofs.ReachLemmas.{number_reaches_more, reaches_numbers, step_below}
+use Rattle.number_graph.proofs.ReachLemmas.{number_reaches_more}
+use Rattle.binary_form.proofs.ReachLemmas.{reaches_numbers, step_below}
 
 module _ (g : Expansion) (links : List (List ℕ)) (steps : AreUnitSteps g links) where
   -- unit steps lead to numbers of symbols

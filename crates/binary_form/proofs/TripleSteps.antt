@@ -9,7 +9,8 @@ use Rattle.spec_grammar.proofs.DerivationLemmas.{AreFull, derives_grows}
 use Rattle.spec_lbnf.specs.Expansion.{HasOwnSymbols}
 use Rattle.binary_form.specs.Symbols.{BinarySymbol, plain, suffix, number_of}
 use Rattle.binary_form.specs.UnitSteps.{HasItem, AreNullable, UnitStep, whole_side, last_item, passed_item}
-use Rattle.binary_form.specs.NumberSteps.{StepNumber, NumberReaches, stay as stay_number, step as step_number}
+use Rattle.binary_form.specs.NumberSteps.{StepNumber}
+use Rattle.number_graph.specs.Graphs.{NumberReaches, stay as stay_number, step as step_number}
 use Rattle.binary_form.specs.Examples.{triples}
 use Rattle.binary_form.proofs.ItemLemmas.{drop_within, items_from}
 use Rattle.binary_form.proofs.EmptySpanLemmas.{none_nullable, some_nullable}

@@ -5,7 +5,7 @@ use Rattle.spec_lbnf.specs.Expansion.{Expansion, symbol_count}
 use Rattle.binary_form.specs.Symbols.{BinarySymbol, suffix, number_of}
 use Rattle.binary_form.specs.UnitSteps.{stay}
 use Rattle.binary_form.specs.BinaryForm.{IsNumberOf, IsReachedNumber, MakesNumber, IsProductNumber, IsProductOf, HasProduct}
-use Rattle.binary_form.specs.Links.{HasLink}
+use Rattle.number_graph.specs.Graphs.{HasLink}
 use Rattle.binary_form.specs.Wholes.{IsWhole, AreWholes}
 use Rattle.binary_form.specs.Forms.{AreClosures}
 use Rattle.binary_form.specs.Products.{OneGives, GoesOn, IsInCellAt, WholeGives, ItemGives, IsItemMet, LinksGoOnBelow}

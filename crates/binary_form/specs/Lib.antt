@@ -4,9 +4,7 @@ pub mod UnitSteps
 pub mod Laws
 pub mod Examples
 pub mod NumberSteps
-pub mod Links
 pub mod Wholes
-pub mod Flags
 pub mod Rows
 pub mod NullableNumbers
 pub mod RowLinks

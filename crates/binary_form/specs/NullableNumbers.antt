@@ -2,7 +2,7 @@
 use Rattle.std.specs.Prelude.{◌≡◌, ℕ, ◌+◌, ◌<◌, ◌≤◌, ◌↔◌, ◌⊎◌, List, Bool, IsTrue, length}
 use Rattle.spec_lbnf.specs.Expansion.{Expansion, symbol_count}
 use Rattle.binary_form.specs.BinaryForm.{IsNullableNumber}
-use Rattle.binary_form.specs.Flags.{IsSet}
+use Rattle.number_graph.specs.Graphs.{IsSet}
 use Rattle.binary_form.specs.declared.rows.SuffixRow.{SuffixRow}
 use Rattle.binary_form.specs.Rows.{suffix_number}
 

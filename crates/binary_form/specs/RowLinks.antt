@@ -4,8 +4,7 @@ use Rattle.std.specs.Prelude.{length, slice_get}
 use Rattle.spec_lbnf.specs.Expansion.{Expansion, symbol_count}
 use Rattle.binary_form.specs.declared.rows.SuffixRow.{SuffixRow}
 use Rattle.binary_form.specs.NumberSteps.{StepNumber}
-use Rattle.binary_form.specs.Links.{HasLink}
-use Rattle.binary_form.specs.Flags.{IsSet}
+use Rattle.number_graph.specs.Graphs.{HasLink, IsSet}
 use Rattle.binary_form.specs.NullableNumbers.{IsRestNullable}
 
 -- the suffix of this number gives a unit step: from the whole right side to the category, from its

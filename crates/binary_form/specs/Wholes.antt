@@ -6,7 +6,7 @@ use Rattle.spec_lbnf.specs.Expansion.{Expansion, symbol_count}
 use Rattle.binary_form.specs.Symbols.{plain, suffix, IsBinarySymbolOf}
 use Rattle.binary_form.specs.UnitSteps.{HasItem}
 use Rattle.binary_form.specs.BinaryForm.{IsNumberOf}
-use Rattle.binary_form.specs.Links.{HasLink}
+use Rattle.number_graph.specs.Graphs.{HasLink}
 
 -- the one number is that of an item of a rule with an item behind it, and the other is that of the
 -- suffix which it begins; the suffix behind the item has the next number

@@ -2,21 +2,20 @@
 ghost use Rattle.std.specs.Prelude.{◌≡◌, ℕ, ◌<◌, ◌≤◌, ◌↔◌, ◌⊎◌, length, Contains, IfOk};
 ghost use Rattle.spec_lbnf.specs.Expansion.{HasOwnSymbols, symbol_count};
 ghost use Rattle.binary_form.specs.BinaryForm.{IsClosureOf, MakesBinary};
-ghost use Rattle.binary_form.specs.Flags.{IsSet};
+ghost use Rattle.number_graph.specs.Graphs.{IsSet};
 ghost use Rattle.binary_form.specs.Forms.{AreClosures};
 ghost use Rattle.binary_form.specs.Products.{Adds};
 ghost use Rattle.binary_form.specs.RowLinks.{AreUnitSteps};
 
-use crate::closure::reached_from;
 use crate::fault::BinaryFault;
 use crate::form::Binary;
-use crate::links::Links;
 use crate::nullable::nullable_numbers;
 use crate::numbering::{first_suffixes, symbol_count};
 use crate::rows::rows_of;
 use crate::steps::{unit_steps, wholes_of};
 use cell_sets::Cell;
 use lbnf_grammar::Grammar;
+use number_graph::{Links, reached_from};
 use std::alloc::{AllocError, Global};
 
 /// The cell with the number, if its flag is set.

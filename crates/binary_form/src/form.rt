@@ -6,10 +6,10 @@ ghost use Rattle.binary_form.specs.BinaryForm.{IsNullableNumber, IsClosureOf, Is
 ghost use Rattle.binary_form.specs.BinaryForm.{IsProductOf, HasProduct};
 ghost use Rattle.binary_form.specs.Forms.{AreParts};
 
-use crate::links::Links;
 use crate::product::{is_met, product_of};
 use cell_sets::Cell;
 use lbnf_grammar::{Grammar, Symbol};
+use number_graph::Links;
 use sqlite_items::Items;
 use std::alloc::{AllocError, Global};
 use std::marker::Model;

@@ -3,11 +3,9 @@
 #![tactic(auto)]
 
 mod build;
-mod closure;
 mod fault;
 mod form;
 mod laws;
-mod links;
 mod nullable;
 mod numbering;
 mod product;

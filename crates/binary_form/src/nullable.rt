@@ -2,7 +2,7 @@
 ghost use Rattle.std.specs.Prelude.{◌↔◌, ◌<◌, ◌^◌, length, IsTrue, IfOk};
 ghost use Rattle.lbnf_grammar.specs.Nullable.{AreNullableFlags};
 ghost use Rattle.spec_lbnf.specs.Expansion.{symbol_count};
-ghost use Rattle.binary_form.specs.Flags.{IsSet};
+ghost use Rattle.number_graph.specs.Graphs.{IsSet};
 ghost use Rattle.binary_form.specs.Rows.{AreRows, IsRowWithin};
 ghost use Rattle.binary_form.specs.NullableNumbers.{AreNullableNumbers, AreNullableFrom};
 ghost use Rattle.binary_form.specs.NullableNumbers.{IsRestNullable};

@@ -3,8 +3,8 @@ ghost use Rattle.std.specs.Prelude.{◌≡◌, ◌+◌, ◌<◌, ◌≤◌, ◌�
 ghost use Rattle.binary_form.specs.Products.{Adds, GoesOn, GoOnBelow, IsItemMet, IsNextBelow};
 ghost use Rattle.binary_form.specs.Products.{ItemGives, LinksGoOnBelow, OneGives, WholeGives};
 
-use crate::links::Links;
 use cell_sets::Cell;
+use number_graph::Links;
 use std::alloc::{AllocError, Global};
 
 /// The least symbol of the cell that is not below this one, if it is below the count.

@@ -1,18 +1,17 @@
 //! The unit steps of a grammar, and where its suffixes go on, as links between numbers.
 ghost use Rattle.std.specs.Prelude.{◌↔◌, ◌≡◌, ◌<◌, ◌^◌, ◌+◌, length, IsTrue, IsFalse, IfOk, OnOk};
 ghost use Rattle.spec_lbnf.specs.Expansion.{symbol_count};
-ghost use Rattle.binary_form.specs.Links.{AddsLinks};
+ghost use Rattle.number_graph.specs.Graphs.{AddsLinks, IsSet};
 ghost use Rattle.binary_form.specs.Wholes.{AreWholes};
-ghost use Rattle.binary_form.specs.Flags.{IsSet};
 ghost use Rattle.binary_form.specs.Rows.{AreRows, IsRowWithin};
 ghost use Rattle.binary_form.specs.NullableNumbers.{AreNullableNumbers};
 ghost use Rattle.binary_form.specs.RowLinks.{IsRowStep, AreUnitSteps};
 
-use crate::links::Links;
 use crate::nullable::is_rest_nullable;
 use crate::numbering::plain_count;
 use crate::rows::SuffixRow;
 use lbnf_grammar::Grammar;
+use number_graph::Links;
 use std::alloc::{AllocError, Global};
 
 /// Whether the suffix goes on behind its item, and the item derives the empty span.

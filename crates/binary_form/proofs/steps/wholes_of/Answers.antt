@@ -1,7 +1,7 @@
 use Rattle.std.proofs.Common.{◌+◌, ℕ, IsFalse, length, not, slice_index_or, subst, arith}
 use Rattle.std.proofs.lemmas.Option.{slice_get-get_or}
 use Rattle.binary_form.specs.RowLinks.{IsRowWhole, AreLinksOfRows}
-use Rattle.binary_form.proofs.LinkLemmas.{adds_tested}
+use Rattle.number_graph.proofs.LinkLemmas.{adds_tested}
 use Rattle.binary_form.proofs.RowLemmas.{no_row, row_within}
 use Rattle.binary_form.proofs.StepLemmas.{links_of_more, not_tested, wholes_are}
 use Rattle.binary_form.proofs.steps.wholes_of.Goals as goal

@@ -7,10 +7,9 @@ use Rattle.std.proofs.lemmas.Bool.{false≢true}
 use Rattle.std.proofs.lemmas.Grind.{get_or-set_at}
 use Rattle.std.proofs.lemmas.List.{length-replicate}
 use Rattle.std.proofs.lemmas.List.Elements.{Contains-append_left, Contains-append_right, Contains-append_cases}
-use Rattle.binary_form.specs.Links.{HasLink}
-use Rattle.binary_form.specs.NumberSteps.{NumberReaches, stay, step}
-use Rattle.binary_form.specs.Flags.{IsSet, AreReachedFlags, clear_count, SetsFlags, IsSearch}
-use Rattle.binary_form.proofs.LinkLemmas.{same_or_other, Contains-one}
+use Rattle.number_graph.specs.Graphs.{HasLink, NumberReaches, stay, step, IsSet, AreReachedFlags}
+use Rattle.number_graph.specs.Flags.{clear_count, SetsFlags, IsSearch}
+use Rattle.number_graph.proofs.LinkLemmas.{same_or_other, Contains-one}
 
 -- of clear flags none is set
 pub none_set : (count n : ℕ) → IsSet (replicate count false) n → ⊥

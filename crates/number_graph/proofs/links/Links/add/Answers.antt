@@ -1,6 +1,6 @@
 use Rattle.std.proofs.lemmas.Result.{on_ok_weaker}
-use Rattle.binary_form.proofs.LinkLemmas.{adds_link}
-use Rattle.binary_form.proofs.links.Links.add.Goals as goal
+use Rattle.number_graph.proofs.LinkLemmas.{adds_link}
+use Rattle.number_graph.proofs.links.Links.add.Goals as goal
 
 pub returns-clause-ok : goal.returns-clause-ok
 returns-clause-ok c = rw c.self.view_is (on_ok_weaker c.push.result

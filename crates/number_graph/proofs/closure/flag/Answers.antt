@@ -1,7 +1,7 @@
 use Rattle.std.proofs.Common.{false, sym, ◌∙◌}
 use Rattle.std.proofs.lemmas.List.{get_or_read}
-use Rattle.binary_form.proofs.FlagLemmas.{flagged}
-use Rattle.binary_form.proofs.closure.flag.Goals as goal
+use Rattle.number_graph.proofs.FlagLemmas.{flagged}
+use Rattle.number_graph.proofs.closure.flag.Goals as goal
 
 pub returns : goal.returns
 returns c =

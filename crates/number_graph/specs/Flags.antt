@@ -1,21 +1,7 @@
--- Serves the proofs alone. Flags by number, and the search that flags what a number reaches.
-use Rattle.std.specs.Prelude.{◌≡◌, ℕ, suc, ◌+◌, ◌*◌, ◌≤◌, ◌<◌, ◌↔◌, ◌⊎◌, List, [], ◌∷◌}
-use Rattle.std.specs.Prelude.{Bool, true, false, IsTrue, length, slice_index_or, Contains}
-use Rattle.binary_form.specs.Links.{HasLink}
-use Rattle.binary_form.specs.NumberSteps.{NumberReaches}
-
--- the number has a flag, and it is set
-abbrev pub IsSet : List Bool → ℕ → Type 0
-IsSet flags n = IsTrue (slice_index_or flags n false)
-
--- each number is linked to numbers below the count alone
-abbrev pub AreLinksWithin : List (List ℕ) → Type 0
-AreLinksWithin links = (m n : ℕ) → HasLink links m n → n < length links
-
--- each number has a flag, which is set exactly where the number is reached by links
-pub record AreReachedFlags (links : List (List ℕ)) (from : ℕ) (flags : List Bool) : Type 0 where
-  pub count : length flags ≡ length links
-  pub exact : (n : ℕ) → IsSet flags n ↔ NumberReaches (HasLink links) from n
+-- Serves the proofs alone. The search that flags what a number reaches.
+use Rattle.std.specs.Prelude.{◌≡◌, ℕ, suc, ◌*◌, ◌+◌, ◌≤◌, ◌⊎◌, List, [], ◌∷◌, Bool, true, false}
+use Rattle.std.specs.Prelude.{length, Contains}
+use Rattle.number_graph.specs.Graphs.{HasLink, NumberReaches, IsSet}
 
 -- how many flags are clear
 abbrev pub clear_count : List Bool → ℕ

@@ -1,7 +1,7 @@
 use Rattle.std.proofs.Common.{◌≡◌, [], length, replicate, false, sym, ◌∙◌, ap}
 use Rattle.std.proofs.lemmas.List.{nil_from_length}
-use Rattle.binary_form.proofs.FlagLemmas.{search_starts, search_goes_on, search_ends, next_within}
-use Rattle.binary_form.proofs.closure.reached_from.Goals as goal
+use Rattle.number_graph.proofs.FlagLemmas.{search_starts, search_goes_on, search_ends, next_within}
+use Rattle.number_graph.proofs.closure.reached_from.Goals as goal
 
 pub loop-number-init : goal.loop-number-init
 loop-number-init c =

@@ -1,5 +1,5 @@
 use Rattle.std.proofs.Common.{◌≡◌, replicate, []}
-use Rattle.binary_form.proofs.links.Links.new.Given as goal
+use Rattle.number_graph.proofs.links.Links.new.Given as goal
 
 -- so many numbers have a list, and it is empty
 abbrev pub invariant-loop-number : goal.invariant-loop-number

@@ -1,7 +1,7 @@
 use Rattle.std.proofs.Common.{◌∷◌, [], take, slice_index_or, ℕ}
 use Rattle.std.proofs.lemmas.List.{get_or_default, take_more}
-use Rattle.binary_form.proofs.FlagLemmas.{flags_more}
-use Rattle.binary_form.proofs.closure.flag_all.Goals as goal
+use Rattle.number_graph.proofs.FlagLemmas.{flags_more}
+use Rattle.number_graph.proofs.closure.flag_all.Goals as goal
 
 pub flag-requires : goal.flag-requires
 flag-requires c =

@@ -1,6 +1,6 @@
 use Rattle.std.proofs.Common.{take}
-use Rattle.binary_form.specs.Flags.{SetsFlags}
-use Rattle.binary_form.proofs.closure.flag_all.Given as goal
+use Rattle.number_graph.specs.Flags.{SetsFlags}
+use Rattle.number_graph.proofs.closure.flag_all.Given as goal
 
 -- the targets so far have their flags
 abbrev pub invariant-loop-target : goal.invariant-loop-target

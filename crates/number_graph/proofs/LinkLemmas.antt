@@ -5,7 +5,7 @@ use Rattle.std.specs.List.{Contains}
 use Rattle.std.proofs.lemmas.List.{get_or_default, get_or_past}
 use Rattle.std.proofs.lemmas.Grind.{get_or-set_at}
 use Rattle.std.proofs.lemmas.List.Elements.{Contains-append_left, Contains-append_right, Contains-append_cases}
-use Rattle.binary_form.specs.Links.{HasLink, AddsLinks, AddsLink}
+use Rattle.number_graph.specs.Graphs.{HasLink, AddsLinks, AddsLink, AreNoLinks, AreLinksWithin}
 
 -- two numbers are the same, or they differ
 pub same_or_other : (m n : ℕ) → (m ≡ n) ⊎ (m ≢ n)
@@ -146,3 +146,18 @@ link_within links m n has = elim (within_or_past m (length links)) [
   where
     within_or_past : (k count : ℕ) → (k < count) ⊎ (count ≤ k)
     within_or_past k count = grind arith
+
+-- one link more to a number below the count keeps all links within it
+pub added_within :
+    (old new : List (List ℕ)) (from to : ℕ)
+    → AddsLink old new from to → to < length old → AreLinksWithin old → AreLinksWithin new
+added_within old new from to adds below within m n has = elim ((adds.links m n).0 has) [
+  | inl before ↦
+      let is : n < length old = within m n before in
+      omega (arith, is, adds.count)
+  | inr added ↦ omega (arith, added.1, below, adds.count)
+]
+
+-- no links are within any count
+pub none_within : (count : ℕ) (links : List (List ℕ)) → AreNoLinks count links → AreLinksWithin links
+none_within count links none m n has = absurd (no_link count m n (rw none at has))

@@ -1,5 +1,5 @@
-use Rattle.binary_form.specs.Flags.{IsSearch, work_left}
-use Rattle.binary_form.proofs.closure.reached_from.Given as goal
+use Rattle.number_graph.specs.Flags.{IsSearch, work_left}
+use Rattle.number_graph.proofs.closure.reached_from.Given as goal
 
 abbrev pub invariant-loop-number : goal.invariant-loop-number
 invariant-loop-number l = IsSearch l.links l.from (l.flags).items (l.waiting).items

@@ -1,6 +1,7 @@
 //! What a number reaches by links.
 ghost use Rattle.std.specs.Prelude.{ℕ, ◌<◌, ◌∷◌, [], length, Contains, IfOk, OnOk};
-ghost use Rattle.binary_form.specs.Flags.{AreLinksWithin, AreReachedFlags, SetsFlags};
+ghost use Rattle.number_graph.specs.Graphs.{AreLinksWithin, AreReachedFlags};
+ghost use Rattle.number_graph.specs.Flags.{SetsFlags};
 
 use crate::links::Links;
 use std::alloc::{AllocError, Global};

@@ -1,5 +1,5 @@
-use Rattle.binary_form.proofs.LinkLemmas.{adds_where}
-use Rattle.binary_form.proofs.links.Links.add_if.Goals as goal
+use Rattle.number_graph.proofs.LinkLemmas.{adds_where}
+use Rattle.number_graph.proofs.links.Links.add_if.Goals as goal
 
 pub returns-in_ok-add : goal.returns-in_ok-add
 returns-in_ok-add c =

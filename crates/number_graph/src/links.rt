@@ -1,7 +1,7 @@
 //! Links from numbers to numbers.
 ghost use Rattle.std.specs.Prelude.{◌≡◌, ◌<◌, [], length, slice_index_or, IsTrue};
 ghost use Rattle.std.specs.Prelude.{IfOk, OnOk, OnErr};
-ghost use Rattle.binary_form.specs.Links.{AddsLink, AddsLinks, AreNoLinks};
+ghost use Rattle.number_graph.specs.Graphs.{AddsLink, AddsLinks, AreNoLinks};
 
 use sqlite_items::Items;
 use std::alloc::{AllocError, Global};

@@ -1,0 +1,39 @@
+-- Numbers linked to numbers, and what reaches what. Links are a list for each number, of those that
+-- it is linked to.
+use Rattle.std.specs.Prelude.{◌≡◌, ℕ, ◌<◌, ◌↔◌, ◌⊎◌, List, [], Bool, false, IsTrue, length}
+use Rattle.std.specs.Prelude.{slice_index_or, replicate, Contains}
+
+-- the first number is linked to the second
+abbrev pub HasLink : List (List ℕ) → ℕ → ℕ → Type 0
+HasLink links m n = Contains (slice_index_or links m []) n
+
+-- the new links are the old ones and these
+pub record AddsLinks (Added : ℕ → ℕ → Type 0) (old new : List (List ℕ)) : Type 0 where
+  pub count : length new ≡ length old
+  pub links : (m n : ℕ) → HasLink new m n ↔ (HasLink old m n ⊎ Added m n)
+
+-- the new links are the old ones and one more
+abbrev pub AddsLink : List (List ℕ) → List (List ℕ) → ℕ → ℕ → Type 0
+AddsLink old new from to = AddsLinks (λ m n. (m ≡ from) × (n ≡ to)) old new
+
+-- there are so many numbers, and no links among them
+abbrev pub AreNoLinks : ℕ → List (List ℕ) → Type 0
+AreNoLinks count links = links ≡ replicate count []
+
+-- each number is linked to numbers below the count alone
+abbrev pub AreLinksWithin : List (List ℕ) → Type 0
+AreLinksWithin links = (m n : ℕ) → HasLink links m n → n < length links
+
+-- a number reaches another by steps, or by none where it is the same
+pub data NumberReaches (Step : ℕ → ℕ → Type 0) : ℕ → ℕ → Type 0 where
+  stay : {m : ℕ} → NumberReaches Step m m
+  step : {l m n : ℕ} → NumberReaches Step l m → Step m n → NumberReaches Step l n
+
+-- the number has a flag, and it is set
+abbrev pub IsSet : List Bool → ℕ → Type 0
+IsSet flags n = IsTrue (slice_index_or flags n false)
+
+-- each number has a flag, which is set exactly where the number is reached by links
+pub record AreReachedFlags (links : List (List ℕ)) (from : ℕ) (flags : List Bool) : Type 0 where
+  pub count : length flags ≡ length links
+  pub exact : (n : ℕ) → IsSet flags n ↔ NumberReaches (HasLink links) from n

@@ -1,0 +1,88 @@
+//! Small graphs, with what their numbers reach by hand.
+ghost use Rattle.std.specs.Prelude.{◌≡◌, ◌<◌, length, IfOk, OnOk};
+ghost use Rattle.number_graph.specs.Graphs.{AreLinksWithin};
+
+use super::*;
+use std::alloc::{AllocError, Global};
+use std::test::*;
+
+/// Links the numbers where both are below the count.
+fn link_within(links: &mut Links, from: u16, to: u16) -> Result<(), AllocError>
+    requires { AreLinksWithin links.old }
+    ensures { OnOk result ((length links.new ≡ length links.old) × AreLinksWithin links.new) }
+{
+    if (from as usize) < links.count() && (to as usize) < links.count() {
+        links.add(from, to)?;
+    }
+    Ok(())
+}
+
+/// So many numbers, and the links among them.
+fn links_of(alloc: Global, count: usize, pairs: &[(u16, u16)]) -> Result<Links, AllocError>
+    ensures { IfOk result (λ links. (length links ≡ count) × AreLinksWithin links) }
+{
+    let mut links = Links::new(alloc, count)?;
+    for pair in pairs {
+        link_within(&mut links, pair.0, pair.1)?;
+    }
+    Ok(links)
+}
+
+/// Whether the first number reaches each number of the graph.
+fn reached(
+    alloc: Global,
+    count: usize,
+    pairs: &[(u16, u16)],
+    from: u16,
+) -> Result<Vec<bool>, AllocError>
+    requires { from < count }
+{
+    let links = links_of(alloc, count, pairs)?;
+    reached_from(alloc, &links, from)
+}
+
+/// The numbers that each number of a graph of three is linked to, one after another.
+fn linked(alloc: Global, pairs: &[(u16, u16)]) -> Result<Vec<u16>, AllocError> {
+    let links = links_of(alloc, 3, pairs)?;
+    let mut all = Vec::new(alloc);
+    for number in 0..3 {
+        let _ = all.extend_from_slice(links.from(number));
+    }
+    Ok(all)
+}
+
+#[test]
+fn links_stay_in_the_order_in_which_they_are_added(rt: HostRuntime) -> Result<(), Fail> {
+    let cases: [(&[(u16, u16)], &[u16]); 4] = [
+        (&[], &[]),
+        (&[(1, 2), (1, 0)], &[2, 0]),
+        (&[(2, 0), (0, 1), (2, 2)], &[1, 0, 2]),
+        (&[(1, 1), (1, 1)], &[1, 1]),
+    ];
+    for (place, (pairs, want)) in cases.iter().enumerate() {
+        let all = linked(rt.alloc(), pairs)?;
+        assert_eq!(rt; all.as_slice(), *want, "at {place}");
+    }
+    Ok(())
+}
+
+#[test]
+fn a_number_reaches_itself_and_what_links_lead_to(rt: HostRuntime) -> Result<(), Fail> {
+    let chain: &[(u16, u16)] = &[(0, 1), (1, 2), (2, 3)];
+    let ring: &[(u16, u16)] = &[(0, 1), (1, 2), (2, 0), (3, 0)];
+    let fork: &[(u16, u16)] = &[(0, 3), (0, 2), (2, 2)];
+    let cases: [(&[(u16, u16)], u16, [bool; 4]); 7] = [
+        (&[], 1, [false, true, false, false]),
+        (chain, 0, [true, true, true, true]),
+        (chain, 2, [false, false, true, true]),
+        (ring, 1, [true, true, true, false]),
+        (ring, 3, [true, true, true, true]),
+        (fork, 0, [true, false, true, true]),
+        (fork, 2, [false, false, true, false]),
+    ];
+    for (place, (pairs, from, want)) in cases.iter().enumerate() {
+        let flags = reached(rt.alloc(), 4, pairs, *from)?;
+        assert_eq!(rt; flags.as_slice(), want.as_slice(), "at {place}");
+    }
+    Ok(())
+}
