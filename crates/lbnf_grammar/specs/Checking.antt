@@ -2,10 +2,11 @@
 use Rattle.std.specs.Prelude.{◌≡◌, List, ◌∷◌, ◌++◌, true, false, Option, Result, Ok, Err, All}
 use Rattle.std.specs.Prelude.{MatchOption, bytes_eq, ℕ}
 use Rattle.std.specs.List.{list_any}
+use Rattle.spec_grammar.specs.Cycles.{IsAcyclic}
 use Rattle.spec_lbnf.specs.declared.definition.Def.{Def}
 use Rattle.spec_lbnf.specs.declared.definition.Def.TheVariants.{Rule as RuleDef}
-use Rattle.spec_lbnf.specs.Expansion.{category_text, item_categories}
-use Rattle.spec_lbnf.specs.Checks.{AreAllKnown, IsFirstUnknown}
+use Rattle.spec_lbnf.specs.Expansion.{Expansion, category_text, item_categories}
+use Rattle.spec_lbnf.specs.Checks.{AreAllKnown, IsFirstUnknown, IsFirstCyclic}
 use Rattle.lbnf_grammar.specs.declared.fault.GrammarFault.{GrammarFault}
 use Rattle.lbnf_grammar.specs.declared.fault.GrammarFault.TheVariants.{Memory, UnknownCategory, Cyclic}
 use Rattle.lbnf_grammar.specs.Numbering.{with_name}
@@ -42,3 +43,10 @@ ChecksDefs defs (Ok done) = AreAllKnown defs
 ChecksDefs defs (Err Memory) = Unit {0}
 ChecksDefs defs (Err (UnknownCategory name number)) = IsFirstUnknown defs name number
 ChecksDefs defs (Err (Cyclic name)) = ⊥
+
+-- the grammar has no cycle and is kept, or its first cyclic category is told; want of memory is free
+abbrev pub PassesCycles : Expansion → Result Expansion GrammarFault → Type 0
+PassesCycles g (Ok kept) = IsAcyclic g.rules × (kept ≡ g)
+PassesCycles g (Err Memory) = Unit {0}
+PassesCycles g (Err (UnknownCategory name number)) = ⊥
+PassesCycles g (Err (Cyclic name)) = IsFirstCyclic g name

@@ -2,5 +2,6 @@ pub mod Grammars
 pub mod Nullable
 pub mod Numbering
 pub mod Tables
+pub mod Ranks
 pub mod Checking
 pub mod NullablePasses

@@ -1,14 +1,20 @@
 //! Expanding definitions: the check of their categories, then the numbers.
-ghost use Rattle.std.specs.Prelude.{◌≡◌, map, IfOk};
+ghost use Rattle.std.specs.Prelude.{◌≡◌, ◌≤◌, map, Err, IfOk};
+ghost use Rattle.spec_lbnf.specs.FirstForm.{size_of};
+ghost use Rattle.spec_lbnf.specs.Expansion.{expansion_of};
 ghost use Rattle.spec_lexing.specs.declared.kind_def.KindDef.TheVariants.{Word as WordKind};
 ghost use Rattle.lbnf_grammar.specs.Grammars.{Expands};
+ghost use Rattle.lbnf_grammar.specs.Checking.{PassesCycles};
+ghost use Rattle.lbnf_grammar.specs.Ranks.{IsLeastCyclic};
 
 use crate::checking::check;
 use crate::fault::GrammarFault;
 use crate::grammar::Grammar;
 use crate::numbering::numbered_rules;
+use crate::ranks::first_cyclic;
 use crate::tables::{Tables, tables_of};
-use lbnf_text::Defs;
+use crate::texts::copy_name;
+use lbnf_text::{Def, Defs};
 use spec_lexing::KindDef;
 use spec_text::Name;
 use std::alloc::{AllocError, Global};
@@ -23,17 +29,51 @@ fn kinds_of(alloc: Global, words: Vec<Name>) -> Result<Vec<KindDef>, AllocError>
         .collect(alloc)
 }
 
+/// The grammar that the definitions stand for.
+fn numbered_grammar(alloc: Global, defs: &[Def]) -> Result<Grammar, AllocError>
+    requires few { size_of defs.now ≤ 32768 }
+    ensures { IfOk result (λ grammar. grammar ≡ expansion_of defs.now) }
+{
+    let tables = tables_of(alloc, defs)?;
+    let rules = numbered_rules(alloc, &tables, defs)?;
+    let Tables { categories, words } = tables;
+    let kinds = kinds_of(alloc, words.into_list())?;
+    Ok(Grammar::of(rules, categories.into_list(), kinds))
+}
+
+/// That the category reaches itself, or that memory ran out.
+fn cyclic(alloc: Global, grammar: &Grammar, category: u16) -> GrammarFault
+    requires first { IsLeastCyclic grammar.now category }
+    ensures { PassesCycles grammar.now (Err result) }
+{
+    match copy_name(alloc, grammar.category_name(category)) {
+        Ok(name) => GrammarFault::Cyclic { name },
+        Err(_) => GrammarFault::Memory,
+    }
+}
+
+/// The grammar, or its first category that reaches itself.
+fn acyclic(alloc: Global, grammar: Grammar) -> Result<Grammar, GrammarFault>
+    ensures { PassesCycles grammar result }
+{
+    match first_cyclic(alloc, &grammar) {
+        Ok(None) => Ok(grammar),
+        Ok(Some(category)) => Err(cyclic(alloc, &grammar, category)),
+        Err(_) => Err(GrammarFault::Memory),
+    }
+}
+
 /// The grammar that the definitions stand for, or the first category, in file order, that no rule
-/// has. Categories and words are numbered from 0 as the rules meet them, each rule's own category
-/// first. Names are copied; it takes one look-up for each item.
+/// has, or else the category of least number that reaches itself by steps. Categories and words are
+/// numbered from 0 as the rules meet them, each rule's own category first. Names are copied; it
+/// takes one look-up for each item, and for each category a search over the steps.
 pub fn expand(alloc: Global, defs: &Defs) -> Result<Grammar, GrammarFault>
     ensures { Expands defs.now result }
 {
     let list = defs.as_slice();
     check(alloc, list)?;
-    let tables = tables_of(alloc, list).map_err(|_| GrammarFault::Memory)?;
-    let rules = numbered_rules(alloc, &tables, list).map_err(|_| GrammarFault::Memory)?;
-    let Tables { categories, words } = tables;
-    let kinds = kinds_of(alloc, words.into_list()).map_err(|_| GrammarFault::Memory)?;
-    Ok(Grammar::of(rules, categories.into_list(), kinds))
+    let Ok(grammar) = numbered_grammar(alloc, list) else {
+        return Err(GrammarFault::Memory);
+    };
+    acyclic(alloc, grammar)
 }

@@ -9,6 +9,7 @@ mod making;
 mod names;
 mod nullable;
 mod numbering;
+mod ranks;
 mod tables;
 mod texts;
 
