@@ -1,5 +1,6 @@
--- What a caller sees of expanding definitions, of the grammar's entry, and of looking a category up.
-use Rattle.std.specs.Prelude.{◌≡◌, ℕ, List, [], Option, Some, Result, Ok, Err, slice_get, Contains, MatchOption}
+-- What a caller sees of expanding definitions, of the entry, and of looking a category up.
+use Rattle.std.specs.Prelude.{◌≡◌, ℕ, List, [], Option, Some, Result, Ok, Err}
+use Rattle.std.specs.Prelude.{slice_get, Contains, MatchOption}
 use Rattle.spec_grammar.specs.declared.rule.Rule.{Rule}
 use Rattle.spec_grammar.specs.declared.rule.Symbol.{Symbol}
 use Rattle.spec_grammar.specs.declared.rule.Symbol.TheVariants.{Category}
