@@ -13,7 +13,8 @@ behind_some (x ∷ front) back h = behind_some front back (λ k d lt. h (suc k) 
 before_some : (front back : List ℕ) → HasNoLf (front ++ back) → HasNoLf front
 before_some [] back h k d lt = absurd (omega arith)
 before_some (x ∷ front) back h zero d lt = h 0 d (omega arith)
-before_some (x ∷ front) back h (suc k) d lt = before_some front back (λ j e less. h (suc j) e (omega arith)) k d (omega arith)
+before_some (x ∷ front) back h (suc k) d lt =
+    before_some front back (λ j e less. h (suc j) e (omega arith)) k d (omega arith)
 
 -- bytes without a space and LF are those of a word
 of_word : (bytes : List ℕ) → Lacks bytes 32 → HasNoLf bytes → AreOfWord bytes
@@ -31,7 +32,8 @@ NamesNone bytes = (constituent : Constituent) → IsNameOf bytes constituent →
 pub no_space_first : (bytes : List ℕ) → false ≡ nat_eq (length bytes) 0 →
     ((named : List ℕ) → bytes ≡ 32 ∷ named → ⊥) → NamesNone bytes
 no_space_first bytes some other entry_whole h =
-    let never : false ≡ true = subst (λ (word : List ℕ). false ≡ nat_eq (length word) 0) h.spelled some in
+    let P : List ℕ → Type 0 = λ (word : List ℕ). false ≡ nat_eq (length word) 0 in
+    let never : false ≡ true = subst P h.spelled some in
     cc
 no_space_first bytes some other (category_whole category) h = other category h.spelled
 no_space_first bytes some other (category_span category first end) h =
@@ -49,7 +51,8 @@ module _ (category : List ℕ) (each : AreOfWord category) (span : List ℕ) whe
       (first < 10 ^ 9) × (end < 10 ^ 9) × (span ≡ decimal first ++ (32 ∷ decimal end))
 
   -- they name a constituent over a span, whose two numbers stand behind the word
-  span_named : (constituent : Constituent) → IsNameOf bytes constituent → (first : ℕ) × (end : ℕ) × IsSpan first end
+  span_named : (constituent : Constituent) → IsNameOf bytes constituent →
+      (first : ℕ) × (end : ℕ) × IsSpan first end
   span_named entry_whole h = absurd (omega (arith, ap length h.spelled))
   span_named (category_whole name) h =
       let spaced : Contains name 32 =
@@ -57,20 +60,24 @@ module _ (category : List ℕ) (each : AreOfWord category) (span : List ℕ) whe
       absurd (word_lacks_space name h.nameable spaced)
   span_named (category_span name first end) h =
       let parts = cut_same 32 category span name (decimal first ++ (32 ∷ decimal end))
-      (of_word_lacks_space category each) (word_lacks_space name h.nameable.0) (ap (drop 1) h.spelled) in
+      (of_word_lacks_space category each) (word_lacks_space name h.nameable.0)
+      (ap (drop 1) h.spelled) in
       (first, end, (h.nameable.1, h.nameable.2, parts.1))
 
   -- without a space there is one number at most
   pub no_first : (Contains span 32 → ⊥) → NamesNone bytes
   no_first other constituent h =
       let named = span_named constituent h in
-      other (subst (λ word. Contains word 32) (sym named.2.2) (has_space (decimal named.0) (decimal named.1)))
+      other
+      (subst (λ word. Contains word 32) (sym named.2.2)
+      (has_space (decimal named.0) (decimal named.1)))
 
   module _ (left right : List ℕ) (cut : span ≡ left ++ (32 ∷ right)) (no_left : Lacks left 32) where
     -- which are those on its two sides
     numbers : (first end : ℕ) → IsSpan first end → (left ≡ decimal first) × (right ≡ decimal end)
     numbers first end named =
-        cut_same 32 left right (decimal first) (decimal end) no_left (digits_lack first 32 named.0 (omega arith)) (sym cut ∙ named.2)
+        cut_same 32 left right (decimal first) (decimal end) no_left
+        (digits_lack first 32 named.0 (omega arith)) (sym cut ∙ named.2)
 
     -- each side of it is a number
     pub no_first_number : ((n : ℕ) → n < 10 ^ 9 → left ≡ decimal n → ⊥) → NamesNone bytes
@@ -84,16 +91,20 @@ module _ (category : List ℕ) (each : AreOfWord category) (span : List ℕ) whe
         other named.1 named.2.1 (numbers named.0 named.1 named.2).1
 
 -- behind a beginning of a line without LF stands none
-pub no_lf_behind : (line beginning rest : List ℕ) → line ≡ beginning ++ rest → HasNoLf line → HasNoLf rest
+pub no_lf_behind : (line beginning rest : List ℕ) →
+    line ≡ beginning ++ rest → HasNoLf line → HasNoLf rest
 no_lf_behind line beginning rest e h = behind_some beginning rest (subst HasNoLf e h)
 
 -- a line that does not begin so asks none
 pub no_beginning : (line beginning : List ℕ) → beginning ≡ codes "has" →
-    ((rest : List ℕ) → line ≡ beginning ++ rest → ⊥) → (constituent : Constituent) → IsHas line constituent → ⊥
-no_beginning line beginning same other constituent h = other (constituent_text constituent) (rw same h.spelled)
+    ((rest : List ℕ) → line ≡ beginning ++ rest → ⊥) →
+    (constituent : Constituent) → IsHas line constituent → ⊥
+no_beginning line beginning same other constituent h =
+    other (constituent_text constituent) (rw same h.spelled)
 
--- where bytes begin with a space and have no LF
-module _ (bytes beginning named : List ℕ) (e : bytes ≡ beginning ++ named) (no_lf : HasNoLf bytes) where
+-- where bytes without LF are a beginning and what it names
+module _ (bytes beginning named : List ℕ) (e : bytes ≡ beginning ++ named)
+    (no_lf : HasNoLf bytes) where
   -- what stands behind it has none either
   no_lf_named : HasNoLf named
   no_lf_named = no_lf_behind bytes beginning named e no_lf
@@ -103,7 +114,7 @@ module _ (bytes beginning named : List ℕ) (e : bytes ≡ beginning ++ named) (
   whole_of_word no_space = of_word named no_space no_lf_named
 
   -- and so is what stands before the next space
-  pub front_of_word : (category span : List ℕ) → named ≡ category ++ (32 ∷ span) → Lacks category 32 →
-      AreOfWord category
+  pub front_of_word : (category span : List ℕ) → named ≡ category ++ (32 ∷ span) →
+      Lacks category 32 → AreOfWord category
   front_of_word category span cut no_space =
       of_word category no_space (before_some category (32 ∷ span) (subst HasNoLf cut no_lf_named))

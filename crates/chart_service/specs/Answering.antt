@@ -6,7 +6,8 @@ use Rattle.spec_lbnf.specs.Expansion.{Expansion}
 use Rattle.spec_session.specs.Script.{Constituent}
 use Rattle.spec_session.specs.Replies.{as_line, IsOfCategory}
 use Rattle.chart_service.specs.declared.answering.Answer.{Answer}
-use Rattle.chart_service.specs.declared.answering.Answer.TheVariants.{UnknownCategory, SpanOutside, Yes, No}
+use Rattle.chart_service.specs.declared.answering.Answer.TheVariants.{UnknownCategory}
+use Rattle.chart_service.specs.declared.answering.Answer.TheVariants.{SpanOutside, Yes, No}
 
 -- the constituent is of this symbol, which is a category of the grammar
 abbrev pub IsOfSymbol : Expansion → Constituent → Symbol → Type 0

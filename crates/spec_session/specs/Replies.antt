@@ -109,13 +109,14 @@ abbrev pub IsWithin : ℕ → Constituent → Type 0
 IsWithin size constituent =
     (first_of constituent ≤ end_of size constituent) × (end_of size constituent ≤ size)
 
--- the constituent is none of a text of so many tokens: it ends before it begins, or behind the text
+-- the constituent is no span of a text of so many tokens: it runs backwards, or ends behind it
 abbrev pub IsOutside : ℕ → Constituent → Type 0
 IsOutside size constituent =
     (end_of size constituent < first_of constituent) ⊎ (size < end_of size constituent)
 
 -- a category of the constituent derives its tokens
-pub record IsDerived (g : Expansion) (tokens : List Token) (constituent : Constituent) : Type 0 where
+pub record IsDerived (g : Expansion) (tokens : List Token) (constituent : Constituent)
+    : Type 0 where
   pub category : ℕ
   pub is_category : IsOfCategory g constituent category
   pub derives : Derives g.rules (kinds_of tokens) (Category category) (first_of constituent)

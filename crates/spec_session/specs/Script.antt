@@ -16,7 +16,7 @@ pub data Command : Type 0 where
   opens : (text : List ℕ) → Command
   has : (constituent : Constituent) → Command
 
--- how a question's line names the constituent, behind its first word: each part stands behind a space
+-- how a question's line names the constituent behind its first word, each part behind a space
 abbrev pub constituent_text : Constituent → List ℕ
 constituent_text entry_whole = []
 constituent_text (category_whole category) = 32 ∷ category
