@@ -2,12 +2,15 @@
 mod empty_spans;
 
 use super::*;
-use lbnf_text::{Label, Name, read_defs};
+use lbnf_text::{Label, MAX_FILE, Name, read_defs};
 use std::alloc::Global;
 use std::test::*;
 
-/// The grammar of a file, `None` where memory or the form fails.
+/// The grammar of a file, `None` where memory, the form or the length fails.
 fn expanded(alloc: Global, bytes: &[u8]) -> Option<Result<Grammar, GrammarFault>> {
+    if MAX_FILE < bytes.len() {
+        return None;
+    }
     match read_defs(alloc, bytes) {
         Ok(defs) => Some(expand(alloc, &defs)),
         Err(_) => None,
@@ -124,6 +127,36 @@ fn the_entry_is_the_category_of_the_first_rule(rt: HostRuntime) -> Result<(), Fa
             "at {bytes:?}"
         );
     }
+    Ok(())
+}
+
+#[test]
+fn empty_and_long_right_sides_are_numbered(rt: HostRuntime) -> Result<(), Fail> {
+    let text = b"If . S ::= \"if\" E S \"else\" S ; Skip . S ::= ; Var . E ::= \"x\"".as_slice();
+    let grammar = expanded(rt.alloc(), text)
+        .ok_or("the form")?
+        .ok()
+        .ok_or("a grammar")?;
+    let long = [
+        Symbol::Kind(0),
+        Symbol::Category(1),
+        Symbol::Category(0),
+        Symbol::Kind(1),
+        Symbol::Category(0),
+    ];
+    let cases = [
+        (0, 0, long.as_slice()),
+        (1, 0, [].as_slice()),
+        (2, 1, [Symbol::Kind(2)].as_slice()),
+    ];
+    for (number, category, items) in cases {
+        assert!(rt; number < grammar.rule_count());
+        let rule = grammar.rule(number);
+        assert_eq!(rt; rule.category, category, "at {number}");
+        assert_eq!(rt; rule.items.as_slice(), items, "at {number}");
+    }
+    let flags = nullable_categories(rt.alloc(), &grammar)?;
+    assert_eq!(rt; flags.as_slice(), [true, false].as_slice());
     Ok(())
 }
 

@@ -2,7 +2,8 @@
 ghost use Rattle.std.specs.Prelude.{◌≡◌, IfSome};
 ghost use Rattle.std.specs.Option.{option_map};
 ghost use Rattle.std.specs.Str.{IsAscii};
-ghost use Rattle.spec_lbnf.specs.Reading.{is_predefined, name_at, sign_at, category_at, word_at, item_at};
+ghost use Rattle.spec_lbnf.specs.Reading.{is_predefined, name_at, sign_at, category_at};
+ghost use Rattle.spec_lbnf.specs.Reading.{word_at, item_at};
 ghost use Rattle.lbnf_text.specs.ItemReading.{item_of, text_of};
 
 use crate::bytes::{ByteSort, skip_white, split_run, starts_quote, starts_upper};
@@ -64,7 +65,7 @@ pub fn category(bytes: &[u8]) -> Option<(&[u8], &[u8])>
 }
 
 /// The word in quotes at the front, and what is behind it.
-#[tactic(auto, unfolding(spec_lbnf::specs::Reading::word_at, spec_lbnf::specs::Reading::closed_word))]
+#[tactic(auto, unfolding(spec_lbnf::specs::Reading::word_at))]
 fn word(bytes: &[u8]) -> Option<(&[u8], &[u8])>
     ensures read { option_map (λ x. (x.0.now, x.1.now)) result ≡ word_at bytes.now }
     ensures ascii { IfSome result (λ x. IsAscii x.0.now) }
@@ -80,7 +81,7 @@ fn word(bytes: &[u8]) -> Option<(&[u8], &[u8])>
 
 /// The item at the front, and what is behind it: a word where a quote comes first, and else a
 /// category.
-#[tactic(auto, unfolding(spec_lbnf::specs::Reading::item_at, spec_lbnf::specs::Reading::word_item, spec_lbnf::specs::Reading::category_item))]
+#[tactic(auto, unfolding(spec_lbnf::specs::Reading::item_at))]
 pub fn item(bytes: &[u8]) -> Option<(ItemText<'_>, &[u8])>
     ensures read { option_map (λ x. (item_of x.0, x.1.now)) result ≡ item_at bytes.now }
     ensures ascii { IfSome result (λ x. IsAscii (text_of x.0)) }

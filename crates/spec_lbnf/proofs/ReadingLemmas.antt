@@ -11,7 +11,7 @@ use Rattle.spec_lbnf.specs.declared.definition.RawItem.{RawItem}
 use Rattle.spec_lbnf.specs.declared.definition.RawItem.TheVariants.{Cat, Word}
 use Rattle.spec_lbnf.specs.declared.definition.Def.{Def}
 use Rattle.spec_lbnf.specs.FirstForm.{is_white, is_upper, is_name_byte, is_word_byte, starts_upper, Stops, AreWhite, IsName, IsCategoryName, IsToken, AreTokens, quoted_word, BeginsWithCategory, BeginsWithWord, BeginsWithItem, SpellsItems, SpellsRule, category_of, SpellsDef, IsUnbuilt}
-use Rattle.spec_lbnf.specs.Reading.{skip_white, starts_quote, name_at, sign_at, category_at, head_at, closed_word, word_at, word_item, category_item, item_at, item_then, items_at, side_at, def_at}
+use Rattle.spec_lbnf.specs.Reading.{skip_white, starts_quote, name_at, sign_at, category_at, head_at, word_at, word_item, category_item, item_at, item_then, items_at, side_at, def_at}
 use Rattle.spec_lbnf.proofs.RunLemmas.{run_passes, run_whole, run_take, run_drop}
 use Rattle.spec_lbnf.proofs.SizeLemmas.{name_some, item_shorter}
 use Rattle.spec_lbnf.proofs.TokenLemmas.{chain_some, name_read, name_again, sign_read, sign_again, category_read, category_again, skipped_of_token, name_stops_white, white_is_no_name_byte}
@@ -78,7 +78,7 @@ quote_first (b ∷ bytes) h = ap (λ c. c ∷ bytes) (eqb-true b 34 h)
 -- a word that is read is spelled
 pub word_read : (bytes : List ℕ) (read : List ℕ × List ℕ) → word_at bytes ≡ Some read
     → BeginsWithWord read.0 bytes read.1
-unfolding word_at closed_word
+unfolding word_at
 word_read bytes read e =
     let quoted = chain_some (sign_at (34 ∷ []) bytes) _ read e in
     let open_token = sign_read (34 ∷ []) bytes quoted.0 quoted.1 in
@@ -97,7 +97,7 @@ word_read bytes read e =
 
 -- a word that is spelled is read
 pub word_again : (word bytes rest : List ℕ) → BeginsWithWord word bytes rest → word_at bytes ≡ Some (word, rest)
-unfolding word_at closed_word
+unfolding word_at
 word_again word bytes rest is =
     let token = is.token in
     let whole : bytes ≡ token.space ++ (34 ∷ (word ++ (34 ∷ rest))) = token.whole ∙ ap (λ l. token.space ++ (34 ∷ l)) (append_assoc word (34 ∷ []) rest) in
@@ -132,7 +132,7 @@ category_starts_no_quote cat bytes rest is =
 -- an item that is read is spelled
 pub item_read : (bytes : List ℕ) (read : RawItem × List ℕ) → item_at bytes ≡ Some read
     → BeginsWithItem read.0 bytes read.1
-unfolding item_at word_item category_item
+unfolding item_at
 item_read bytes read e = by (starts_quote (skip_white bytes)) e
   where
     by : (quoted : Bool) → cond quoted (word_item bytes) (category_item bytes) ≡ Some read
@@ -149,7 +149,7 @@ item_read bytes read e = by (starts_quote (skip_white bytes)) e
 -- an item that is spelled is read
 pub item_again : (item : RawItem) (bytes rest : List ℕ) → BeginsWithItem item bytes rest
     → item_at bytes ≡ Some (item, rest)
-unfolding item_at word_item category_item
+unfolding item_at
 item_again (Cat cat) bytes rest is =
     let bare : category_of cat.name ≡ cat = ap (λ d. record { name = cat.name; depth = d }) (sym is.bare) in
     rw (category_starts_no_quote cat bytes rest is, category_again cat bytes rest is) (ap (λ (c : CatName). Some (Cat c, rest)) bare)

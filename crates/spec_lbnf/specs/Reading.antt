@@ -60,7 +60,7 @@ head_at bytes = do
   Some (label.0, cat.0, gives)
 
 -- the word and what is behind its closing quote, where it has a byte and that quote
-unfoldable pub closed_word : List ℕ → List ℕ → Option (List ℕ × List ℕ)
+abbrev pub closed_word : List ℕ → List ℕ → Option (List ℕ × List ℕ)
 closed_word word bytes =
     only_if (nat_lt 0 (length word) && starts_quote bytes) (word, drop 1 bytes)
 
@@ -72,13 +72,13 @@ word_at bytes = do
       (drop (prefix_len is_word_byte quoted) quoted)
 
 -- the item that is a word, and what is behind it
-unfoldable pub word_item : List ℕ → Option (RawItem × List ℕ)
+abbrev pub word_item : List ℕ → Option (RawItem × List ℕ)
 word_item bytes = do
   word ← word_at bytes
   Some (Word word.0, word.1)
 
 -- the item that is a category, and what is behind it
-unfoldable pub category_item : List ℕ → Option (RawItem × List ℕ)
+abbrev pub category_item : List ℕ → Option (RawItem × List ℕ)
 category_item bytes = do
   cat ← category_at bytes
   Some (Cat (category_of cat.0), cat.1)
