@@ -19,7 +19,7 @@ use Rattle.binary_form.specs.declared.fault.BinaryFault.TheVariants.{Memory as B
 use Rattle.valiant.specs.Charts.{ChartValue}
 use Rattle.chart_service.specs.declared.opening.LanguageFault.{LanguageFault}
 use Rattle.chart_service.specs.declared.opening.LanguageFault.TheVariants.{Text, Grammar, Binary}
-use Rattle.chart_service.specs.declared.opening.Language.{Language}
+use Rattle.chart_service.specs.declared.language.Language.{Language}
 use Rattle.chart_service.specs.declared.status.Status.{Status}
 use Rattle.chart_service.specs.declared.status.Status.TheVariants.{Ok as Fine, BadGrammar, BadScript, ReadFault, WriteFault, OutOfMemory}
 use Rattle.chart_service.specs.Statuses.{IsWriteStop}

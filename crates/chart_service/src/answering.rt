@@ -1,5 +1,5 @@
 //! Answers to questions about the spans of a text that is open.
-ghost use Rattle.std.specs.Prelude.{◌≡◌, ◌≤◌, ◌↔◌, ℕ, List, length};
+ghost use Rattle.std.specs.Prelude.{◌≡◌, ◌<◌, ◌≤◌, ◌↔◌, ℕ, List, length};
 ghost use Rattle.std.specs.Prelude.{IsTrue, IsErrOf, IfOk, IfErr, OnOk, OnErr, MatchOption};
 ghost use Rattle.std.specs.Prelude.{string_bytes};
 ghost use Rattle.cyk_io.specs.Causes.{HasCause};

@@ -3,6 +3,7 @@
 
 mod answering;
 mod forms;
+mod language;
 mod lexing;
 mod opening;
 mod options;

@@ -10,10 +10,11 @@ ghost use Rattle.chart_service.specs.Statuses.{IsWriteStop};
 ghost use Rattle.chart_service.specs.Opening.{MakesLanguage, ReadsLanguage, IsFit, IsRefusal, EndsAtGrammar};
 ghost use Rattle.chart_service.specs.Opening.{Accepts, IsOpened, OpensText};
 
+use crate::language::Language;
 use crate::lexing::{kinds_of, tokens_of};
 use crate::status::Status;
 use crate::writing::{finish, say};
-use binary_form::{Binary, BinaryFault, binary};
+use binary_form::{BinaryFault, binary};
 use cell_sets::ListCell;
 use cyk_io::Sink;
 use lbnf_grammar::{Grammar, GrammarFault, expand};
@@ -27,14 +28,6 @@ pub(crate) enum LanguageFault {
     Text(TextFault),
     Grammar(GrammarFault),
     Binary(BinaryFault),
-}
-
-/// A grammar that was accepted, and its binary form.
-#[derive(Drop)]
-pub(crate) struct Language {
-    pub(crate) grammar: Grammar,
-    pub(crate) binary: Binary<ListCell>,
-    pub(crate) ghost same: { binary ≡ grammar },
 }
 
 /// The grammar with its binary form, or that it has too many symbols.

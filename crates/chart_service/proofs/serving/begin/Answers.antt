@@ -35,7 +35,7 @@ returns-in-Ok-Some-clause-ok g c input before comes written =
     text_opened input before c.args.ahead.now.offset c.requires.start (coming c.args.ahead.now (g.S.Source.left c.args.source.now)) comes (g.K.Sink.written c.args.sink.now) written
     c.read_header.new.ahead.offset (coming c.read_header.new.ahead (g.S.Source.left c.read_header.new.source)) (rw c.if-not-found.false at c.in_ok-found.ensures.ok)
     c.in-Some.block.items c.read_grammar.new.ahead.offset (coming c.read_grammar.new.ahead (g.S.Source.left c.read_grammar.new.source)) (rw c.in-Some.is at c.in_ok-block.ensures.ok)
-    c.in-Ok.grammar accepted.0 (g.K.Sink.written c.accept.new.sink) accepted.2
+    c.in-Ok.language.grammar accepted.0 (g.K.Sink.written c.accept.new.sink) accepted.2
     c.in-Ok-Some.text.items c.read_text.new.ahead.offset (coming c.read_text.new.ahead (g.S.Source.left c.read_text.new.source)) (rw c.in-Ok-Some.field-0-is at c.in-Ok-Some.ensures.ok)
     (g.K.Sink.written c.open_text.new.sink) c.open_text.result (rw c.as_slice-in-Ok-Some.ensures.value at c.open_text.ensures.ok)
 
@@ -50,7 +50,7 @@ returns-in-Ok-None-clause-ok g c input before comes written =
     no_text input before c.args.ahead.now.offset c.requires.start (coming c.args.ahead.now (g.S.Source.left c.args.source.now)) comes (g.K.Sink.written c.args.sink.now) written
     c.read_header.new.ahead.offset (coming c.read_header.new.ahead (g.S.Source.left c.read_header.new.source)) (rw c.if-not-found.false at c.in_ok-found.ensures.ok)
     c.in-Some.block.items c.read_grammar.new.ahead.offset (coming c.read_grammar.new.ahead (g.S.Source.left c.read_grammar.new.source)) (rw c.in-Some.is at c.in_ok-block.ensures.ok)
-    c.in-Ok.grammar accepted.0 (g.K.Sink.written c.accept.new.sink) accepted.2
+    c.in-Ok.language.grammar accepted.0 (g.K.Sink.written c.accept.new.sink) accepted.2
     (rw c.in-Ok-None.field-0-is at c.in-Ok-None.ensures.ok) c.offset-start-2.result c.offset-start-2.ensures.offset
     (g.K.Sink.written c.refuse_script-in-Ok-None.new.sink) c.refuse_script-in-Ok-None.result c.refuse_script-in-Ok-None.ensures.ok
 
@@ -60,5 +60,5 @@ returns-clause-ok g c input before comes written =
     text_stopped input before c.args.ahead.now.offset c.requires.start (coming c.args.ahead.now (g.S.Source.left c.args.source.now)) comes (g.K.Sink.written c.args.sink.now) written
     c.read_header.new.ahead.offset (coming c.read_header.new.ahead (g.S.Source.left c.read_header.new.source)) (rw c.if-not-found.false at c.in_ok-found.ensures.ok)
     c.in-Some.block.items c.read_grammar.new.ahead.offset (coming c.read_grammar.new.ahead (g.S.Source.left c.read_grammar.new.source)) (rw c.in-Some.is at c.in_ok-block.ensures.ok)
-    c.in-Ok.grammar accepted.0 (g.K.Sink.written c.accept.new.sink) accepted.2
+    c.in-Ok.language.grammar accepted.0 (g.K.Sink.written c.accept.new.sink) accepted.2
     c.in-Err-read_text.status (read_stop c.in-Err-read_text.status c.in-Err-read_text.ensures.err)
