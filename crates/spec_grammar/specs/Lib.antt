@@ -2,3 +2,6 @@ pub mod Trees
 pub mod Derivation
 pub mod Laws
 pub mod Examples
+pub mod Cycles
+pub mod CycleLaws
+pub mod CycleExamples
