@@ -7,7 +7,7 @@ use Rattle.spec_grammar.specs.declared.rule.Symbol.TheVariants.{Category, Kind}
 use Rattle.spec_grammar.specs.declared.rule.Rule.{Rule}
 use Rattle.spec_grammar.specs.Trees.{node, no_trees}
 use Rattle.spec_grammar.specs.Derivation.{IsNullable}
-use Rattle.spec_grammar.specs.Cycles.{StepsTo, IsAcyclic, HasChain}
+use Rattle.spec_grammar.specs.Cycles.{StepsTo, HasChain}
 use Rattle.spec_grammar.specs.Examples.{rule_of, nests}
 use Rattle.spec_grammar.specs.CycleExamples.{doubles, mirrors, chain, SmallCycles}
 use Rattle.spec_grammar.proofs.DerivationLemmas.{kind_derives}
