@@ -4,3 +4,4 @@ pub mod DistinctLemmas
 pub mod TableLemmas
 pub mod CheckingLemmas
 pub mod NullableLemmas
+pub mod StepLinkLemmas

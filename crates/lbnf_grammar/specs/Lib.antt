@@ -4,3 +4,4 @@ pub mod Numbering
 pub mod Tables
 pub mod Checking
 pub mod NullablePasses
+pub mod StepLinks

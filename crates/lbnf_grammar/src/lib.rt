@@ -9,6 +9,7 @@ mod making;
 mod names;
 mod nullable;
 mod numbering;
+mod stepping;
 mod tables;
 mod texts;
 
