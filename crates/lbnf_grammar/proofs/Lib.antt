@@ -5,3 +5,4 @@ pub mod TableLemmas
 pub mod CheckingLemmas
 pub mod NullableLemmas
 pub mod StepLinkLemmas
+pub mod RankLemmas

@@ -2,7 +2,7 @@
 use Rattle.std.proofs.Common.{◌≡◌, ℕ, zero, suc, ◌+◌, ◌<◌, ◌⊎◌, ◌↔◌, inl, inr, List, [], ◌∷◌, ◌++◌, Bool, true, false, IsTrue, cond, length, slice_get, slice_index_or, Some, refl, sym, ◌∙◌, ap, subst, arith, replicate}
 use Rattle.std.specs.List.{Contains, All, AllByRecursion, sum_by}
 use Rattle.std.proofs.lemmas.Bool.{false≢true}
-use Rattle.std.proofs.lemmas.List.Elements.{Contains-append_left, Contains-push, Contains-push_cases, All-from_recursion, recursion_from_All}
+use Rattle.std.proofs.lemmas.List.Elements.{Contains-append_left, Contains-push, Contains-push_cases, All-contains, All-from_recursion, recursion_from_All}
 use Rattle.std.proofs.lemmas.List.Sums.{sum_by-append, sum_by-cons}
 use Rattle.std.proofs.lemmas.Option.{slice_get_within, same_Some}
 use Rattle.spec_grammar.specs.declared.rule.Symbol.{Symbol}
@@ -11,7 +11,7 @@ use Rattle.spec_grammar.specs.declared.rule.Rule.{Rule}
 use Rattle.spec_grammar.specs.Derivation.{IsNullable}
 use Rattle.spec_grammar.specs.Cycles.{StepsTo}
 use Rattle.spec_grammar.proofs.DerivationLemmas.{category_derives}
-use Rattle.spec_lbnf.specs.Expansion.{Expansion, HasOwnSymbols}
+use Rattle.spec_lbnf.specs.Expansion.{Expansion, IsSymbolOf, HasOwnSymbols}
 use Rattle.number_graph.specs.Graphs.{HasLink, AddsLinks, AreNoLinks}
 use Rattle.number_graph.proofs.FlagLemmas.{set_within}
 use Rattle.number_graph.proofs.LinkLemmas.{adds_alike, adds_both, no_link}
@@ -23,10 +23,13 @@ use Rattle.lbnf_grammar.proofs.NullableLemmas.{kind_not_nullable}
 pub adds_none : (A : ℕ → ℕ → Type 0) (links : List (List ℕ)) → ((m n : ℕ) → A m n → ⊥) → AddsLinks A links links
 adds_none A links none = record {
   count = refl;
-  links = λ m n. ((λ has. inl has), (λ has. elim has [
-    | inl old ↦ old
-    | inr added ↦ absurd (none m n added)
-  ]));
+  links = λ m n. (
+    (λ has. inl has),
+    (λ has. elim has [
+      | inl old ↦ old
+      | inr added ↦ absurd (none m n added)
+    ]),
+  );
 }
 
 -- a link that is added where a test holds is the item's step
@@ -212,12 +215,26 @@ module _ (g : Expansion) (flags : List Bool) (are : AreNullableFlags g flags) (o
       let Has : List Symbol → Type 0 = λ xs. Contains xs (Category b) in
       (omega (arith, all, none_before, none_behind), sym step.is_of, subst Has (sym step.is_item) (item_between step.before step.behind (Category b)))
 
+  -- a step leads from a category of the grammar
+  from_category : (a b : ℕ) → StepsTo g.rules a b → a < length g.categories
+  from_category a b step =
+      subst (λ c. c < length g.categories) step.is_of (own step.r step.rule step.is_rule).0
+
+  -- and to one
+  to_category : (a b : ℕ) → StepsTo g.rules a b → b < length g.categories
+  to_category a b step =
+      let Has : List Symbol → Type 0 = λ xs. Contains xs (Category b) in
+      let has = subst Has (sym step.is_item) (item_between step.before step.behind (Category b)) in
+      All-contains (IsSymbolOf g) step.rule.items (Category b) (own step.r step.rule step.is_rule).1 has
+
   -- the links that all rules give are the steps
   pub steps_are :
       (links : List (List ℕ))
       → AreStepsSoFar flags g.rules (length g.rules) (length flags) links → AreSteps g links
   steps_are links all = record {
     count = all.count ∙ are.count;
+    from = from_category;
+    to = to_category;
     exact = λ a b. (
       (λ has.
           let x = (all.exact a b).0 has in

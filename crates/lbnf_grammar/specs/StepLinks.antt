@@ -45,7 +45,9 @@ pub record AreStepsSoFar (flags : List Bool) (rules : List Rule) (n categories :
   pub count : length links ≡ categories
   pub exact : (a b : ℕ) → HasLink links a b ↔ IsStepOfRules flags rules n a b
 
--- each category is linked to those that it steps to
+-- each category is linked to those that it steps to, which are categories of the grammar
 pub record AreSteps (g : Expansion) (links : List (List ℕ)) : Type 0 where
   pub count : length links ≡ length g.categories
   pub exact : (a b : ℕ) → HasLink links a b ↔ StepsTo g.rules a b
+  pub from : (a b : ℕ) → StepsTo g.rules a b → a < length g.categories
+  pub to : (a b : ℕ) → StepsTo g.rules a b → b < length g.categories
