@@ -1,21 +1,17 @@
 -- Cycles and ranks by links, and the longest chains of at most so many steps.
-use Rattle.std.proofs.Common.{◌≡◌, ℕ, zero, suc, ◌+◌, ◌^◌, ◌<◌, ◌≤◌, ◌⊎◌, ◌↔◌, inl, inr, List, [], ◌∷◌, ◌++◌, length, slice_index_or, replicate, refl, sym, ◌∙◌, ap, subst, arith}
+use Rattle.std.proofs.Common.{below_more, ◌≡◌, ℕ, zero, suc, ◌+◌, ◌^◌, ◌<◌, ◌≤◌, ◌⊎◌, ◌↔◌, inl, inr, List, [], ◌∷◌, ◌++◌, length, slice_index_or, replicate, refl, sym, ◌∙◌, ap, subst, arith}
 use Rattle.std.specs.List.{Contains, All}
 use Rattle.std.proofs.lemmas.List.Elements.{Contains-append_left, Contains-push, Contains-push_cases, All-from_get_or}
 use Rattle.std.proofs.lemmas.List.{length-replicate, get_or-replicate, get_or_append_left, get_or_push}
 use Rattle.spec_grammar.specs.declared.rule.Rule.{Rule}
 use Rattle.spec_grammar.specs.Cycles.{StepsTo, Leads, IsCyclic, IsAcyclic, HasChain, IsRank}
-use Rattle.spec_grammar.proofs.CycleLemmas.{leads_then, step_lengthens, chain_is_short}
+use Rattle.spec_grammar.proofs.CycleLemmas.{leads_then, shorter_chain, step_lengthens, chain_is_short}
 use Rattle.spec_lbnf.specs.Expansion.{Expansion}
 use Rattle.number_graph.specs.Graphs.{HasLink, AreLinksWithin, NumberReaches, stay, step, IsOnCycle}
 use Rattle.number_graph.proofs.ReachLemmas.{number_reaches_on}
 use Rattle.lbnf_grammar.specs.StepLinks.{AreSteps}
 use Rattle.lbnf_grammar.specs.Ranks.{AreRanks}
 use Rattle.lbnf_grammar.specs.Heights.{IsHeight, AreHeights, IsLongestWithin, AreLongestWithin}
-
--- a number below the next one is below this one, or is it
-earlier_or_last : (n count : ℕ) → n < count + 1 → (n < count) ⊎ (n ≡ count)
-earlier_or_last n count below = grind arith
 
 module _ (g : Expansion) (links : List (List ℕ)) (are : AreSteps g links) where
   -- links lead along a chain of steps
@@ -59,10 +55,8 @@ module _ (g : Expansion) (links : List (List ℕ)) (are : AreSteps g links) wher
       (n : ℕ)
       → ((c : ℕ) → c < n → IsCyclic g.rules c → ⊥) → (IsOnCycle links n → ⊥)
       → (c : ℕ) → c < n + 1 → IsCyclic g.rules c → ⊥
-  none_cyclic_more n before last c below cyclic = elim (earlier_or_last c n below) [
-    | inl earlier ↦ before c earlier cyclic
-    | inr same ↦ last ((cyclic_number n).1 (subst (IsCyclic g.rules) same cyclic))
-  ]
+  none_cyclic_more n before last =
+      below_more (λ c. IsCyclic g.rules c → ⊥) n before (λ cyclic. last ((cyclic_number n).1 cyclic))
 
 -- without targets the height is 0
 pub height_start : (values : List ℕ) → IsHeight [] values 0
@@ -99,15 +93,17 @@ pub heights_more :
     → IsHeight (slice_index_or links (length heights) []) values height
     → (n : ℕ) → n < length heights + 1
     → IsHeight (slice_index_or links n []) values (slice_index_or (heights ++ height ∷ []) n 0)
-heights_more links values heights height before last n below = elim (earlier_or_last n (length heights) below) [
-  | inl earlier ↦
-      let P : ℕ → Type 0 = λ k. IsHeight (slice_index_or links n []) values k in
-      subst P (sym (get_or_append_left heights (height ∷ []) 0 n earlier)) (before n earlier)
-  | inr same ↦
-      let P : ℕ → Type 0 = λ k. IsHeight (slice_index_or links k []) values (slice_index_or (heights ++ height ∷ []) k 0) in
-      let Q : ℕ → Type 0 = λ k. IsHeight (slice_index_or links (length heights) []) values k in
-      subst P (sym same) (subst Q (sym (get_or_push heights height 0 (length heights) refl)) last)
-]
+heights_more links values heights height before last =
+    below_more Has (length heights)
+    (λ n earlier.
+        let P : ℕ → Type 0 = λ k. IsHeight (slice_index_or links n []) values k in
+        subst P (sym (get_or_append_left heights (height ∷ []) 0 n earlier)) (before n earlier))
+    (let P : ℕ → Type 0 = λ k. IsHeight (slice_index_or links (length heights) []) values k in
+      subst P (sym (get_or_push heights height 0 (length heights) refl)) last)
+  where
+    Has : ℕ → Type 0
+    Has n = IsHeight (slice_index_or links n []) values (slice_index_or (heights ++ height ∷ []) n 0)
+
 module _ (g : Expansion) (links : List (List ℕ)) (are : AreSteps g links) where
   -- of no steps the longest chain has length 0
   pub longest_start : AreLongestWithin g 0 (replicate (length links) 0)
@@ -159,28 +155,48 @@ module _ (g : Expansion) (links : List (List ℕ)) (are : AreSteps g links) wher
       };
     }
 
-  -- of at most as many steps as there are categories the longest chain is the longest of all
+  -- where a round more would allow as many steps as there are categories, all chains are measured
   pub longest_are_ranks :
-      (lengths : List ℕ) → IsAcyclic g.rules
-      → AreLongestWithin g (length g.categories) lengths → AreRanks g lengths
-  longest_are_ranks lengths acyclic longest = record {
+      (most : ℕ) (lengths : List ℕ)
+      → IsAcyclic g.rules → length g.categories ≤ most + 1 → AreLongestWithin g most lengths
+      → AreRanks g lengths
+  longest_are_ranks most lengths acyclic enough longest = record {
     count = longest.count;
     each = λ c below. ((longest.each c below).chain, longer c below);
   }
     where
-      within_or_all : (n count : ℕ) → n ≤ count → (suc n ≤ count) ⊎ (n ≡ count)
-      within_or_all n count few = grind arith
+      measured_or_long : (n : ℕ) → (n ≤ most) ⊎ (length g.categories ≤ n)
+      measured_or_long n = grind arith
 
       longer : (c : ℕ) → c < length g.categories → HasChain g.rules c (suc (slice_index_or lengths c 0)) → ⊥
       longer c below chain =
-          let own_length = slice_index_or lengths c 0 in
-          let is = longest.each c below in
-          elim (within_or_all own_length (length g.categories) is.within) [
-            | inl few ↦ omega (arith, is.longest (suc own_length) few chain)
+          let n = suc (slice_index_or lengths c 0) in
+          elim (measured_or_long n) [
+            | inl few ↦ omega (arith, (longest.each c below).longest n few chain)
             | inr all ↦
-                chain_is_short g.rules (length g.categories) (are.to) acyclic c below
-                (subst (HasChain g.rules c) all is.chain)
+                chain_is_short g.rules (length g.categories) are.to acyclic c below
+                (shorter_chain g.rules (length g.categories) n c all chain)
           ]
+
+  module _ (lengths : List ℕ) (heights : AreHeights links lengths lengths) where
+    -- no chain is longer than the height that is the height above itself
+    chain_within_height : (n c : ℕ) → c < length g.categories → HasChain g.rules c n → n ≤ slice_index_or lengths c 0
+    chain_within_height zero c below chain = omega arith
+    chain_within_height (suc n) c below chain =
+        let first = chain.1 in
+        let behind = chain_within_height n first.0 (are.to c first.0 first.1) (chain.0, first.2) in
+        let height = heights.each c (omega (arith, below, are.count)) in
+        omega (arith, behind, height.above first.0 ((are.exact c first.0).1 first.1))
+
+    -- so lengths that a round does not change are ranks
+    pub settled_are_ranks : (most : ℕ) → AreLongestWithin g most lengths → AreRanks g lengths
+    settled_are_ranks most longest = record {
+      count = longest.count;
+      each = λ c below. (
+        (longest.each c below).chain,
+        (λ chain. omega (arith, chain_within_height (suc (slice_index_or lengths c 0)) c below chain)),
+      );
+    }
 
 -- the longest chains of at most fewer steps than there are numbers are below them
 pub lengths_are_few :

@@ -40,8 +40,9 @@ fn heights(alloc: Global, links: &Links, values: &[u16]) -> Result<Vec<u16>, All
 }
 
 /// The rank of each category, by number, of a grammar without cycles. It goes round by round: after
-/// so many rounds a category has the length of its longest chain of at most so many steps, and no
-/// chain has as many steps as there are categories. A round looks at each step once.
+/// so many rounds a category has the length of its longest chain of at most so many steps, and each
+/// chain has fewer steps than there are categories. A round looks at each step once, and a round
+/// that changes nothing is the last.
 pub fn ranks(alloc: Global, grammar: &Grammar, nullable: &[bool]) -> Result<Vec<u16>, AllocError>
     requires nullable { AreNullableFlags grammar.now nullable.now }
     requires acyclic { IsAcyclic grammar.now.rules }
@@ -49,8 +50,12 @@ pub fn ranks(alloc: Global, grammar: &Grammar, nullable: &[bool]) -> Result<Vec<
 {
     let links = category_steps(alloc, grammar, nullable)?;
     let mut ranks = vec![in alloc; 0; links.count()]?;
-    for _round in 0..grammar.category_count() {
-        ranks = heights(alloc, &links, ranks.as_slice())?;
+    for _round in 1..grammar.category_count() {
+        let longer = heights(alloc, &links, ranks.as_slice())?;
+        if longer == ranks {
+            return Ok(ranks);
+        }
+        ranks = longer;
     }
     Ok(ranks)
 }
