@@ -5,3 +5,5 @@ pub mod TableLemmas
 pub mod CheckingLemmas
 pub mod NullableLemmas
 pub mod CycleLemmas
+pub mod StepLinkLemmas
+pub mod RankLemmas

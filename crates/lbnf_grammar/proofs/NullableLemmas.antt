@@ -25,7 +25,7 @@ each_of true b e = (refl, e)
 each_of false b e = absurd (false≢true e)
 
 -- no kind derives the empty span
-kind_not_nullable : (rules : List Rule) (k : ℕ) → IsNullable rules (Kind k) → ⊥
+pub kind_not_nullable : (rules : List Rule) (k : ℕ) → IsNullable rules (Kind k) → ⊥
 kind_not_nullable rules k d = none-some _ ((kind_derives rules [] k 0 0).0 d).0
 
 -- the flag of a symbol says whether it derives the empty span

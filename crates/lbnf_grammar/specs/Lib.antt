@@ -1,7 +1,10 @@
 pub mod Grammars
 pub mod Nullable
+pub mod Ranks
 pub mod Numbering
 pub mod Tables
 pub mod Ranks
 pub mod Checking
 pub mod NullablePasses
+pub mod StepLinks
+pub mod Heights

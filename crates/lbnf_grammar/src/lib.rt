@@ -2,6 +2,7 @@
 #![tactic(auto)]
 
 mod checking;
+mod cycles;
 mod expanding;
 mod fault;
 mod grammar;
@@ -9,14 +10,17 @@ mod making;
 mod names;
 mod nullable;
 mod numbering;
-mod ranks;
+mod ranking;
+mod stepping;
 mod tables;
 mod texts;
 
+pub use cycles::first_cyclic;
 pub use expanding::expand;
 pub use fault::GrammarFault;
 pub use grammar::Grammar;
 pub use nullable::{are_nullable, is_nullable, nullable_categories};
+pub use ranking::ranks;
 pub use spec_grammar::{Rule, Symbol};
 pub use spec_lexing::KindDef;
 pub use sqlite_items::Items;

@@ -1,3 +1,4 @@
 pub mod LinkLemmas
 pub mod FlagLemmas
 pub mod ReachLemmas
+pub mod CycleLemmas

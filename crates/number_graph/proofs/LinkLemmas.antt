@@ -1,6 +1,6 @@
 -- What one link more changes.
-use Rattle.std.proofs.Common.{◌≡◌, ◌≢◌, ℕ, zero, suc, ◌<◌, ◌≤◌, ◌↔◌, ◌⊎◌, inl, inr, List, [], ◌∷◌, ◌++◌, Bool, IsTrue, length, get_or, slice_set, replicate}
-use Rattle.std.proofs.Common.{slice_index_or, refl, sym, ap, ◌∙◌, arith, length-set, get_or-set_other, subst}
+use Rattle.std.proofs.Common.{◌≡◌, ◌≢◌, ℕ, zero, suc, ◌<◌, ◌≤◌, ◌↔◌, ◌⊎◌, inl, inr, List, [], ◌∷◌, ◌++◌, Bool, IsTrue, length, slice_set, replicate}
+use Rattle.std.proofs.Common.{slice_index_or, sym, ap, ◌∙◌, arith, length-set, get_or-set_other, subst}
 use Rattle.std.specs.List.{Contains}
 use Rattle.std.proofs.lemmas.List.{get_or_default, get_or_past}
 use Rattle.std.proofs.lemmas.Grind.{get_or-set_at}

@@ -37,3 +37,7 @@ IsSet flags n = IsTrue (slice_index_or flags n false)
 pub record AreReachedFlags (links : List (List ℕ)) (from : ℕ) (flags : List Bool) : Type 0 where
   pub count : length flags ≡ length links
   pub exact : (n : ℕ) → IsSet flags n ↔ NumberReaches (HasLink links) from n
+
+-- the number reaches itself by one link or more
+abbrev pub IsOnCycle : List (List ℕ) → ℕ → Type 0
+IsOnCycle links n = (m : ℕ) × HasLink links n m × NumberReaches (HasLink links) m n

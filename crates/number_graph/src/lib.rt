@@ -2,9 +2,11 @@
 #![tactic(auto)]
 
 mod closure;
+mod cycle;
 mod links;
 
 pub use closure::reached_from;
+pub use cycle::reaches_itself;
 pub use links::Links;
 
 #[cfg(test)]

@@ -41,6 +41,16 @@ fn reached(
     reached_from(alloc, &links, from)
 }
 
+/// Whether each number of a graph of four reaches itself.
+fn on_cycles(alloc: Global, pairs: &[(u16, u16)]) -> Result<Vec<bool>, AllocError> {
+    let links = links_of(alloc, 4, pairs)?;
+    let mut answers = Vec::new(alloc);
+    for number in 0..4 {
+        answers.push(reaches_itself(alloc, &links, number)?)?;
+    }
+    Ok(answers)
+}
+
 /// The numbers that each number of a graph of three is linked to, one after another.
 fn linked(alloc: Global, pairs: &[(u16, u16)]) -> Result<Vec<u16>, AllocError> {
     let links = links_of(alloc, 3, pairs)?;
@@ -83,6 +93,22 @@ fn a_number_reaches_itself_and_what_links_lead_to(rt: HostRuntime) -> Result<(),
     for (place, (pairs, from, want)) in cases.iter().enumerate() {
         let flags = reached(rt.alloc(), 4, pairs, *from)?;
         assert_eq!(rt; flags.as_slice(), want.as_slice(), "at {place}");
+    }
+    Ok(())
+}
+
+#[test]
+fn a_number_on_a_cycle_reaches_itself(rt: HostRuntime) -> Result<(), Fail> {
+    let cases: [(&[(u16, u16)], [bool; 4]); 5] = [
+        (&[], [false, false, false, false]),
+        (&[(0, 1), (1, 2), (2, 3)], [false, false, false, false]),
+        (&[(0, 1), (1, 2), (2, 0), (3, 0)], [true, true, true, false]),
+        (&[(0, 3), (0, 2), (2, 2)], [false, false, true, false]),
+        (&[(1, 0), (1, 3), (3, 1)], [false, true, false, true]),
+    ];
+    for (place, (pairs, want)) in cases.iter().enumerate() {
+        let answers = on_cycles(rt.alloc(), pairs)?;
+        assert_eq!(rt; answers.as_slice(), want.as_slice(), "at {place}");
     }
     Ok(())
 }

@@ -1,2 +1,4 @@
 pub mod DerivationLemmas
 pub mod Examples
+pub mod CycleLemmas
+pub mod CycleExamples

@@ -5,7 +5,8 @@ use Rattle.spec_grammar.specs.declared.rule.Symbol.TheVariants.{Category}
 use Rattle.spec_grammar.specs.declared.rule.Rule.{Rule}
 use Rattle.spec_grammar.specs.Derivation.{IsNullable}
 
--- category a steps to b: a rule of a has b among its items, and each other item of that rule is nullable
+-- category a steps to b: a rule of a has b among its items, and each other item of that rule is
+-- nullable
 pub record StepsTo (rules : List Rule) (a b : ℕ) : Type 0 where
   pub r : ℕ
   pub rule : Rule

@@ -1,9 +1,11 @@
-//! Laws of derivation. Each body is empty: the contract is the law, and calling the function cites it.
+//! Laws of derivation and of steps between categories. Each body is empty: the contract is the law, and calling the function cites it.
 ghost use Rattle.spec_grammar.specs.Laws.{CategoryDerivesByItsRules, ItemsDeriveInTurn};
 ghost use Rattle.spec_grammar.specs.Laws.{ItemsLieWithin, KindDerivesItsToken};
 ghost use Rattle.spec_grammar.specs.Laws.{EmptyItemsDeriveEmptySpan, NoStrayIsDerived};
 ghost use Rattle.spec_grammar.specs.Laws.{NullableDerivesEverywhere, SpansLieWithin};
 ghost use Rattle.spec_grammar.specs.Examples.{SmallCases};
+ghost use Rattle.spec_grammar.specs.CycleLaws.{ChainsAreShort, RanksAreUnique, StepsLowerRanks};
+ghost use Rattle.spec_grammar.specs.CycleExamples.{SmallCycles};
 
 /// A nullable symbol derives the empty span at every place of every text, and at one place is enough.
 pub fn nullable_everywhere()
@@ -41,4 +43,24 @@ pub fn no_stray_is_derived()
 /// Spans of small grammars that are derived, and others that are not.
 pub fn small_cases()
     ensures { SmallCases }
+{}
+
+/// A category that another steps to is of lower rank.
+pub fn steps_lower_ranks()
+    ensures { StepsLowerRanks }
+{}
+
+/// A category has one rank at most.
+pub fn one_rank()
+    ensures { RanksAreUnique }
+{}
+
+/// Where no category reaches itself, no chain has as many steps as there are categories.
+pub fn chains_are_short()
+    ensures { ChainsAreShort }
+{}
+
+/// Small grammars with a cycle, without one, and with ranks.
+pub fn small_cycles()
+    ensures { SmallCycles }
 {}

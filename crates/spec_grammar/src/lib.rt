@@ -5,7 +5,8 @@ mod laws;
 mod rule;
 
 pub use laws::{
-    a_category_derives_by_its_rules, a_kind_derives_its_tokens, items_derive_in_turn,
-    no_stray_is_derived, nullable_everywhere, small_cases, spans_lie_within,
+    a_category_derives_by_its_rules, a_kind_derives_its_tokens, chains_are_short,
+    items_derive_in_turn, no_stray_is_derived, nullable_everywhere, one_rank, small_cases,
+    small_cycles, spans_lie_within, steps_lower_ranks,
 };
 pub use rule::{Label, Rule, Symbol};

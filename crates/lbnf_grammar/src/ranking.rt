@@ -1,0 +1,61 @@
+//! Ranks: how long the longest chain of steps from a category is.
+ghost use Rattle.std.specs.Prelude.{◌≡◌, ℕ, ◌+◌, ◌<◌, ◌^◌, All, Contains, IfOk, length};
+ghost use Rattle.spec_grammar.specs.Cycles.{IsAcyclic};
+ghost use Rattle.number_graph.specs.Graphs.{AreLinksWithin};
+ghost use Rattle.lbnf_grammar.specs.Nullable.{AreNullableFlags};
+ghost use Rattle.lbnf_grammar.specs.Ranks.{AreRanks};
+ghost use Rattle.lbnf_grammar.specs.Heights.{AreHeights, IsHeight};
+
+use crate::grammar::Grammar;
+use crate::stepping::category_steps;
+use number_graph::Links;
+use std::alloc::{AllocError, Global};
+
+/// One more than the greatest of the targets' values, or 0 where there is no target.
+fn height_above(targets: &[u16], values: &[u16]) -> u16
+    requires within { (t : ℕ) → Contains targets.now t → t < length values.now }
+    requires few { All (λ v. v + 1 < 2 ^ 16) values.now }
+    ensures { IsHeight targets.now values.now result }
+{
+    let mut height = 0;
+    for target in targets {
+        height = height.max(values[*target as usize] + 1);
+    }
+    height
+}
+
+/// For each number the height above those that it is linked to.
+fn heights(alloc: Global, links: &Links, values: &[u16]) -> Result<Vec<u16>, AllocError>
+    requires within { AreLinksWithin links.now }
+    requires numbers { length links.now < 2 ^ 16 }
+    requires len { length values.now ≡ length links.now }
+    requires few { All (λ v. v + 1 < 2 ^ 16) values.now }
+    ensures { IfOk result (λ heights. AreHeights links.now values.now heights.items) }
+{
+    let mut heights = Vec::with_capacity(alloc, values.len())?;
+    for number in 0..links.count() as u16 {
+        heights.push(height_above(links.from(number), values))?;
+    }
+    Ok(heights)
+}
+
+/// The rank of each category, by number, of a grammar without cycles. It goes round by round: after
+/// so many rounds a category has the length of its longest chain of at most so many steps, and each
+/// chain has fewer steps than there are categories. A round looks at each step once, and a round
+/// that changes nothing is the last.
+pub fn ranks(alloc: Global, grammar: &Grammar, nullable: &[bool]) -> Result<Vec<u16>, AllocError>
+    requires nullable { AreNullableFlags grammar.now nullable.now }
+    requires acyclic { IsAcyclic grammar.now.rules }
+    ensures { IfOk result (λ ranks. AreRanks grammar.now ranks.items) }
+{
+    let links = category_steps(alloc, grammar, nullable)?;
+    let mut ranks = vec![in alloc; 0; links.count()]?;
+    for _round in 1..grammar.category_count() {
+        let longer = heights(alloc, &links, ranks.as_slice())?;
+        if longer == ranks {
+            return Ok(ranks);
+        }
+        ranks = longer;
+    }
+    Ok(ranks)
+}

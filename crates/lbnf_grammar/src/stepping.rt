@@ -1,0 +1,80 @@
+//! Which categories step to which, as links between their numbers.
+ghost use Rattle.std.specs.Prelude.{◌≡◌, ◌<◌, ◌↔◌, IsTrue, IfOk, OnOk, length};
+ghost use Rattle.number_graph.specs.Graphs.{AddsLinks};
+ghost use Rattle.lbnf_grammar.specs.Nullable.{AreNullableFlags};
+ghost use Rattle.lbnf_grammar.specs.StepLinks.{AreSteps, IsItemStep, IsRuleStep};
+ghost use Rattle.lbnf_grammar.specs.StepLinks.{full_count as full_items, own_count as own_items};
+
+use crate::grammar::Grammar;
+use crate::nullable::is_nullable;
+use number_graph::Links;
+use spec_grammar::{Rule, Symbol};
+use std::alloc::{AllocError, Global};
+
+/// 1 for a symbol that is not nullable, and else 0.
+fn own_count(flags: &[bool], symbol: Symbol) -> usize
+    ensures { result ≡ own_items flags.now symbol }
+{
+    if is_nullable(flags, symbol) { 0 } else { 1 }
+}
+
+/// How many of the items are not nullable.
+fn full_count(flags: &[bool], items: &[Symbol]) -> usize
+    ensures { result ≡ full_items flags.now items.now }
+{
+    let mut count = 0;
+    for item in items {
+        count += own_count(flags, *item);
+    }
+    count
+}
+
+/// Links the category to the item, if the item is a category, and each of the `full` items that are
+/// not nullable is this one.
+fn add_item(
+    links: &mut Links,
+    flags: &[bool],
+    category: u16,
+    full: usize,
+    item: Symbol,
+) -> Result<(), AllocError>
+    requires { category < length links.old }
+    ensures { OnOk result
+        (AddsLinks (IsItemStep flags.now category full item) links.old links.new) }
+{
+    let is_alone = full == own_count(flags, item);
+    match item {
+        Symbol::Category(b) => links.add_if(is_alone, category, b),
+        Symbol::Kind(_) => Ok(()),
+    }
+}
+
+/// Links the rule's category to each category among its items beside which all items are nullable.
+fn add_rule(links: &mut Links, flags: &[bool], rule: &Rule) -> Result<(), AllocError>
+    requires { rule.now.category < length links.old }
+    ensures { OnOk result (AddsLinks (IsRuleStep flags.now rule.now) links.old links.new) }
+{
+    let items = rule.items.as_slice();
+    let full = full_count(flags, items);
+    for item in items {
+        add_item(links, flags, rule.category, full, *item)?;
+    }
+    Ok(())
+}
+
+/// The steps between the categories, by the flags of the nullable ones. It looks at each item of
+/// the rules twice.
+pub fn category_steps(
+    alloc: Global,
+    grammar: &Grammar,
+    nullable: &[bool],
+) -> Result<Links, AllocError>
+    requires { AreNullableFlags grammar.now nullable.now }
+    ensures { IfOk result (AreSteps grammar.now) }
+{
+    let mut links = Links::new(alloc, nullable.len())?;
+    for rule in grammar.rules() {
+        add_rule(&mut links, nullable, rule)?;
+    }
+    Ok(links)
+}
