@@ -1,6 +1,7 @@
 //! Answers to questions about the spans of a text that is open.
 ghost use Rattle.std.specs.Prelude.{◌≡◌, ◌<◌, ◌≤◌, ◌↔◌, ℕ, List, length};
-ghost use Rattle.std.specs.Prelude.{IsTrue, IsErrOf, IfOk, IfErr, OnOk, OnErr, MatchOption};
+ghost use Rattle.std.specs.Prelude.{IsTrue, IsErrOf, IfOk, IfErr, IfSome, OnOk, OnErr, MatchOption};
+ghost use Rattle.spec_lbnf.specs.Expansion.{IsSymbolOf};
 ghost use Rattle.std.specs.Prelude.{string_bytes};
 ghost use Rattle.cyk_io.specs.Causes.{HasCause};
 ghost use Rattle.cyk_io.specs.Streams.{Grows, GrowsByPrefix};
@@ -28,14 +29,15 @@ pub(crate) enum Answer {
     /// No category has the name, or there is no entry.
     UnknownCategory,
     /// The span is none of the text's, which has so many tokens.
-    SpanOutside(usize),
+    SpanOutside(u32),
     Yes,
     No,
 }
 
 /// The symbol of the constituent, which is a category.
 fn symbol_of(grammar: &Grammar, constituent: &Constituent<'_>) -> Option<Symbol>
-    ensures { MatchOption result (HasCategory grammar.now (meant constituent.now) → ⊥)
+    ensures own { IfSome result (IsSymbolOf grammar.now) }
+    ensures found { MatchOption result (HasCategory grammar.now (meant constituent.now) → ⊥)
         (IsOfSymbol grammar.now (meant constituent.now)) }
 {
     match constituent {
@@ -47,7 +49,8 @@ fn symbol_of(grammar: &Grammar, constituent: &Constituent<'_>) -> Option<Symbol>
 
 /// The number of the constituent's category.
 fn category_of(grammar: &Grammar, constituent: &Constituent<'_>) -> Option<u16>
-    ensures { MatchOption result (HasCategory grammar.now (meant constituent.now) → ⊥)
+    ensures own { IfSome result (λ category. category < length grammar.now.categories) }
+    ensures found { MatchOption result (HasCategory grammar.now (meant constituent.now) → ⊥)
         (IsOfCategory grammar.now (meant constituent.now)) }
 {
     match symbol_of(grammar, constituent) {
@@ -59,7 +62,7 @@ fn category_of(grammar: &Grammar, constituent: &Constituent<'_>) -> Option<u16>
 
 /// Whether the category derives the span: a span that is not empty by its entry in the chart, an
 /// empty one where the category is nullable.
-fn is_derived(opened: &Opened, category: u16, first: usize, end: usize) -> bool
+fn is_derived(opened: &Opened, category: u16, first: u32, end: u32) -> bool
     requires own { category < length opened.now.language.grammar.categories }
     requires order { first ≤ end }
     requires within { end ≤ length opened.now.chart.kinds }
@@ -70,31 +73,31 @@ fn is_derived(opened: &Opened, category: u16, first: usize, end: usize) -> bool
 {
     let symbol = opened.language.binary.symbol_of(Symbol::Category(category));
     if first < end {
-        opened.chart.has(symbol, first as u32, end as u32)
+        opened.chart.has(symbol, first, end)
     } else {
         opened.language.binary.nullable(symbol)
     }
 }
 
 /// The place at which the constituent begins.
-fn first_of(constituent: &Constituent<'_>) -> usize
+fn first_of(constituent: &Constituent<'_>) -> u32
     ensures { result ≡ first_of (meant constituent.now) }
 {
     match constituent {
         Constituent::EntryWhole => 0,
         Constituent::CategoryWhole(_) => 0,
-        Constituent::CategorySpan { first, .. } => *first as usize,
+        Constituent::CategorySpan { first, .. } => *first,
     }
 }
 
 /// The place at which it ends, in a text of so many tokens.
-fn end_of(constituent: &Constituent<'_>, tokens: usize) -> usize
+fn end_of(constituent: &Constituent<'_>, tokens: u32) -> u32
     ensures { result ≡ end_of tokens (meant constituent.now) }
 {
     match constituent {
         Constituent::EntryWhole => tokens,
         Constituent::CategoryWhole(_) => tokens,
-        Constituent::CategorySpan { end, .. } => *end as usize,
+        Constituent::CategorySpan { end, .. } => *end,
     }
 }
 
@@ -107,7 +110,7 @@ pub(crate) fn answer_of(opened: &Opened, constituent: &Constituent<'_>) -> Answe
     let Some(category) = category_of(&opened.language.grammar, constituent) else {
         return Answer::UnknownCategory;
     };
-    let tokens = opened.chart.len() as usize;
+    let tokens = opened.chart.len();
     let first = first_of(constituent);
     let end = end_of(constituent, tokens);
     if end < first {

@@ -3,7 +3,6 @@ pub mod Nullable
 pub mod Ranks
 pub mod Numbering
 pub mod Tables
-pub mod Ranks
 pub mod Checking
 pub mod NullablePasses
 pub mod StepLinks

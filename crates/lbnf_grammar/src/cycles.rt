@@ -1,7 +1,7 @@
 //! Whether a category reaches itself.
 ghost use Rattle.std.specs.Prelude.{IfOk};
 ghost use Rattle.lbnf_grammar.specs.Nullable.{AreNullableFlags};
-ghost use Rattle.lbnf_grammar.specs.Ranks.{IsFirstCyclic};
+ghost use Rattle.lbnf_grammar.specs.Ranks.{FindsCyclic};
 
 use crate::grammar::Grammar;
 use crate::stepping::category_steps;
@@ -17,7 +17,7 @@ pub fn first_cyclic(
     nullable: &[bool],
 ) -> Result<Option<u16>, AllocError>
     requires { AreNullableFlags grammar.now nullable.now }
-    ensures { IfOk result (IsFirstCyclic grammar.now.rules) }
+    ensures { IfOk result (FindsCyclic grammar.now) }
 {
     let links = category_steps(alloc, grammar, nullable)?;
     for category in 0..grammar.category_count() {

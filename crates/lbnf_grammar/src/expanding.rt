@@ -8,10 +8,11 @@ ghost use Rattle.lbnf_grammar.specs.Checking.{PassesCycles};
 ghost use Rattle.lbnf_grammar.specs.Ranks.{IsLeastCyclic};
 
 use crate::checking::check;
+use crate::cycles::first_cyclic;
 use crate::fault::GrammarFault;
 use crate::grammar::Grammar;
+use crate::nullable::nullable_categories;
 use crate::numbering::numbered_rules;
-use crate::ranks::first_cyclic;
 use crate::tables::{Tables, tables_of};
 use crate::texts::copy_name;
 use lbnf_text::{Def, Defs};
@@ -56,7 +57,10 @@ fn cyclic(alloc: Global, grammar: &Grammar, category: u16) -> GrammarFault
 fn acyclic(alloc: Global, grammar: Grammar) -> Result<Grammar, GrammarFault>
     ensures { PassesCycles grammar result }
 {
-    match first_cyclic(alloc, &grammar) {
+    let Ok(nullable) = nullable_categories(alloc, &grammar) else {
+        return Err(GrammarFault::Memory);
+    };
+    match first_cyclic(alloc, &grammar, nullable.as_slice()) {
         Ok(None) => Ok(grammar),
         Ok(Some(category)) => Err(cyclic(alloc, &grammar, category)),
         Err(_) => Err(GrammarFault::Memory),

@@ -1,6 +1,7 @@
 //! A grammar with numbers in place of names.
-ghost use Rattle.std.specs.Prelude.{◌≡◌, ◌<◌, ◌^◌, length, slice_get, Contains, MatchOption};
-ghost use Rattle.spec_lbnf.specs.Expansion.{HasOwnSymbols, item_count};
+ghost use Rattle.std.specs.Prelude.{◌≡◌, ◌<◌, ◌^◌, length, slice_get, Contains, IfSome};
+ghost use Rattle.std.specs.Prelude.{MatchOption};
+ghost use Rattle.spec_lbnf.specs.Expansion.{HasOwnSymbols, IsSymbolOf, item_count};
 ghost use Rattle.lbnf_grammar.specs.Grammars.{FindsCategory, FindsEntry};
 
 use spec_grammar::{Rule, Symbol};
@@ -37,9 +38,7 @@ impl Model for Grammar {
 }
 
 impl Grammar {
-    /// A grammar of numbered rules that no file spells yet. It takes no memory, and is for tests
-    /// and measures; `of_rules` asks nothing of its caller.
-    pub fn of(rules: Vec<Rule>, categories: Vec<Name>, kinds: Vec<KindDef>) -> Grammar
+    pub(crate) fn of(rules: Vec<Rule>, categories: Vec<Name>, kinds: Vec<KindDef>) -> Grammar
         requires rules { length rules.items < 2 ^ 16 }
         requires categories { length categories.items < 2 ^ 16 }
         requires kinds { length kinds.items < 2 ^ 16 }
@@ -83,7 +82,8 @@ impl Grammar {
 
     /// The entry, which is the category of the first rule, and `None` where there is no rule.
     pub fn entry(&self) -> Option<Symbol>
-        ensures { FindsEntry self.now.rules result }
+        ensures entry { FindsEntry self.now.rules result }
+        ensures own { IfSome result (IsSymbolOf self.now) }
     {
         let rule = self.rules.first()?;
         Some(Symbol::Category(rule.category))
@@ -129,7 +129,8 @@ impl Grammar {
 
     /// The category of this text, and `None` where no category has it. It looks at each in turn.
     pub fn find(&self, text: &[u8]) -> Option<Symbol>
-        ensures { FindsCategory self.now.categories text.now result }
+        ensures found { FindsCategory self.now.categories text.now result }
+        ensures own { IfSome result (IsSymbolOf self.now) }
     {
         let place = place_of(self.categories.as_slice(), text)?;
         Some(Symbol::Category(place as u16))

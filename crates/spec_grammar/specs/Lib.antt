@@ -3,6 +3,5 @@ pub mod Derivation
 pub mod Cycles
 pub mod Laws
 pub mod Examples
-pub mod Cycles
 pub mod CycleLaws
 pub mod CycleExamples

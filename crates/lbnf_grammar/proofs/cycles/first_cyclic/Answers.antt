@@ -10,7 +10,8 @@ reaches_itself-requires-clause-within c =
 pub returns-then-branch : goal.returns-then-branch
 returns-then-branch c =
     let on = c.in_ok-reaches_itself.ensures.0 c.if-branch.true in
-    ((cyclic_number c.args.grammar.now c.in_ok-links.links c.in_ok-links.ensures c.loop-category.category).0 on, c.loop-category.invariant)
+    let cyclic = (cyclic_number c.args.grammar.now c.in_ok-links.links c.in_ok-links.ensures c.loop-category.category).0 on in
+    record { within = omega (arith, c.loop-category-test.true, c.category_count-category-end.ensures); cyclic = cyclic; earlier = c.loop-category.invariant }
 
 pub loop-category-preserved : goal.loop-category-preserved
 loop-category-preserved c =
