@@ -1,5 +1,5 @@
 //! Grammars and the line that each gets: its counts where it is accepted, or its refusal. A row has a
-//! name, the grammar's block, and the line. Last come grammars with texts and questions on their entry.
+//! name, the grammar's block, and the line. Last come grammars with texts and questions on them.
 
 pub(super) const ACCEPTED: &[(&str, &[u8], &[u8])] = &[
     (
@@ -371,105 +371,105 @@ pub(super) const ENTRIES: &[(&str, &[u8], &[u8], &[u8])] = &[
         "three words",
         b"A. S ::= \"a\" \"b\" \"c\" ;",
         b"open 3\nabc\nhas\nhas S\nhas S 0 2\nhas S 1 3\nhas S 0 0\nend\n",
-        b"grammar rules 1 categories 1 kinds 3\n \
+        b"grammar rules 1 categories 1 kinds 3\n\
           version 0 tokens 3\nyes\nyes\nno\nno\nno\nend\n",
     ),
     (
         "a chain of three categories",
         b"A. S ::= T ; B. T ::= U ; C. U ::= \"u\" ;",
         b"open 1\nu\nhas\nhas T\nhas U\nhas S 0 0\nhas U 1 1\nend\n",
-        b"grammar rules 3 categories 3 kinds 1\n \
+        b"grammar rules 3 categories 3 kinds 1\n\
           version 0 tokens 1\nyes\nyes\nyes\nno\nno\nend\n",
     ),
     (
         "a chain of three categories of which the last is empty",
         b"A. S ::= T ; B. T ::= U ; C. U ::= ;",
         b"open 1\n?\nhas\nhas U\nhas S 0 0\nhas T 1 1\nhas U 0 0\nend\n",
-        b"grammar rules 3 categories 3 kinds 0\n \
+        b"grammar rules 3 categories 3 kinds 0\n\
           version 0 tokens 1\nno\nno\nyes\nyes\nyes\nend\n",
     ),
     (
         "brackets two deep",
         b"W. S ::= \"(\" S \")\" ; E. S ::= ;",
         b"open 4\n(())\nhas\nhas S 1 3\nhas S 0 3\nhas S 2 2\nhas S 0 0\nhas S 4 4\nend\n",
-        b"grammar rules 2 categories 1 kinds 2\n \
+        b"grammar rules 2 categories 1 kinds 2\n\
           version 0 tokens 4\nyes\nyes\nno\nyes\nyes\nyes\nend\n",
     ),
     (
         "brackets eight deep",
         b"W. S ::= \"(\" S \")\" ; E. S ::= ;",
-        b"open 16\n(((((((())))))))\nhas\nhas S 1 15\nhas S 7 9\nhas S 8 8\n \
+        b"open 16\n(((((((())))))))\nhas\nhas S 1 15\nhas S 7 9\nhas S 8 8\n\
           has S 0 15\nhas S 1 16\nhas S 6 9\nend\n",
-        b"grammar rules 2 categories 1 kinds 2\n \
+        b"grammar rules 2 categories 1 kinds 2\n\
           version 0 tokens 16\nyes\nyes\nyes\nyes\nno\nno\nno\nend\n",
     ),
     (
         "brackets that are not closed",
         b"W. S ::= \"(\" S \")\" ; E. S ::= ;",
         b"open 3\n(()\nhas\nhas S 1 3\nhas S 0 2\nhas S 3 3\nend\n",
-        b"grammar rules 2 categories 1 kinds 2\n \
+        b"grammar rules 2 categories 1 kinds 2\n\
           version 0 tokens 3\nno\nyes\nno\nyes\nend\n",
     ),
     (
         "brackets side by side",
         b"W. S ::= \"(\" S \")\" ; E. S ::= ;",
         b"open 4\n()()\nhas\nhas S 0 2\nhas S 2 4\nhas S 1 3\nend\n",
-        b"grammar rules 2 categories 1 kinds 2\n \
+        b"grammar rules 2 categories 1 kinds 2\n\
           version 0 tokens 4\nno\nyes\nyes\nno\nend\n",
     ),
     (
         "brackets over an empty text",
         b"W. S ::= \"(\" S \")\" ; E. S ::= ;",
         b"open 0\n\nhas\nhas S\nhas S 0 0\nhas S 0 1\nend\n",
-        b"grammar rules 2 categories 1 kinds 2\n \
+        b"grammar rules 2 categories 1 kinds 2\n\
           version 0 tokens 0\nyes\nyes\nyes\nrefused span 0\nend\n",
     ),
     (
         "two categories that derive the empty span",
         b"Pair. S ::= A B ; NoA. A ::= ; NoB. B ::= ; OneA. A ::= \"a\" ;",
-        b"open 1\na\nhas S 0 0\nhas B\nhas S 0 2\nhas T 0 0\nhas S\nhas S 1 1\n \
+        b"open 1\na\nhas S 0 0\nhas B\nhas S 0 2\nhas T 0 0\nhas S\nhas S 1 1\n\
           has\nhas A\nhas A 0 0\nhas B 1 1\nhas B 0 1\nend\n",
-        b"grammar rules 4 categories 3 kinds 1\n \
-          version 0 tokens 1\nyes\nno\nrefused span 1\n \
+        b"grammar rules 4 categories 3 kinds 1\n\
+          version 0 tokens 1\nyes\nno\nrefused span 1\n\
           refused category\nyes\nyes\nyes\nyes\nyes\nyes\nno\nend\n",
     ),
     (
         "two categories that derive the empty span, over an empty text",
         b"Pair. S ::= A B ; NoA. A ::= ; NoB. B ::= ; OneA. A ::= \"a\" ;",
         b"open 0\n\nhas\nhas S\nhas A\nhas B\nhas T\nhas S 0 0\nhas B 0 0\nhas S 0 1\nend\n",
-        b"grammar rules 4 categories 3 kinds 1\n \
-          version 0 tokens 0\nyes\nyes\nyes\nyes\nrefused category\n \
+        b"grammar rules 4 categories 3 kinds 1\n\
+          version 0 tokens 0\nyes\nyes\nyes\nyes\nrefused category\n\
           yes\nyes\nrefused span 0\nend\n",
     ),
     (
         "an empty span beside a stray token",
         b"Pair. S ::= A B ; NoA. A ::= ; NoB. B ::= ; OneA. A ::= \"a\" ;",
         b"open 3\na?a\nhas\nhas S 0 1\nhas S 1 2\nhas S 1 1\nhas S 2 3\nhas S 3 3\nend\n",
-        b"grammar rules 4 categories 3 kinds 1\n \
+        b"grammar rules 4 categories 3 kinds 1\n\
           version 0 tokens 3\nno\nyes\nno\nyes\nyes\nyes\nend\n",
     ),
     (
         "a span in each wrong way",
         b"Pair. S ::= A B ; NoA. A ::= ; NoB. B ::= ; OneA. A ::= \"a\" ;",
         b"open 1\na\nhas S 1 0\nhas S 0 2\nhas S 2 2\nhas S 2 1\nhas S 3 2\nhas T 2 1\nend\n",
-        b"grammar rules 4 categories 3 kinds 1\n \
-          version 0 tokens 1\nrefused span 1\nrefused span 1\n \
+        b"grammar rules 4 categories 3 kinds 1\n\
+          version 0 tokens 1\nrefused span 1\nrefused span 1\n\
           refused span 1\nrefused span 1\nrefused span 1\nrefused category\nend\n",
     ),
     (
         "statements in statements",
         b"If. Stm ::= \"if\" Exp Stm \"else\" Stm ; Skip. Stm ::= ; Var. Exp ::= \"x\" ;",
-        b"open 19\nif x if x else else\nhas\nhas Stm 2 5\nhas Stm 2 6\nhas Stm 4 4\n \
+        b"open 19\nif x if x else else\nhas\nhas Stm 2 5\nhas Stm 2 6\nhas Stm 4 4\n\
           has Stm 0 5\nhas Exp 1 2\nhas Exp 1 1\nend\n",
-        b"grammar rules 3 categories 2 kinds 3\n \
+        b"grammar rules 3 categories 2 kinds 3\n\
           version 0 tokens 6\nyes\nyes\nno\nyes\nno\nyes\nno\nend\n",
     ),
     (
         "a grammar without rules has no empty span",
         b"",
         b"open 1\na\nhas S 0 0\nhas S 1 1\nhas\nend\n",
-        b"grammar rules 0 categories 0 kinds 0\n \
-          version 0 tokens 1\nrefused category\n \
+        b"grammar rules 0 categories 0 kinds 0\n\
+          version 0 tokens 1\nrefused category\n\
           refused category\nrefused category\nend\n",
     ),
 ];
