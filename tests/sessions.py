@@ -101,7 +101,7 @@ for name, more in [
     ('a grammar that is told one byte too long', b'grammar 34\n' + G + b'\nopen 3\na a\nend\n'),
     ('CR before the LF of the grammar', b'grammar 33\n' + G + b'\r\nopen 3\na a\nend\n'),
     ('an empty grammar without its LF', b'grammar 0\n'),
-    ('a bad grammar without its LF', b'grammar 9\nA. S ::= '),
+    ('a bad grammar without its LF', b'grammar 10\nA. S ::= s'),
 ]:
     case(name, H + more, broken(9), 3)
 
@@ -221,6 +221,8 @@ for name, more, wanted in [
     ('an empty span behind the text', b'has S 3 3\n' + END, b'refused span 2\n'),
     ('a span that runs backwards', b'has S 1 0\n' + END, b'refused span 2\n'),
     ('a span that runs backwards behind the text', b'has S 9 8\n' + END, b'refused span 2\n'),
+    ('a span that runs backwards from behind the text', b'has S 3 2\n' + END, b'refused span 2\n'),
+    ('a span that ends behind the text', b'has S 1 3\n' + END, b'refused span 2\n'),
     ('an unknown category with a bad span', b'has T 1 0\n' + END, b'refused category\n'),
     ('a number of nine digits', b'has S 0 999999999\n' + END, b'refused span 2\n'),
     ('two numbers of nine digits', b'has S 999999999 999999999\n' + END, b'refused span 2\n'),
@@ -253,6 +255,7 @@ for name, text, tokens, questions, answers in [
     ('the whole of a text of one token', b'a', 1, b'has\nhas S\n', b'yes\nyes\n'),
     ('the whole of a text with a stray byte', b'a?a', 3, b'has\nhas S\n', b'no\nno\n'),
     ('a text of one LF', b'\n', 0, b'has S 0 0\n', b'no\n'),
+    ('each empty span of a text', b'aa', 2, b'has S 0 0\nhas S 1 1\nhas S 2 2\nhas S 3 3\n', b'no\nno\nno\nrefused span 2\n'),
     ('a text of each white byte', b' \t\n\r\x0b\x0c', 0, b'', b''),
     ('words side by side', b'aaa', 3, b'has S 0 3\n', b'yes\n'),
     ('words on lines', b'a\r\na\n', 2, b'has S 0 2\n', b'yes\n'),
@@ -310,6 +313,71 @@ case('an empty grammar', with_grammar(b'', open_text(b'a a') + b'has S 0 2\n' + 
 case('a grammar of 65,536 bytes', with_grammar(G + b' ' * 65503, open_text(b'a a') + b'has S 0 2\n' + END),
      RULES + TEXT + b'yes\nend\n', 0)
 
+# ---- Right sides of any length, with texts and questions. The counts are those of rules, categories, kinds and tokens.
+
+BRACKETS = b'W. S ::= "(" S ")" ; E. S ::= ;'
+PAIR = b'Pair. S ::= A B ; NoA. A ::= ; NoB. B ::= ; OneA. A ::= "a" ;'
+assert (len(BRACKETS), len(PAIR)) == (31, 61)
+LADDER = b'A. S ::= T ; B. T ::= U ; C. U ::= "u" ;'
+BOTH = b'A. S ::= S "[" S "]" ; B. S ::= ;'
+STATEMENTS = b'If. Stm ::= "if" Exp Stm "else" Stm ; Skip. Stm ::= ; Var. Exp ::= "x" ;'
+for name, grammar, counted, text, tokens, questions, answers in [
+    ('three words', b'A. S ::= "a" "b" "c" ;', (1, 1, 3), b'abc', 3,
+     b'has\nhas S\nhas S 0 2\nhas S 1 3\nhas S 0 0\n', b'yes\nyes\nno\nno\nno\n'),
+    ('three words in another order', b'A. S ::= "a" "b" "c" ;', (1, 1, 3), b'acb', 3, b'has\n', b'no\n'),
+    ('a word three times', b'A. S ::= "a" "a" "a" ;', (1, 1, 1), b'aaaa', 4,
+     b'has\nhas S 0 3\nhas S 1 4\nhas S 1 3\n', b'no\nyes\nyes\nno\n'),
+    ('three categories', b'A. S ::= S S S ; B. S ::= "a" ;', (2, 1, 1), b'aaaaa', 5,
+     b'has\nhas S 0 4\nhas S 1 4\nhas S 3 5\nhas S 4 5\nhas S 2 2\n', b'yes\nno\nyes\nno\nyes\nno\n'),
+    ('a category and a word', b'A. S ::= S "b" ; B. S ::= "a" ;', (2, 1, 2), b'abb', 3,
+     b'has\nhas S 0 1\nhas S 0 2\nhas S 1 3\n', b'yes\nyes\nyes\nno\n'),
+    ('a word and a category', b'A. S ::= "b" S ; B. S ::= "a" ;', (2, 1, 2), b'bba', 3,
+     b'has\nhas S 2 3\nhas S 1 3\nhas S 0 2\n', b'yes\nyes\nyes\nno\n'),
+    ('an empty right side alone', b'A. S ::= ;', (1, 1, 0), b'', 0, b'has\nhas S\nhas S 0 0\nhas T\n', b'yes\nyes\nyes\nrefused category\n'),
+    ('an empty right side alone, over a stray token', b'A. S ::= ;', (1, 1, 0), b'a', 1,
+     b'has\nhas S 0 0\nhas S 1 1\nhas S 2 2\n', b'no\nyes\nyes\nrefused span 1\n'),
+    ('a chain of three categories', LADDER, (3, 3, 1), b'u', 1,
+     b'has\nhas S\nhas T\nhas U\nhas S 0 0\nhas U 1 1\n', b'yes\nyes\nyes\nyes\nno\nno\n'),
+    ('a chain of three categories, over two tokens', LADDER, (3, 3, 1), b'uu', 2,
+     b'has\nhas S 0 1\nhas T 1 2\nhas U 0 2\n', b'no\nyes\nyes\nno\n'),
+    ('a chain of three categories of which the last is empty', b'A. S ::= T ; B. T ::= U ; C. U ::= ;', (3, 3, 0), b'?', 1,
+     b'has\nhas U\nhas S 0 0\nhas T 1 1\nhas U 0 0\n', b'no\nno\nyes\nyes\nyes\n'),
+    ('brackets two deep', BRACKETS, (2, 1, 2), b'(())', 4,
+     b'has\nhas S 1 3\nhas S 0 3\nhas S 2 2\nhas S 0 0\nhas S 4 4\n', b'yes\nyes\nno\nyes\nyes\nyes\n'),
+    ('brackets 64 deep', BRACKETS, (2, 1, 2), b'(' * 64 + b')' * 64, 128,
+     b'has\nhas S 1 127\nhas S 63 65\nhas S 64 64\nhas S 0 127\nhas S 1 128\nhas S 62 65\n', b'yes\nyes\nyes\nyes\nno\nno\nno\n'),
+    ('brackets of which one is not closed', BRACKETS, (2, 1, 2), b'(()', 3,
+     b'has\nhas S 1 3\nhas S 0 2\nhas S 3 3\n', b'no\nyes\nno\nyes\n'),
+    ('brackets of which one is not opened', BRACKETS, (2, 1, 2), b'())', 3, b'has\nhas S 0 2\nhas S 1 3\n', b'no\nyes\nno\n'),
+    ('brackets side by side', BRACKETS, (2, 1, 2), b'()()', 4, b'has\nhas S 0 2\nhas S 2 4\nhas S 1 3\n', b'no\nyes\nyes\nno\n'),
+    ('brackets over an empty text', BRACKETS, (2, 1, 2), b'', 0,
+     b'has\nhas S\nhas S 0 0\nhas S 0 1\n', b'yes\nyes\nyes\nrefused span 0\n'),
+    ('brackets side by side and nested', BOTH, (2, 1, 2), b'[][[]]', 6,
+     b'has\nhas S 0 2\nhas S 2 6\nhas S 3 5\nhas S 1 3\nhas S 0 3\nhas S 3 3\n', b'yes\nyes\nyes\nyes\nno\nno\nyes\n'),
+    ('statements in statements', STATEMENTS, (3, 2, 3), b'if x if x else else', 6,
+     b'has\nhas Stm 2 5\nhas Stm 2 6\nhas Stm 4 4\nhas Stm 0 5\nhas Exp 1 2\nhas Exp 1 1\n', b'yes\nyes\nno\nyes\nno\nyes\nno\n'),
+    ('two categories that derive the empty span', PAIR, (4, 3, 1), b'a', 1,
+     b'has S 0 0\nhas B\nhas S 0 2\nhas T 0 0\nhas S\nhas S 1 1\n', b'yes\nno\nrefused span 1\nrefused category\nyes\nyes\n'),
+    ('each span of two categories that derive the empty span', PAIR, (4, 3, 1), b'a', 1,
+     b'has\nhas A\nhas A 0 0\nhas A 1 1\nhas B 0 0\nhas B 0 1\nhas B 1 1\n', b'yes\nyes\nyes\nyes\nyes\nno\nyes\n'),
+    ('two categories that derive the empty span, over an empty text', PAIR, (4, 3, 1), b'', 0,
+     b'has\nhas S\nhas A\nhas B\nhas T\nhas S 0 0\nhas B 0 0\nhas S 0 1\n',
+     b'yes\nyes\nyes\nyes\nrefused category\nyes\nyes\nrefused span 0\n'),
+    ('an empty span beside a stray token', PAIR, (4, 3, 1), b'a?a', 3,
+     b'has\nhas S 0 1\nhas S 1 2\nhas S 1 1\nhas S 2 3\nhas S 3 3\n', b'no\nyes\nno\nyes\nyes\nyes\n'),
+    ('a span in each wrong way', PAIR, (4, 3, 1), b'a', 1,
+     b'has S 1 0\nhas S 0 2\nhas S 1 2\nhas S 2 2\nhas S 2 1\nhas S 2 0\nhas S 3 2\n', b'refused span 1\n' * 7),
+    ('a span in each wrong way, of an unknown category', PAIR, (4, 3, 1), b'a', 1,
+     b'has T 1 0\nhas T 0 2\nhas T 1 2\nhas T 2 2\nhas T 2 1\nhas T 2 0\nhas T 3 2\n', b'refused category\n' * 7),
+    ('a category beside one that does not derive the empty span', b'A. S ::= T S ; B. T ::= "t" ; C. S ::= ;', (3, 2, 1), b'tt', 2,
+     b'has\nhas T\nhas S 1 2\nhas S 1 1\nhas T 1 1\n', b'yes\nno\nyes\nyes\nno\n'),
+    ('a grammar without a rule', b'', (0, 0, 0), b'a', 1,
+     b'has\nhas S\nhas S 0 0\nhas S 0 1\nhas S 1 0\n', b'refused category\n' * 5),
+    ('a grammar without a rule, over an empty text', b' ;; ', (0, 0, 0), b'', 0, b'has\nhas S\nhas S 0 0\n', b'refused category\n' * 3),
+]:
+    case('any length: ' + name, with_grammar(grammar, open_text(text) + questions + END),
+         counts(*counted) + version(tokens) + answers + b'end\n', 0)
+
 # ---- Grammars that are accepted: with an empty text and the end behind them.
 
 N64 = b'A' * 64
@@ -335,6 +403,25 @@ for name, grammar, wanted in [
     ('a rule that stands twice', b'A. S ::= "a" ; A. S ::= "a" ;', counts(2, 1, 1)),
     ('categories that are first named among items', b'P. S ::= A B ; Q. A ::= "x" ; R. B ::= "y" ;', counts(3, 3, 2)),
     ('a category that only a later rule has', b'P. S ::= T T ; Q. T ::= "x" ;', counts(2, 2, 1)),
+    ('an empty right side', b'A. S ::= ;', counts(1, 1, 0)),
+    ('an empty right side at the end of the block', b'A.S::=', counts(1, 1, 0)),
+    ('a right side of three categories', b'A. S ::= S S S ;', counts(1, 1, 0)),
+    ('a right side of two words', b'A. S ::= "a" "b" ;', counts(1, 1, 2)),
+    ('a right side of three words', b'A. S ::= "a" "b" "c" ;', counts(1, 1, 3)),
+    ('three words without a white byte, the first again', b'A.S::="a""b""a"', counts(1, 1, 2)),
+    ('a category and a word', b'A. S ::= S "b" ;', counts(1, 1, 1)),
+    ('a word and a category', b'A. S ::= "b" S ;', counts(1, 1, 1)),
+    ('words and categories without a white byte', b'A.S::="a"S"b"S;B.S::="x""y"', counts(2, 1, 4)),
+    ('a chain of three categories', LADDER, counts(3, 3, 1)),
+    ('a category beside itself that does not derive the empty span', b'Two. A ::= A A ;', counts(1, 1, 0)),
+    ('a category beside a word and an empty one', b'A. S ::= N S "x" ; B. S ::= "s" ; C. N ::= ;', counts(3, 2, 2)),
+    ('a category beside one that does not derive the empty span', b'A. S ::= T S ; B. T ::= "t" ; C. S ::= ;', counts(3, 2, 1)),
+    ('two categories that derive the empty span', PAIR, counts(4, 3, 1)),
+    ('brackets of any depth', BRACKETS, counts(2, 1, 2)),
+    ('2,048 symbols of one rule', b'A. S ::= ' + b'S ' * 2047 + b';', counts(1, 1, 0)),
+    ('2,048 symbols, one of them a kind', b'A. S ::= ' + b'"a" ' * 2046 + b';', counts(1, 1, 1)),
+    ('2,048 symbols of many rules', b'A. S ::= "a" S ;' * 1023, counts(1023, 1, 1)),
+    ('2,047 symbols, 1,023 of them kinds', b'A. S ::= ' + b''.join(b'"%d" ' % k for k in range(1023)) + b';', counts(1, 1, 1023)),
     ('1,024 pieces', b'A. S ::= "a" ;' * 1024, counts(1024, 1, 1)),
     ('1,024 pieces and white ones', b' ;' + b'A. S ::= "a" ;' * 1024 + b'; ;', counts(1024, 1, 1)),
 ]:
@@ -351,14 +438,15 @@ def unknown(name, number):
     return b'grammar refused category ' + name + b' ' + str(number).encode() + b'\n'
 
 
+def cyclic(name):
+    return b'grammar refused cyclic ' + name + b'\n'
+
+
+def symbols(number):
+    return b'grammar refused symbols ' + str(number).encode() + b'\n'
+
+
 for name, grammar, wanted in [
-    ('a right side of one category', b'A. S ::= "a" ; B. S ::= S ;', unbuilt(1)),
-    ('an empty right side', b'A. S ::= ;', unbuilt(0)),
-    ('a right side of three categories', b'A. S ::= S S S ;', unbuilt(0)),
-    ('a right side of two words', b'A. S ::= "a" "b" ;', unbuilt(0)),
-    ('a category and a word', b'A. S ::= S "b" ;', unbuilt(0)),
-    ('a word and a category', b'A. S ::= "b" S ;', unbuilt(0)),
-    ('two categories without a white byte', b'A. S ::= "a" ; P. S ::= SS ;', unbuilt(1)),
     ('a label of 65 bytes', N65 + b'. S ::= "a" ;', unbuilt(0)),
     ('a category of 65 bytes', b'One. ' + N65 + b' ::= "a" ;', unbuilt(0)),
     ('an item of 65 bytes', b'P. S ::= S ' + N65 + b' ;', unbuilt(0)),
@@ -393,24 +481,56 @@ for name, grammar, wanted in [
     ('a line comment', b'-- one rule\nA. S ::= "a" ;', unbuilt(0)),
     ('a terminator', b'A. S ::= "a" ; terminator S "," ;', unbuilt(1)),
     ('coercions', b'coercions Exp 2 ;', unbuilt(0)),
-    ('white pieces are not counted', b' ; ;; A. S ::= "a" ; \n; B. S ::= S ;', unbuilt(1)),
-    ('the first of two pieces that are not built', b'A. S ::= "a" ; B. S ::= ; C. S ::= S ;', unbuilt(1)),
+    ('white pieces are not counted', b' ; ;; A. S ::= "a" ; \n; B. S ::= s ;', unbuilt(1)),
+    ('the first of two pieces that are not built', b'A. S ::= "a" ; B. S ::= s ; C. S ::= t ;', unbuilt(1)),
     ('1,025 pieces', b'A. S ::= "a" ;' * 1025, unbuilt(1024)),
     ('1,030 pieces', b'A. S ::= "a" ;' * 1030, unbuilt(1024)),
-    ('1,025 pieces, the fourth not built', b'A. S ::= "a" ;' * 3 + b'B. S ::= ;' + b'A. S ::= "a" ;' * 1021, unbuilt(3)),
-    ('1,025 pieces, the last not built', b'A. S ::= "a" ;' * 1024 + b'B. S ::= ;', unbuilt(1024)),
+    ('1,025 pieces, the fourth not built', b'A. S ::= "a" ;' * 3 + b'B. S ::= s ;' + b'A. S ::= "a" ;' * 1021, unbuilt(3)),
+    ('1,025 pieces, the last not built', b'A. S ::= "a" ;' * 1024 + b'B. S ::= s ;', unbuilt(1024)),
+    ('1,025 pieces, the last with an empty right side', b'A. S ::= "a" ;' * 1024 + b'B. S ::= ;', unbuilt(1024)),
+    ('two categories without a white byte are one', b'A. S ::= "a" ; P. S ::= SS ;', unknown(b'SS', 1)),
     ('an unknown category', b'A. S ::= S T ;', unknown(b'T', 0)),
     ('an unknown category on the left', b'A. S ::= "a" ; B. S ::= T S ;', unknown(b'T', 1)),
     ('the leftmost of two unknown categories', b'A. S ::= U T ;', unknown(b'U', 0)),
     ('the first definition that names an unknown category', b'A. S ::= S U ; B. S ::= T S ;', unknown(b'U', 0)),
     ('a category in other case is unknown', b'A. Exp ::= "a" ; B. Exp ::= Exp EXP ;', unknown(b'EXP', 1)),
     ('a label is no category', b'One. S ::= "a" ; P. S ::= S One ;', unknown(b'One', 1)),
-    ('a definition that is not built stands before an unknown category', b'A. S ::= T T ; B. S ::= ;', unbuilt(1)),
+    ('a definition that is not built stands before an unknown category', b'A. S ::= T T ; B. S ::= s ;', unbuilt(1)),
+    ('a definition that is not built stands before a cycle', b'A. S ::= S ; B. S ::= s ;', unbuilt(1)),
     ('an unknown category of 64 bytes', b'P. S ::= S ' + N64 + b' ;', unknown(N64, 0)),
+    ('an unknown category behind an empty right side', b'A. S ::= ; B. S ::= "a" S T ;', unknown(b'T', 1)),
+    ('an unknown category behind a cycle', b'A. S ::= S ; B. S ::= "a" T ;', unknown(b'T', 1)),
+    ('an unknown category that is a right side', b'A. S ::= T ;', unknown(b'T', 0)),
+    ('an unknown category behind many items', b'A. S ::= ' + b'S ' * 2048 + b'T ;', unknown(b'T', 0)),
+    ('a category that is its own right side', b'A. S ::= S ;', cyclic(b'S')),
+    ('a category that is its own right side, and has a word', b'A. S ::= "a" ; B. S ::= S ;', cyclic(b'S')),
+    ('a category that is its own right side, and an empty one', b'A. S ::= "a" ; B. S ::= S ; C. S ::= ;', cyclic(b'S')),
+    ('a category of 64 bytes that is its own right side', b'A. ' + N64 + b' ::= ' + N64 + b' ;', cyclic(N64)),
+    ('a category beside itself that derives the empty span', b'Two. A ::= A A ; Nil. A ::= ;', cyclic(b'A')),
+    ('a category three times that derives the empty span', b'A. S ::= S S S ; B. S ::= ;', cyclic(b'S')),
+    ('a category between two that derive the empty span', b'A. S ::= N S N ; B. S ::= "s" ; C. N ::= ;', cyclic(b'S')),
+    ('a category beside one that a later rule makes empty', b'A. S ::= T S ; B. T ::= "t" ; C. T ::= ;', cyclic(b'S')),
+    ('a category beside one that is empty by two others', b'A. S ::= P S ; B. P ::= Q R ; C. Q ::= ; D. R ::= ; E. S ::= "s" ;', cyclic(b'S')),
+    ('a cycle over two categories', b'A. S ::= T ; B. T ::= S ; C. T ::= "t" ;', cyclic(b'S')),
+    ('a cycle over two categories by an empty span', b'A. S ::= T T ; B. T ::= S ; C. T ::= ;', cyclic(b'S')),
+    ('a category that leads to a cycle and is not on it', b'A. S ::= T ; B. T ::= U ; C. U ::= T ;', cyclic(b'T')),
+    ('a category that has a word before a cycle', b'A. S ::= "s" T ; B. T ::= U ; C. U ::= T ;', cyclic(b'T')),
+    ('a cycle over three categories', b'A. S ::= T ; B. T ::= U ; C. U ::= S ; D. U ::= "u" ;', cyclic(b'S')),
+    ('the least number of three, whose rule is not the first', b'A. S ::= U ; B. T ::= U ; C. U ::= V ; D. V ::= T ;', cyclic(b'U')),
+    ('the lesser of two cycles', b'A. S ::= "a" ; B. T ::= T ; C. U ::= U ;', cyclic(b'T')),
+    ('the lesser of two cycles, whose rule is the later', b'A. S ::= "s" U T ; B. T ::= T ; C. U ::= U ;', cyclic(b'U')),
+    ('a cycle of the last of many rules', b'A. S ::= "a" ;' * 1023 + b'B. S ::= S ;', cyclic(b'S')),
+    ('a cycle with 2,049 symbols', b'A. S ::= ' + b'S ' * 2048 + b'; B. S ::= ;', cyclic(b'S')),
+    ('2,049 symbols of one rule', b'A. S ::= ' + b'S ' * 2048 + b';', symbols(2049)),
+    ('2,049 symbols, one of them a kind', b'A. S ::= ' + b'"a" ' * 2047 + b';', symbols(2049)),
+    ('2,049 symbols, 1,024 of them kinds', b'A. S ::= ' + b''.join(b'"%d" ' % k for k in range(1024)) + b';', symbols(2049)),
+    ('2,050 symbols of many rules', b'A. S ::= "a" S ;' * 1024, symbols(2050)),
 ]:
     case('refused: ' + name, with_grammar(grammar, b'open 0\n\nend\n'), wanted, 2)
 
-case('refused: the input ends behind the grammar', with_grammar(b'A. S ::= ;', b''), unbuilt(0), 2)
+case('refused: the input ends behind the grammar', with_grammar(b'A. S ::= s ;', b''), unbuilt(0), 2)
+case('refused: the input ends behind a cyclic grammar', with_grammar(b'A. S ::= S ;', b''), cyclic(b'S'), 2)
+case('refused: a break behind a cyclic grammar has no effect', with_grammar(b'A. S ::= S ;', b'hass S\n'), cyclic(b'S'), 2)
 case('refused: a break behind the grammar has no effect', with_grammar(b'A. S ::= S T ;', b'hass S\n'), unknown(b'T', 0), 2)
 
 

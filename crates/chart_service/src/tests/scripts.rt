@@ -135,7 +135,7 @@ pub(super) const BROKEN_BEFORE_A_GRAMMAR: &[(&str, &[u8], &[u8])] = &[
     ),
     (
         "a bad grammar without its LF",
-        b"script 1\ngrammar 9\nA. S ::= ",
+        b"script 1\ngrammar 10\nA. S ::= s",
         b"script refused 9\n",
     ),
 ];
@@ -403,6 +403,16 @@ pub(super) const ANSWERED: &[(&str, &[u8], &[u8])] = &[
         b"refused span 2\nend\n",
     ),
     (
+        "a span that runs backwards from behind the text",
+        b"has S 3 2\nend\n",
+        b"refused span 2\nend\n",
+    ),
+    (
+        "a span that ends behind the text",
+        b"has S 0 3\nend\n",
+        b"refused span 2\nend\n",
+    ),
+    (
         "an unknown category with a bad span",
         b"has T 1 0\nend\n",
         b"refused category\nend\n",
@@ -454,6 +464,11 @@ pub(super) const TEXTS: &[(&str, &[u8], &[u8])] = &[
         "a text of one LF",
         b"open 1\n\n\nhas\nhas S 0 0\nend\n",
         b"version 0 tokens 0\nno\nno\nend\n",
+    ),
+    (
+        "each empty span of a text",
+        b"open 2\naa\nhas S 0 0\nhas S 1 1\nhas S 2 2\nhas S 3 3\nend\n",
+        b"version 0 tokens 2\nno\nno\nno\nrefused span 2\nend\n",
     ),
     (
         "a text of each white byte",
