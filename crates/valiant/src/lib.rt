@@ -7,3 +7,6 @@ mod rows;
 mod spans;
 
 pub use chart::Chart;
+
+#[cfg(test)]
+mod tests;
