@@ -87,7 +87,7 @@ impl<C: Cell> Chart<C> {
         ensures { IsTrue result ↔ Contains (entry self.now.entries i j) symbol }
     {
         match &self.spans {
-            Some(spans) => has_at(spans, symbol, i, j),
+            Some(spans) => spans.has(symbol, i, j),
             None => false,
         }
     }
@@ -102,17 +102,5 @@ impl<C: Cell> Chart<C> {
             }),
             None => Ok(Chart::leaf()),
         }
-    }
-}
-
-fn has_at<C: Cell>(spans: &Spans<C>, symbol: u16, i: u32, j: u32) -> bool
-    requires room { symbol < C.ROOM }
-    requires order { i < j }
-    requires within { j ≤ length spans.now.kinds }
-    ensures { IsTrue result ↔ Contains (entry spans.now.entries i j) symbol }
-{
-    match spans.cell(i, j) {
-        Some(cell) => cell.has(symbol),
-        None => false,
     }
 }
