@@ -1,5 +1,5 @@
 -- What the cuts of a span give, and that this is what derives it.
-use Rattle.std.proofs.Common.{◌≡◌, ℕ, zero, suc, ◌+◌, ◌-◌, ◌<◌, ◌≤◌, ◌⊎◌, ◌↔◌, List, [], ◌∷◌, Option, Some, None, length, slice_get, get_or, drop, length-drop, refl, sym, ◌∙◌, ap, subst, inl, inr, arith, Contains}
+use Rattle.std.proofs.Common.{◌≡◌, ℕ, suc, ◌+◌, ◌<◌, ◌⊎◌, List, [], Option, Some, None, length, slice_get, get_or, drop, length-drop, refl, sym, ◌∙◌, ap, subst, inl, inr, arith, Contains}
 use Rattle.std.proofs.lemmas.Option.{slice_get-get_or}
 use Rattle.spec_grammar.specs.declared.rule.Symbol.{Symbol}
 use Rattle.spec_grammar.specs.declared.rule.Symbol.TheVariants.{Kind}
@@ -9,9 +9,9 @@ use Rattle.spec_grammar.specs.Derivation.{AreParseTrees}
 use Rattle.spec_lbnf.specs.Expansion.{Expansion, IsSymbolOf, HasOwnSymbols}
 use Rattle.cell_sets.specs.Cells.{IsUnion}
 use Rattle.binary_form.specs.Symbols.{BinarySymbol, plain, suffix, BinaryDerives, IsBinarySymbolOf, number_of}
-use Rattle.binary_form.specs.UnitSteps.{HasItem, UnitStep, whole_side, last_item, passed_item, Reaches, stay, step, IsInProduct}
-use Rattle.binary_form.specs.BinaryForm.{IsNumberOf, IsReachedNumber, IsTokenCell, IsProductNumber, IsProductOf, HasProduct}
-use Rattle.binary_form.specs.Laws.{HasSymbol, IsOfToken, IsOfCut}
+use Rattle.binary_form.specs.UnitSteps.{UnitStep, whole_side, last_item, passed_item, Reaches, stay, step, IsInProduct}
+use Rattle.binary_form.specs.BinaryForm.{IsNumberOf, IsTokenCell, IsProductNumber, IsProductOf}
+use Rattle.binary_form.specs.Laws.{HasSymbol}
 use Rattle.binary_form.proofs.ItemLemmas.{item_symbol}
 use Rattle.binary_form.proofs.NumberLemmas.{number_is_one}
 use Rattle.binary_form.proofs.ReachLemmas.{step_symbol}

@@ -1,15 +1,15 @@
 -- Rows that are filled: each step keeps what they have, and all cuts of a span are those at a row's entries.
-use Rattle.std.proofs.Common.{◌≡◌, ℕ, zero, suc, ◌+◌, ◌-◌, ◌<◌, ◌≤◌, ◌≢◌, ◌⊎◌, ◌↔◌, List, [], ◌∷◌, ◌++◌, Option, Some, None, length, slice_get, get_or, refl, sym, ◌∙◌, ap, subst, inl, inr, arith, Contains}
+use Rattle.std.proofs.Common.{◌≡◌, ℕ, ◌+◌, ◌-◌, ◌<◌, ◌≤◌, ◌≢◌, ◌⊎◌, List, [], ◌∷◌, ◌++◌, Option, Some, length, slice_get, get_or, refl, sym, subst, inl, inr, arith, Contains}
 use Rattle.std.proofs.lemmas.Option.{slice_get_within, get_or_from_slice_get, slice_get-get_or, slice_get_read}
 use Rattle.std.proofs.lemmas.List.{get_or_read}
 use Rattle.spec_lbnf.specs.Expansion.{Expansion, HasOwnSymbols}
-use Rattle.binary_form.specs.Symbols.{BinarySymbol, BinaryDerives, IsBinarySymbolOf, number_of}
+use Rattle.binary_form.specs.Symbols.{BinarySymbol, BinaryDerives}
 use Rattle.binary_form.specs.BinaryForm.{IsNumberOf, IsProductNumber}
 use Rattle.binary_form.proofs.BuildLemmas.{each_pushed}
 use Rattle.binary_form.proofs.ClosureLemmas.{closure_is_derivation}
 use Rattle.valiant.specs.declared.rows.Entry.{Entry}
 use Rattle.valiant.specs.Charts.{IsEntryOf}
-use Rattle.valiant.specs.Rows.{found, found_at, HasRisingEnds}
+use Rattle.valiant.specs.Rows.{found, found_at}
 use Rattle.valiant.specs.Filling.{IsRowUpTo, next_token, AreLastRows, AddsProduct, IsOfEntry, IsOfEntries, AddsEntry}
 use Rattle.valiant.proofs.RowLemmas.{StandsAt, found_none, found_entry, entry_found, found_push_other, found_push_same, within_push, rising_push}
 use Rattle.valiant.proofs.CutLemmas.{product_derived, derived_product}

@@ -181,7 +181,11 @@ fn a_chart_keeps_the_kinds_of_its_tokens(rt: HostRuntime) -> Result<(), Fail> {
     for text in texts {
         let (_, chart) = chart_of::<ListCell>(rt.alloc(), TRIPLES, text).ok_or("a chart")?;
         assert_eq!(rt; chart.len() as usize, text.len(), "at {text:?}");
-        assert_eq!(rt; kinds_of(rt.alloc(), &chart)?.as_slice(), text, "at {text:?}");
+        assert_eq!(rt;
+            kinds_of(rt.alloc(), &chart)?.as_slice(),
+            text,
+            "at {text:?}"
+        );
     }
     Ok(())
 }
@@ -200,9 +204,16 @@ fn a_shared_chart_outlives_the_one_that_it_is_shared_from(rt: HostRuntime) -> Re
     let shared = chart.share(rt.alloc())?;
     assert_eq!(rt; shared.len(), chart.len());
     drop(chart);
-    assert_eq!(rt; kinds_of(rt.alloc(), &shared)?.as_slice(), [A, A, A].as_slice());
+    assert_eq!(rt;
+        kinds_of(rt.alloc(), &shared)?.as_slice(),
+        [A, A, A].as_slice()
+    );
     for i in 0..shared.len() {
-        assert_eq!(rt; differs_at(rt.alloc(), &form, &shared, THREE, i)?, None, "at token {i}");
+        assert_eq!(rt;
+            differs_at(rt.alloc(), &form, &shared, THREE, i)?,
+            None,
+            "at token {i}"
+        );
     }
     Ok(())
 }
