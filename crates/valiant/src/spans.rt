@@ -1,5 +1,6 @@
 //! What the owners of a chart share: the kinds of its tokens, and the entries that are not empty.
-ghost use Rattle.std.specs.Prelude.{◌≡◌, ◌<◌, ◌≤◌, ◌↔◌, [], length, slice_get, Some, IsTrue, IfOk, MatchOption, Contains};
+ghost use Rattle.std.specs.Prelude.{◌≡◌, ◌<◌, ◌≤◌, ◌↔◌, [], length, slice_get, Contains};
+ghost use Rattle.std.specs.Prelude.{Some, IsTrue, IfOk, MatchOption};
 ghost use Rattle.cell_sets.specs.Grids.{entry};
 ghost use Rattle.valiant.specs.Charts.{IsChartOf, IsSpine};
 

@@ -119,7 +119,8 @@ fn each_span_has_just_the_symbols_that_derive_it(rt: HostRuntime) -> Result<(), 
 
 const NO_SPAN: &[Row] = &[];
 
-/// `( ( ) )`: the inner pair and the whole are S, and `( ) )` is what stands behind the first bracket.
+/// `( ( ) )`: the inner pair and the whole are S, and `( ) )` is what stands behind the first
+/// bracket.
 const NESTED: &[Row] = &[
     (0, 1, &[1]),
     (0, 4, &[0, 3]),

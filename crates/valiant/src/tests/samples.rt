@@ -27,8 +27,8 @@ pub const TRIPLES: Sample = (1, 1, &[(0, &[S, S, S]), (0, &[FIRST])]);
 /// `S ::= ( S )`, `S ::=`: S is 0, the brackets are 1 and 2, and the suffixes are 3, 4 and 5.
 pub const BRACKETS: Sample = (1, 2, &[(0, &[FIRST, S, SECOND]), (0, EMPTY)]);
 
-/// `S ::= A B`, `A ::=`, `B ::=`, `A ::= a`: S, A and B are 0, 1 and 2, a is 3, and the suffixes are
-/// 4 and 5, and 6.
+/// `S ::= A B`, `A ::=`, `B ::=`, `A ::= a`: S, A and B are 0, 1 and 2, a is 3, and the suffixes
+/// are 4 and 5, and 6.
 pub const PAIRS: Sample = (3, 1, &[(0, &[A, B]), (1, EMPTY), (2, EMPTY), (1, &[FIRST])]);
 
 /// No rules, and no symbols.
