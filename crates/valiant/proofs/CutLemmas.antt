@@ -1,5 +1,5 @@
 -- What the cuts of a span give, and that this is what derives it.
-use Rattle.std.proofs.Common.{◌≡◌, ℕ, zero, suc, ◌+◌, ◌-◌, ◌<◌, ◌≤◌, ◌⊎◌, ◌↔◌, List, [], ◌∷◌, Option, Some, None, length, slice_get, get_or, drop, length-drop, refl, sym, ◌∙◌, ap, subst, inl, inr, arith, Contains}
+use Rattle.std.proofs.Common.{◌≡◌, ℕ, suc, ◌+◌, ◌<◌, ◌⊎◌, List, [], Option, Some, None, length, slice_get, get_or, drop, length-drop, refl, sym, ◌∙◌, ap, subst, inl, inr, arith, Contains}
 use Rattle.std.proofs.lemmas.Option.{slice_get-get_or}
 use Rattle.spec_grammar.specs.declared.rule.Symbol.{Symbol}
 use Rattle.spec_grammar.specs.declared.rule.Symbol.TheVariants.{Kind}
@@ -9,9 +9,9 @@ use Rattle.spec_grammar.specs.Derivation.{AreParseTrees}
 use Rattle.spec_lbnf.specs.Expansion.{Expansion, IsSymbolOf, HasOwnSymbols}
 use Rattle.cell_sets.specs.Cells.{IsUnion}
 use Rattle.binary_form.specs.Symbols.{BinarySymbol, plain, suffix, BinaryDerives, IsBinarySymbolOf, number_of}
-use Rattle.binary_form.specs.UnitSteps.{HasItem, UnitStep, whole_side, last_item, passed_item, Reaches, stay, step, IsInProduct}
-use Rattle.binary_form.specs.BinaryForm.{IsNumberOf, IsReachedNumber, IsTokenCell, IsProductNumber, IsProductOf, HasProduct}
-use Rattle.binary_form.specs.Laws.{HasSymbol, IsOfToken, IsOfCut}
+use Rattle.binary_form.specs.UnitSteps.{UnitStep, whole_side, last_item, passed_item, Reaches, stay, step, IsInProduct}
+use Rattle.binary_form.specs.BinaryForm.{IsNumberOf, IsTokenCell, IsProductNumber, IsProductOf}
+use Rattle.binary_form.specs.Laws.{HasSymbol}
 use Rattle.binary_form.proofs.ItemLemmas.{item_symbol}
 use Rattle.binary_form.proofs.NumberLemmas.{number_is_one}
 use Rattle.binary_form.proofs.ReachLemmas.{step_symbol}
@@ -39,6 +39,18 @@ same_union none one other empty union n = (
   ]),
   (λ has. (union n).1 (inr has)),
 )
+
+module _ (g : Expansion) (kinds : List (Option ℕ)) (i j : ℕ) (numbers : List ℕ) (is : IsEntryOf g kinds i j numbers) where
+  -- an entry has the symbols that derive its span
+  pub has_derived : (a : BinarySymbol) → HasSymbol g numbers a → BinaryDerives g.rules kinds a i j
+  has_derived a has =
+      let x = (is (number_of g a)).0 has.1 in
+      let same : x.0 ≡ a = number_is_one g x.0 a (number_of g a) x.1 (has.0, refl) in
+      rw same at x.2
+
+  -- what derives the span is in its entry
+  pub derived_has : (a : BinarySymbol) → IsBinarySymbolOf g a → BinaryDerives g.rules kinds a i j → HasSymbol g numbers a
+  derived_has a symbol derives = (symbol, (is (number_of g a)).1 (a, (symbol, refl), derives))
 
 -- trees that cover a span that is not empty are those of at least one item
 some_items :
@@ -101,22 +113,6 @@ module _ (g : Expansion) (own : HasOwnSymbols g) where
         let token = token_entry i (get_or kinds i None) cell (slice_get-get_or kinds i None within) is n in
         rw one ((λ has. token.0 ((same n).0 has)), (λ derived. (same n).1 (token.1 derived)))
 
-    -- an entry has the symbols that derive its span
-    has_derived :
-        (i j : ℕ) (numbers : List ℕ) (a : BinarySymbol)
-        → IsEntryOf g kinds i j numbers → HasSymbol g numbers a → BinaryDerives g.rules kinds a i j
-    has_derived i j numbers a is has =
-        let x = (is (number_of g a)).0 has.1 in
-        let same : x.0 ≡ a = number_is_one g x.0 a (number_of g a) x.1 (has.0, refl) in
-        rw same at x.2
-
-    -- what derives the span is in its entry
-    derived_has :
-        (i j : ℕ) (numbers : List ℕ) (a : BinarySymbol)
-        → IsEntryOf g kinds i j numbers → IsBinarySymbolOf g a → BinaryDerives g.rules kinds a i j
-        → HasSymbol g numbers a
-    derived_has i j numbers a is symbol derives = (symbol, (is (number_of g a)).1 (a, (symbol, refl), derives))
-
     -- a suffix that derives a span that is not empty begins at an item
     suffix_within :
         (r p k j : ℕ)
@@ -141,8 +137,8 @@ module _ (g : Expansion) (own : HasOwnSymbols g) where
             item = x.item;
             behind = x.behind;
             has = x.has;
-            on_left = has_derived i k left (plain x.item) before x.on_left;
-            on_right = has_derived k j right (suffix x.r (suc x.p)) behind x.on_right;
+            on_left = has_derived g kinds i k left before (plain x.item) x.on_left;
+            on_right = has_derived g kinds k j right behind (suffix x.r (suc x.p)) x.on_right;
             reaches = x.reaches;
           }
 
@@ -161,7 +157,7 @@ module _ (g : Expansion) (own : HasOwnSymbols g) where
             item = x.item;
             behind = x.behind;
             has = x.has;
-            on_left = derived_has i k left (plain x.item) before item x.on_left;
-            on_right = derived_has k j right (suffix x.r (suc x.p)) behind rest x.on_right;
+            on_left = derived_has g kinds i k left before (plain x.item) item x.on_left;
+            on_right = derived_has g kinds k j right behind (suffix x.r (suc x.p)) rest x.on_right;
             reaches = x.reaches;
           })

@@ -1,17 +1,17 @@
 -- Rows that are filled: each step keeps what they have, and all cuts of a span are those at a row's entries.
-use Rattle.std.proofs.Common.{◌≡◌, ℕ, zero, suc, ◌+◌, ◌-◌, ◌<◌, ◌≤◌, ◌≢◌, ◌⊎◌, ◌↔◌, List, [], ◌∷◌, ◌++◌, Option, Some, None, length, slice_get, get_or, refl, sym, ◌∙◌, ap, subst, inl, inr, arith, Contains}
+use Rattle.std.proofs.Common.{◌≡◌, ℕ, ◌+◌, ◌-◌, ◌<◌, ◌≤◌, ◌≢◌, ◌⊎◌, List, [], ◌∷◌, ◌++◌, Option, Some, length, slice_get, get_or, refl, sym, subst, inl, inr, arith, Contains}
 use Rattle.std.proofs.lemmas.Option.{slice_get_within, get_or_from_slice_get, slice_get-get_or, slice_get_read}
 use Rattle.std.proofs.lemmas.List.{get_or_read}
 use Rattle.spec_lbnf.specs.Expansion.{Expansion, HasOwnSymbols}
-use Rattle.binary_form.specs.Symbols.{BinarySymbol, BinaryDerives, IsBinarySymbolOf, number_of}
+use Rattle.binary_form.specs.Symbols.{BinarySymbol, BinaryDerives}
 use Rattle.binary_form.specs.BinaryForm.{IsNumberOf, IsProductNumber}
 use Rattle.binary_form.proofs.BuildLemmas.{each_pushed}
 use Rattle.binary_form.proofs.ClosureLemmas.{closure_is_derivation}
 use Rattle.valiant.specs.declared.rows.Entry.{Entry}
 use Rattle.valiant.specs.Charts.{IsEntryOf}
-use Rattle.valiant.specs.Rows.{found, found_at, HasRisingEnds}
+use Rattle.valiant.specs.Rows.{found, found_at}
 use Rattle.valiant.specs.Filling.{IsRowUpTo, next_token, AreLastRows, AddsProduct, IsOfEntry, IsOfEntries, AddsEntry}
-use Rattle.valiant.proofs.RowLemmas.{found_none, found_entry, entry_found, found_push_other, found_push_same, within_push, rising_push}
+use Rattle.valiant.proofs.RowLemmas.{StandsAt, found_none, found_entry, entry_found, found_push_other, found_push_same, within_push, rising_push}
 use Rattle.valiant.proofs.CutLemmas.{product_derived, derived_product}
 
 -- what is below n + 1 is below n, or n
@@ -109,6 +109,19 @@ module _ {C : Type 0} (symbols : C → List ℕ) (g : Expansion) where
           left right bounds.1 a number.0 (subst Made (sym number.1) made) in
           (a, number, (closure_is_derivation g.rules kinds a i end (omega arith)).1 (inr (e.end, bounds.0, bounds.1, product)))
 
+      -- the product at a cut gives the number
+      abbrev Made : ℕ → ℕ → Type 0
+      Made k n = IsProductNumber g (found symbols row k) (found_at symbols (length kinds) rows k end) n
+
+      -- what a cut gives, the entry at its place gives
+      entry_gives :
+          (k at n : ℕ)
+          → StandsAt symbols row k at → Made k n → IsOfEntry symbols g (length kinds) rows row end at n
+      entry_gives k at n x made = (x.e, x.is, subst Gives (sym x.same_end) (rw x.same_symbols at made))
+        where
+          Gives : ℕ → Type 0
+          Gives m = IsProductNumber g (symbols (x.e).cell) (found_at symbols (length kinds) rows m end) n
+
       -- what derives the span is given by a cut at an entry's end
       derives_given :
           (n : ℕ) (a : BinarySymbol)
@@ -122,9 +135,8 @@ module _ {C : Type 0} (symbols : C → List ℕ) (g : Expansion) where
             derived_product g own kinds i k end (found symbols row k) (found_at symbols (length kinds) rows k end)
             (filled.exact k after before) right before a number.0 product in
             let x = entry_found symbols row k made.0 made.2 in
-            let Given : ℕ → Type 0 = λ m. IsProductNumber g (symbols (x.1.e).cell) (found_at symbols (length kinds) rows m end) n in
-            let given : Given k = rw (x.1.same_symbols, number.1) at made in
-            (x.0, slice_get_within row x.0 x.1.e x.1.is, (x.1.e, x.1.is, subst Given (sym x.1.same_end) given))
+            let at_number = subst (Made k) number.1 made in
+            (x.0, slice_get_within row x.0 x.1.e x.1.is, entry_gives k x.0 n x.1 at_number)
       ]
 
       -- the cuts at the ends of all entries give just what derives the span

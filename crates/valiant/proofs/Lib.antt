@@ -2,3 +2,4 @@ pub mod RowLemmas
 pub mod CutLemmas
 pub mod FillingLemmas
 pub mod ChartLemmas
+pub mod LawLemmas

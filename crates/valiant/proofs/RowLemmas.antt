@@ -1,5 +1,5 @@
 -- What a row has for the span up to an end.
-use Rattle.std.proofs.Common.{◌≡◌, ℕ, zero, suc, ◌+◌, ◌-◌, ◌<◌, ◌≤◌, ◌≢◌, ◌⊎◌, List, [], ◌∷◌, ◌++◌, length, get_or, slice_get, Some, if◌then◌else◌, ◌==◌, refl, sym, ◌∙◌, ap, inl, inr, arith, Contains}
+use Rattle.std.proofs.Common.{◌≡◌, ℕ, zero, suc, ◌+◌, ◌<◌, ◌≤◌, ◌≢◌, ◌⊎◌, List, [], ◌∷◌, ◌++◌, length, get_or, slice_get, Some, refl, sym, ◌∙◌, ap, inl, inr, arith, Contains}
 use Rattle.std.specs.Prelude.{Result, Ok, Err}
 use Rattle.std.specs.List.Sorted.{IsSearchInRange, IsBinarySearchResult, IsNonDecreasingBy}
 use Rattle.std.specs.Ordering.{nat_cmp, ordering_index}
@@ -102,21 +102,26 @@ module _ {C : Type 0} where
     entry_found (e ∷ row) end n has =
         let side : (e.end ≡ end) ⊎ (e.end ≢ end) = grind arith in
         elim side [
-          | inl same ↦ (0, record {
+          | inl same ↦ (
+            0,
+            record {
               e = e;
               is = refl;
               same_end = same;
               same_symbols = found_first e row end same;
-            })
+            },
+          )
           | inr other ↦
               let skip : found symbols (e ∷ row) end ≡ found symbols row end = found_behind e row end other in
-              let x = entry_found row end n (rw skip at has) in
-              (suc x.0, record {
-                e = x.1.e;
-                is = x.1.is;
-                same_end = x.1.same_end;
-                same_symbols = skip ∙ x.1.same_symbols;
-              })
+              let x = entry_found row end n (rw skip at has) in (
+                suc x.0,
+                record {
+                  e = x.1.e;
+                  is = x.1.is;
+                  same_end = x.1.same_end;
+                  same_symbols = skip ∙ x.1.same_symbols;
+                },
+              )
         ]
 
     -- with one entry more a row has what it had for every other end

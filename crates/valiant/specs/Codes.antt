@@ -1,4 +1,4 @@
--- Serves the proofs alone. Charts as data: a shape is stored as its marks, and a chart as its parts.
+-- Serves the proofs alone. Charts as data: a shape as its marks, and a chart as its parts.
 use Rattle.std.specs.Prelude.{◌≡◌, ℕ, zero, suc, List, [], ◌∷◌, ◌++◌, Option}
 use Rattle.std.specs.Coded.{Coded, code_by, coded×, coded_list, coded_option, coded_ℕ}
 use Rattle.std.proofs.Common.{refl, ◌∙◌, ap}
@@ -29,13 +29,16 @@ first_shape (shape ∷ rest) = shape
 
 -- marks one after another give their shapes one after another
 shapes-append :
-    (xs ys : List ℕ) (rest : List Shape) → shapes_of (xs ++ ys) rest ≡ shapes_of xs (shapes_of ys rest)
+    (xs ys : List ℕ) (rest : List Shape)
+    → shapes_of (xs ++ ys) rest ≡ shapes_of xs (shapes_of ys rest)
 shapes-append [] ys rest = refl
-shapes-append (zero ∷ xs) ys rest = ap (λ (shapes : List Shape). leaf ∷ shapes) (shapes-append xs ys rest)
+shapes-append (zero ∷ xs) ys rest =
+    ap (λ (shapes : List Shape). leaf ∷ shapes) (shapes-append xs ys rest)
 shapes-append (suc n ∷ xs) ys rest = ap joined (shapes-append xs ys rest)
 
 -- the marks of a shape give it back
-pub shapes-marks : (shape : Shape) (rest : List Shape) → shapes_of (marks_of shape) rest ≡ shape ∷ rest
+pub shapes-marks :
+    (shape : Shape) (rest : List Shape) → shapes_of (marks_of shape) rest ≡ shape ∷ rest
 shapes-marks leaf rest = refl
 shapes-marks (node left right) rest =
     ap joined (shapes-append (marks_of left) (marks_of right) rest
@@ -50,8 +53,10 @@ coded_shape =
 -- a grid is stored as its rows, its columns and its table
 abbrev pub coded_grid : Coded Grid
 coded_grid =
-    code_by (ℕ × (ℕ × List (List (List ℕ)))) (coded× coded_ℕ (coded× coded_ℕ (coded_list (coded_list (coded_list coded_ℕ)))))
-    (λ g. (g.rows, (g.columns, g.table))) (λ p. record { rows = p.0; columns = p.1.0; table = p.1.1 }) (λ _. refl)
+    code_by (ℕ × (ℕ × List (List (List ℕ))))
+    (coded× coded_ℕ (coded× coded_ℕ (coded_list (coded_list (coded_list coded_ℕ)))))
+    (λ g. (g.rows, (g.columns, g.table)))
+    (λ p. record { rows = p.0; columns = p.1.0; table = p.1.1 }) (λ _. refl)
 
 -- a chart is stored as its kinds, its height, its shape and its entries
 abbrev pub coded_chart : Coded ChartValue

@@ -20,8 +20,9 @@ pub record IsRowUpTo {C : Type 0} (symbols : C → List ℕ) (g : Expansion) (ki
 abbrev pub next_token : {C : Type 0} → List (Option ℕ) → List (List (Entry C)) → ℕ
 next_token kinds rows = length kinds - length rows - 1
 
--- the rows are those of the last tokens, and each has the symbols of all spans that begin with its token
-abbrev pub AreLastRows : {C : Type 0} → (C → List ℕ) → Expansion → List (Option ℕ) → List (List (Entry C)) → Type 0
+-- the rows are those of the last tokens, each with the symbols of all spans from its token on
+abbrev pub AreLastRows : {C : Type 0} → (C → List ℕ) → Expansion → List (Option ℕ)
+    → List (List (Entry C)) → Type 0
 AreLastRows {C} symbols g kinds rows =
     (k : ℕ) (row : List (Entry C)) → slice_get rows k ≡ Some row
     → IsRowUpTo symbols g kinds (length kinds - k - 1) (length kinds + 1) row
@@ -36,19 +37,20 @@ AddsProduct g left right old new =
     (n : ℕ) → Contains new n ↔ (Contains old n ⊎ IsProductNumber g left right n)
 
 -- the cut at the end of the row's entry k, in the span up to this end, gives the number
-abbrev pub IsOfEntry : {C : Type 0} → (C → List ℕ) → Expansion → ℕ → List (List (Entry C)) → List (Entry C)
-    → ℕ → ℕ → ℕ → Type 0
+abbrev pub IsOfEntry : {C : Type 0} → (C → List ℕ) → Expansion → ℕ → List (List (Entry C))
+    → List (Entry C) → ℕ → ℕ → ℕ → Type 0
 IsOfEntry {C} symbols g count rows row end k n =
     (e : Entry C) × (slice_get row k ≡ Some e)
     × IsProductNumber g (symbols e.cell) (found_at symbols count rows e.end end) n
 
 -- the cell has just what the cuts at the ends of the row's first entries give, so many of them
-abbrev pub IsOfEntries : {C : Type 0} → (C → List ℕ) → Expansion → ℕ → List (List (Entry C)) → List (Entry C)
-    → ℕ → ℕ → List ℕ → Type 0
+abbrev pub IsOfEntries : {C : Type 0} → (C → List ℕ) → Expansion → ℕ → List (List (Entry C))
+    → List (Entry C) → ℕ → ℕ → List ℕ → Type 0
 IsOfEntries symbols g count rows row end many cell =
     (n : ℕ) → Contains cell n ↔ ((k : ℕ) × (k < many) × IsOfEntry symbols g count rows row end k n)
 
 -- the new row has the cell behind the old one's entries, if the cell has symbols
-abbrev pub AddsEntry : {C : Type 0} → (C → List ℕ) → List (Entry C) → ℕ → C → List (Entry C) → Type 0
+abbrev pub AddsEntry : {C : Type 0} → (C → List ℕ) → List (Entry C) → ℕ → C → List (Entry C)
+    → Type 0
 AddsEntry symbols old end cell new =
     ((symbols cell ≡ []) × (new ≡ old)) ⊎ (new ≡ old ++ record { end = end; cell = cell } ∷ [])

@@ -1,4 +1,5 @@
 pub mod Charts
+pub mod Laws
 pub mod Codes
 pub mod Rows
 pub mod Filling

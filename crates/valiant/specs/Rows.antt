@@ -1,6 +1,6 @@
--- Serves the proofs alone. The entries that a chart keeps: for each token the row of those that begin with it and
--- are not empty, in the order of their ends. The rows stand in the order of filling, that of the last token first.
-use Rattle.std.specs.Prelude.{◌≡◌, ℕ, ◌+◌, ◌-◌, ◌<◌, ◌≤◌, ◌≢◌, ◌↔◌, ◌⊎◌, List, [], ◌∷◌, ◌++◌, Option, Some, None}
+-- Serves the proofs alone. The entries that a chart keeps: for each token the row of those that begin
+-- with it and are not empty, in the order of their ends. The row of the last token stands first.
+use Rattle.std.specs.Prelude.{◌≡◌, ℕ, ◌+◌, ◌-◌, ◌<◌, ◌≤◌, ◌≢◌, List, [], ◌∷◌, Option, Some, None}
 use Rattle.std.specs.Prelude.{if◌then◌else◌, ◌==◌, length, slice_get, slice_index_or, Result, MatchResult}
 use Rattle.std.specs.declared.alloc.Global.{Global}
 use Rattle.std.specs.declared.sync.Arc.{Arc}
@@ -25,12 +25,13 @@ IsPlaceOf {C} row end place = MatchResult place
     (λ at. (at < length row) × ((d : Entry C) → (slice_index_or row at d).end ≡ end))
     (λ _. (k : ℕ) (d : Entry C) → k < length row → (slice_index_or row k d).end ≢ end)
 
--- the symbols of the span from token k up to this end, where the rows of a text of n tokens have them
+-- the symbols that the rows of a text of n tokens have for the span from token k up to this end
 abbrev pub found_at : {C : Type 0} → (C → List ℕ) → ℕ → List (List (Entry C)) → ℕ → ℕ → List ℕ
 found_at symbols n rows k end = found symbols (slice_index_or rows (n - k - 1) []) end
 
 -- a chart of these kinds whose entries are those of the rows
-abbrev pub chart_value : {C : Type 0} → (C → List ℕ) → List (Option ℕ) → List (List (Entry C)) → ChartValue
+abbrev pub chart_value : {C : Type 0} → (C → List ℕ) → List (Option ℕ) → List (List (Entry C))
+    → ChartValue
 chart_value symbols kinds rows = record {
   kinds = kinds;
   height = length kinds;
@@ -39,7 +40,8 @@ chart_value symbols kinds rows = record {
 }
 
 -- each token has its row, with rising ends
-pub record AreRows {C : Type 0} (kinds : List (Option ℕ)) (rows : List (List (Entry C))) : Type 0 where
+pub record AreRows {C : Type 0} (kinds : List (Option ℕ)) (rows : List (List (Entry C)))
+    : Type 0 where
   pub few : length kinds ≤ 16384
   pub count : length rows ≡ length kinds
   pub rising : (k : ℕ) (row : List (Entry C)) → slice_get rows k ≡ Some row → HasRisingEnds row

@@ -1,5 +1,6 @@
 //! The chart of a text: for each span of its tokens, the symbols that derive it.
-ghost use Rattle.std.specs.Prelude.{◌≡◌, ◌<◌, ◌≤◌, ◌↔◌, [], length, slice_get, Some, IsTrue, IfOk, Contains};
+ghost use Rattle.std.specs.Prelude.{◌≡◌, ◌<◌, ◌≤◌, ◌↔◌, [], length, slice_get, Contains};
+ghost use Rattle.std.specs.Prelude.{Some, IsTrue, IfOk};
 ghost use Rattle.spec_lbnf.specs.Expansion.{Expansion};
 ghost use Rattle.cell_sets.specs.Grids.{entry};
 ghost use Rattle.valiant.specs.Charts.{IsChartOf, IsSpine, leaf_chart};
@@ -11,8 +12,8 @@ use std::alloc::{AllocError, Global};
 use std::marker::Model;
 use std::sync::Arc;
 
-/// For each span of a text's tokens that is not empty, the symbols that derive it, by their numbers.
-/// Owners of one chart share it.
+/// For each span of a text's tokens that is not empty, the symbols that derive it, by their
+/// numbers. Owners of one chart share it.
 #[derive(Drop)]
 pub struct Chart<C: Cell> {
     spans: Option<Arc<Spans<C>>>,
@@ -40,8 +41,8 @@ impl<C: Cell> Chart<C> {
     }
 
     /// The chart of tokens of these kinds, None for a stray token. It is filled from short spans to
-    /// long ones. For each span the cuts are tried whose left part has an entry, and only entries that are not
-    /// empty take memory. An error is want of memory.
+    /// long ones. For each span those cuts are tried whose left part some symbol derives. An entry
+    /// without symbols takes no memory. An error is want of memory.
     pub fn of_kinds(
         alloc: Global,
         bin: &Binary<C>,
@@ -87,7 +88,7 @@ impl<C: Cell> Chart<C> {
         ensures { IsTrue result ↔ Contains (entry self.now.entries i j) symbol }
     {
         match &self.spans {
-            Some(spans) => has_at(spans, symbol, i, j),
+            Some(spans) => spans.has(symbol, i, j),
             None => false,
         }
     }
@@ -102,17 +103,5 @@ impl<C: Cell> Chart<C> {
             }),
             None => Ok(Chart::leaf()),
         }
-    }
-}
-
-fn has_at<C: Cell>(spans: &Spans<C>, symbol: u16, i: u32, j: u32) -> bool
-    requires room { symbol < C.ROOM }
-    requires order { i < j }
-    requires within { j ≤ length spans.now.kinds }
-    ensures { IsTrue result ↔ Contains (entry spans.now.entries i j) symbol }
-{
-    match spans.cell(i, j) {
-        Some(cell) => cell.has(symbol),
-        None => false,
     }
 }

@@ -1,11 +1,12 @@
-//! Filling the rows of a chart from short spans: the last token's row first, and in each row the
-//! spans in the order of their ends. A row is appended to alone, so an entry is right from the moment
-//! that it stands.
+//! Filling the rows of a chart from short spans to long ones: the last token's row first, and in
+//! each row the spans in the order of their ends. Rows are only appended to, so an entry is right
+//! from the moment that it stands.
 ghost use Rattle.std.specs.Prelude.{◌≡◌, ℕ, ◌+◌, ◌<◌, ◌≤◌, ◌↔◌, length, Contains, IfOk};
 ghost use Rattle.spec_lbnf.specs.Expansion.{HasOwnSymbols};
 ghost use Rattle.valiant.specs.Charts.{IsEntryOf};
 ghost use Rattle.valiant.specs.Rows.{found, HasRisingEnds};
-ghost use Rattle.valiant.specs.Filling.{AddsEntry, AddsProduct, AreLastRows, HasSame, IsRowUpTo, next_token};
+ghost use Rattle.valiant.specs.Filling.{AddsEntry, AddsProduct, AreLastRows, HasSame};
+ghost use Rattle.valiant.specs.Filling.{IsRowUpTo, next_token};
 
 use crate::rows::{Entry, Row, cell_at};
 use binary_form::Binary;
@@ -22,7 +23,8 @@ fn with_product<C: Cell>(
     right: &C,
 ) -> Result<C, AllocError>
     ensures { IfOk result (λ new.
-        AddsProduct bin.now (C.symbols left.now) (C.symbols right.now) (C.symbols cell) (C.symbols new)) }
+        AddsProduct bin.now (C.symbols left.now) (C.symbols right.now)
+        (C.symbols cell) (C.symbols new)) }
 {
     if !bin.meets(left, right) {
         return Ok(cell);
@@ -32,8 +34,8 @@ fn with_product<C: Cell>(
     Ok(both)
 }
 
-/// The cell with what a cut gives: its left part has these symbols, and its right part those that the
-/// row behind the cut has up to the end.
+/// The cell with what a cut gives: its left part has the symbols of `left`, and its right part
+/// those that the row behind the cut has up to the end.
 fn with_cut<C: Cell>(
     alloc: Global,
     bin: &Binary<C>,
@@ -44,7 +46,8 @@ fn with_cut<C: Cell>(
 ) -> Result<C, AllocError>
     requires rising { HasRisingEnds behind.now }
     ensures { IfOk result (λ new.
-        AddsProduct bin.now (C.symbols left.now) (found C.symbols behind.now end) (C.symbols cell) (C.symbols new)) }
+        AddsProduct bin.now (C.symbols left.now) (found C.symbols behind.now end)
+        (C.symbols cell) (C.symbols new)) }
 {
     match cell_at(behind, end) {
         Some(right) => with_product(alloc, bin, cell, left, right),
@@ -52,8 +55,8 @@ fn with_cut<C: Cell>(
     }
 }
 
-/// What derives the span up to this end, of two tokens or more. The row of its first token has the
-/// shorter spans, so only cuts at the ends of the row's entries are tried.
+/// What derives the span from the next token up to this end, of two tokens or more. The row has the
+/// shorter spans from there, so only cuts at the ends of its entries are tried.
 fn joined_cell<C: Cell>(
     alloc: Global,
     bin: &Binary<C>,
@@ -126,7 +129,8 @@ fn with_entry<C: Cell>(mut row: Row<C>, end: u32, cell: C) -> Result<Row<C>, All
     Ok(row)
 }
 
-/// The entries of the spans that begin with the token before those of the rows.
+/// The entries of the spans that begin with the next token, which is the one before those of the
+/// rows.
 fn next_row<C: Cell>(
     alloc: Global,
     bin: &Binary<C>,
@@ -138,7 +142,8 @@ fn next_row<C: Cell>(
     requires short { length rows.now < length kinds.now }
     requires few { length kinds.now ≤ 16384 }
     ensures { IfOk result (λ row.
-        IsRowUpTo C.symbols bin.now kinds.now (next_token kinds.now rows.now) (length kinds.now + 1) row) }
+        IsRowUpTo C.symbols bin.now kinds.now (next_token kinds.now rows.now)
+        (length kinds.now + 1) row) }
 {
     let mut row = Items::new(alloc);
     for last in kinds.len() - rows.len() - 1..kinds.len() {

@@ -3,7 +3,12 @@
 
 mod chart;
 mod filling;
+mod laws;
 mod rows;
 mod spans;
 
 pub use chart::Chart;
+pub use laws::{charts_agree, entries_tell_derivation};
+
+#[cfg(test)]
+mod tests;

@@ -1,5 +1,6 @@
 //! What the owners of a chart share: the kinds of its tokens, and the entries that are not empty.
-ghost use Rattle.std.specs.Prelude.{◌≡◌, ◌<◌, ◌≤◌, [], length, slice_get, Some, IfOk, MatchOption};
+ghost use Rattle.std.specs.Prelude.{◌≡◌, ◌<◌, ◌≤◌, ◌↔◌, [], length, slice_get, Contains};
+ghost use Rattle.std.specs.Prelude.{Some, IsTrue, IfOk, MatchOption};
 ghost use Rattle.cell_sets.specs.Grids.{entry};
 ghost use Rattle.valiant.specs.Charts.{IsChartOf, IsSpine};
 
@@ -64,8 +65,21 @@ impl<C: Cell> Spans<C> {
         self.kinds.as_slice()[i as usize]
     }
 
+    /// Whether the symbol derives the span.
+    pub(crate) fn has(&self, symbol: u16, i: u32, j: u32) -> bool
+        requires room { symbol < C.ROOM }
+        requires order { i < j }
+        requires within { j ≤ length self.now.kinds }
+        ensures { IsTrue result ↔ Contains (entry self.now.entries i j) symbol }
+    {
+        match self.cell(i, j) {
+            Some(cell) => cell.has(symbol),
+            None => false,
+        }
+    }
+
     /// The symbols of a span, None where there are none.
-    pub(crate) fn cell(&self, i: u32, j: u32) -> Option<&C>
+    fn cell(&self, i: u32, j: u32) -> Option<&C>
         requires order { i < j }
         requires within { j ≤ length self.now.kinds }
         ensures { MatchOption result

@@ -1,5 +1,4 @@
 -- By the rows, which are those of all tokens.
-use Rattle.std.proofs.Common.{sym}
 use Rattle.valiant.proofs.ChartLemmas.{chart_exact}
 use Rattle.valiant.proofs.spans.Spans.of_kinds.Goals as goal
 
