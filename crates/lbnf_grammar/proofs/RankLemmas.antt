@@ -96,10 +96,10 @@ pub heights_more :
 heights_more links values heights height before last =
     below_more Has (length heights)
     (λ n earlier.
-        let P : ℕ → Type 0 = λ k. IsHeight (slice_index_or links n []) values k in
-        subst P (sym (get_or_append_left heights (height ∷ []) 0 n earlier)) (before n earlier))
+    let P : ℕ → Type 0 = λ k. IsHeight (slice_index_or links n []) values k in
+    subst P (sym (get_or_append_left heights (height ∷ []) 0 n earlier)) (before n earlier))
     (let P : ℕ → Type 0 = λ k. IsHeight (slice_index_or links (length heights) []) values k in
-      subst P (sym (get_or_push heights height 0 (length heights) refl)) last)
+    subst P (sym (get_or_push heights height 0 (length heights) refl)) last)
   where
     Has : ℕ → Type 0
     Has n = IsHeight (slice_index_or links n []) values (slice_index_or (heights ++ height ∷ []) n 0)
