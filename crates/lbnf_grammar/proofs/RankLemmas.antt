@@ -1,17 +1,16 @@
 -- Cycles and ranks by links, and the longest chains of at most so many steps.
-use Rattle.std.proofs.Common.{below_more, ◌≡◌, ℕ, zero, suc, ◌+◌, ◌^◌, ◌<◌, ◌≤◌, ◌⊎◌, ◌↔◌, inl, inr, List, [], ◌∷◌, ◌++◌, length, slice_index_or, replicate, refl, sym, ◌∙◌, ap, subst, arith}
+use Rattle.std.proofs.Common.{below_more, ◌≡◌, ℕ, zero, suc, ◌+◌, ◌^◌, ◌<◌, ◌≤◌, ◌⊎◌, ◌↔◌, inl, inr, List, [], ◌∷◌, ◌++◌, length, slice_index_or, replicate, refl, sym, ◌∙◌, subst, arith}
 use Rattle.std.specs.List.{Contains, All}
 use Rattle.std.proofs.lemmas.List.Elements.{Contains-append_left, Contains-push, Contains-push_cases, All-from_get_or}
 use Rattle.std.proofs.lemmas.List.{length-replicate, get_or-replicate, get_or_append_left, get_or_push}
-use Rattle.spec_grammar.specs.declared.rule.Rule.{Rule}
-use Rattle.spec_grammar.specs.Cycles.{StepsTo, Leads, IsCyclic, IsAcyclic, HasChain, IsRank}
+use Rattle.spec_grammar.specs.Cycles.{Leads, IsCyclic, IsAcyclic, HasChain}
 use Rattle.spec_grammar.proofs.CycleLemmas.{leads_then, shorter_chain, step_lengthens, chain_is_short}
 use Rattle.spec_lbnf.specs.Expansion.{Expansion}
 use Rattle.number_graph.specs.Graphs.{HasLink, AreLinksWithin, NumberReaches, stay, step, IsOnCycle}
 use Rattle.number_graph.proofs.ReachLemmas.{number_reaches_on}
 use Rattle.lbnf_grammar.specs.StepLinks.{AreSteps}
 use Rattle.lbnf_grammar.specs.Ranks.{AreRanks}
-use Rattle.lbnf_grammar.specs.Heights.{IsHeight, AreHeights, IsLongestWithin, AreLongestWithin}
+use Rattle.lbnf_grammar.specs.Heights.{IsHeight, AreHeights, AreLongestWithin}
 
 module _ (g : Expansion) (links : List (List ℕ)) (are : AreSteps g links) where
   -- links lead along a chain of steps
@@ -96,10 +95,10 @@ pub heights_more :
 heights_more links values heights height before last =
     below_more Has (length heights)
     (λ n earlier.
-        let P : ℕ → Type 0 = λ k. IsHeight (slice_index_or links n []) values k in
-        subst P (sym (get_or_append_left heights (height ∷ []) 0 n earlier)) (before n earlier))
+    let P : ℕ → Type 0 = λ k. IsHeight (slice_index_or links n []) values k in
+    subst P (sym (get_or_append_left heights (height ∷ []) 0 n earlier)) (before n earlier))
     (let P : ℕ → Type 0 = λ k. IsHeight (slice_index_or links (length heights) []) values k in
-      subst P (sym (get_or_push heights height 0 (length heights) refl)) last)
+    subst P (sym (get_or_push heights height 0 (length heights) refl)) last)
   where
     Has : ℕ → Type 0
     Has n = IsHeight (slice_index_or links n []) values (slice_index_or (heights ++ height ∷ []) n 0)

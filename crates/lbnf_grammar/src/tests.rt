@@ -1,5 +1,7 @@
 //! Grammars that are expanded and that are refused, with numbers by hand.
+mod cycles_and_ranks;
 mod empty_spans;
+mod small_grammars;
 
 use super::*;
 use lbnf_text::{Label, MAX_FILE, Name, read_defs};

@@ -1,46 +1,7 @@
 //! Nullable categories of small grammars, whose rules are built by hand.
+use super::small_grammars::{A, B, C, D, EMPTY, WORD, grammar_of};
 use crate::*;
-use lbnf_text::{Label, Name};
-use std::alloc::Global;
 use std::test::*;
-
-fn unnamed(alloc: Global) -> Name {
-    Name::of(Vec::new(alloc))
-}
-
-/// The grammar of these rules over the categories 0 to 3 and the kind 0, whose names are empty.
-fn grammar_of(alloc: Global, sides: &[(u16, &[Symbol])]) -> Option<Grammar> {
-    let categories = vec![in alloc;
-        unnamed(alloc),
-        unnamed(alloc),
-        unnamed(alloc),
-        unnamed(alloc),
-    ]
-    .ok()?;
-    let kinds = vec![in alloc; KindDef::Word(unnamed(alloc))].ok()?;
-    let mut rules = Vec::new(alloc);
-    for (category, items) in sides {
-        let rule = Rule {
-            label: Label::Wild,
-            category: *category,
-            items: Items::from_slice(alloc, items).ok()?,
-        };
-        rules.push(rule).ok()?;
-    }
-    Grammar::of_rules(rules, categories, kinds)
-}
-
-const A: Symbol = Symbol::Category(0);
-
-const B: Symbol = Symbol::Category(1);
-
-const C: Symbol = Symbol::Category(2);
-
-const D: Symbol = Symbol::Category(3);
-
-const WORD: Symbol = Symbol::Kind(0);
-
-const EMPTY: &[Symbol] = &[];
 
 /// A grammar as it is written, with "w" for the word; its rules; and which of A, B, C and D are
 /// nullable by them.

@@ -1,4 +1,4 @@
-use Rattle.std.proofs.Common.{◌↔◌, IsTrue, true, false, sym, ◌∙◌, arith}
+use Rattle.std.proofs.Common.{sym, ◌∙◌, arith}
 use Rattle.std.proofs.lemmas.Bool.{false≢true}
 use Rattle.lbnf_grammar.proofs.RankLemmas.{cyclic_number, steps_within, none_cyclic, none_cyclic_more}
 use Rattle.lbnf_grammar.proofs.cycles.first_cyclic.Goals as goal

@@ -1,4 +1,4 @@
-use Rattle.std.proofs.Common.{take, slice_index_or, sym}
+use Rattle.std.proofs.Common.{take, slice_index_or}
 use Rattle.std.proofs.lemmas.List.{take_more, take_all}
 use Rattle.spec_grammar.specs.declared.rule.Symbol.TheVariants.{Category}
 use Rattle.lbnf_grammar.proofs.StepLinkLemmas.{items_more}
