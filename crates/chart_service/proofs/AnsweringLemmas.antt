@@ -44,8 +44,7 @@ module _ (g : Expansion) (chart : ChartValue) (text : List ℕ) (tokens : List T
   empty_derives found first end le ge h =
       let same : first ≡ end = omega (arith, le, ge) in
       let nullable = nullable_derives g.rules (kinds_of tokens) (Category category) first in
-      let P : ℕ → Type 0 = λ n. Derives g.rules (kinds_of tokens) (Category category) first n in
-      (
+      let P : ℕ → Type 0 = λ n. Derives g.rules (kinds_of tokens) (Category category) first n in (
         (λ t. let found = h.0 t in
             let same_symbol : found.0 ≡ plain (Category category) = number_is_one g found.0 (plain (Category category)) number found.1 is_its in
             let Q : BinarySymbol → Type 0 = λ a. BinaryDerives g.rules [] a 0 0 in

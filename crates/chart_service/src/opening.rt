@@ -144,11 +144,7 @@ pub(crate) struct Opened {
 }
 
 /// The chart of the text's tokens.
-fn chart_of(
-    alloc: Global,
-    language: &Language,
-    text: &[u8],
-) -> Result<Chart<ListCell>, AllocError>
+fn chart_of(alloc: Global, language: &Language, text: &[u8]) -> Result<Chart<ListCell>, AllocError>
     requires fit { IsFit language.now.grammar }
     requires ascii { IsAscii text.now }
     requires short { length text.now ≤ 4096 }
