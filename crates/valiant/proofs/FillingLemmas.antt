@@ -76,21 +76,6 @@ module _ {C : Type 0} (symbols : C → List ℕ) (g : Expansion) where
           let same : get_or row at e ≡ e = get_or_from_slice_get row at e e is in
           rw same at (filled.within at e (slice_get_within row at e is))
 
-      -- with the next entry of the row, and the row behind its end
-      pub entries_next :
-          (many : ℕ) (e : Entry C) (behind : List (Entry C)) (old new : List ℕ)
-          → many < length row → e ≡ get_or row many e → behind ≡ get_or rows (length kinds - e.end - 1) behind
-          → AddsProduct g (symbols e.cell) (found symbols behind end) old new
-          → IsOfEntries symbols g (length kinds) rows row end many old
-          → IsOfEntries symbols g (length kinds) rows row end (many + 1) new
-      entries_next many e behind old new below is is_behind adds before =
-          let at : slice_get row many ≡ Some e = slice_get_read row (length row) many e refl below is in
-          let bounds = within_entry many e at in
-          let Adds : List (Entry C) → Type 0 = λ (x : List (Entry C)). AddsProduct g (symbols e.cell) (found symbols x end) old new in
-          let same : behind ≡ get_or rows (length kinds - e.end - 1) [] =
-          get_or_read rows (length kinds - e.end - 1) behind (omega (arith, bounds.0, bounds.1)) is_behind [] in
-          entries_more (length kinds) rows row end many e old new at (subst Adds same adds) before
-
       -- a cut at an entry's end gives what derives the span
       given_derives :
           (at n : ℕ)

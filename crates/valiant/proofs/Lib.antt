@@ -3,3 +3,5 @@ pub mod CutLemmas
 pub mod FillingLemmas
 pub mod ChartLemmas
 pub mod LawLemmas
+pub mod CellLemmas
+pub mod NextRowLemmas

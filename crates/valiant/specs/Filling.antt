@@ -1,5 +1,5 @@
 -- Serves the proofs alone. How far the rows of a chart are filled, and what each step adds.
-use Rattle.std.specs.Prelude.{◌≡◌, ℕ, ◌+◌, ◌-◌, ◌<◌, ◌↔◌, ◌⊎◌, List, [], ◌∷◌, ◌++◌, Option, Some, Contains}
+use Rattle.std.specs.Prelude.{◌≡◌, ℕ, ◌+◌, ◌-◌, ◌<◌, ◌≢◌, ◌↔◌, ◌⊎◌, List, [], ◌∷◌, ◌++◌, Option, Some, Contains}
 use Rattle.std.specs.Prelude.{length, slice_get, slice_index_or}
 use Rattle.spec_lbnf.specs.Expansion.{Expansion}
 use Rattle.binary_form.specs.BinaryForm.{IsProductNumber}
@@ -54,3 +54,45 @@ abbrev pub AddsEntry : {C : Type 0} → (C → List ℕ) → List (Entry C) → 
     → Type 0
 AddsEntry symbols old end cell new =
     ((symbols cell ≡ []) × (new ≡ old)) ⊎ (new ≡ old ++ record { end = end; cell = cell } ∷ [])
+
+-- each end of the row is below the count
+abbrev pub AreEndsBelow : {C : Type 0} → ℕ → List (Entry C) → Type 0
+AreEndsBelow {C} count row =
+    (k : ℕ) (d : Entry C) → k < length row → (slice_index_or row k d).end < count
+
+-- the cell at the entry's end gets the product of the list and the entry, and no other changes
+pub record AddsCut {C : Type 0} (symbols : C → List ℕ) (g : Expansion) (left : List ℕ)
+    (e : Entry C) (old new : List C) : Type 0 where
+  pub count : length new ≡ length old
+  pub at : (c d : C) → slice_get old e.end ≡ Some c → slice_get new e.end ≡ Some d
+      → AddsProduct g left (symbols e.cell) (symbols c) (symbols d)
+  pub others : (j : ℕ) → j ≢ e.end → slice_get new j ≡ slice_get old j
+
+-- the cell of each end gets the product of the list and what the row has for the end
+pub record AddsCuts {C : Type 0} (symbols : C → List ℕ) (g : Expansion) (left : List ℕ)
+    (behind : List (Entry C)) (old new : List C) : Type 0 where
+  pub count : length new ≡ length old
+  pub each : (j : ℕ) (c d : C) → slice_get old j ≡ Some c → slice_get new j ≡ Some d
+      → AddsProduct g left (found symbols behind j) (symbols c) (symbols d)
+
+-- no cell has symbols
+abbrev pub AreEmpty : {C : Type 0} → (C → List ℕ) → List C → Type 0
+AreEmpty {C} symbols cells = (j : ℕ) (c : C) → slice_get cells j ≡ Some c → symbols c ≡ []
+
+-- each end has a cell: that of token i has what derives the token, and those behind are empty
+pub record AreFirstCells {C : Type 0} (symbols : C → List ℕ) (g : Expansion) (kinds : List (Option ℕ))
+    (i : ℕ) (cells : List C) : Type 0 where
+  pub count : length cells ≡ length kinds + 1
+  pub token : (c : C) → slice_get cells (i + 1) ≡ Some c → IsEntryOf g kinds i (i + 1) (symbols c)
+  pub empty : (j : ℕ) (c : C) → i + 1 < j → slice_get cells j ≡ Some c → symbols c ≡ []
+
+-- behind the place each end has a cell: that of token i has what derives the token, and the others
+-- have what the cuts at the ends of the row's entries give
+pub record AreCellsBehind {C : Type 0} (symbols : C → List ℕ) (g : Expansion) (kinds : List (Option ℕ))
+    (rows : List (List (Entry C))) (i : ℕ) (row : List (Entry C)) (place : ℕ) (cells : List C)
+    : Type 0 where
+  pub count : length cells ≡ length kinds + 1
+  pub token : (c : C) → place ≡ i → slice_get cells (i + 1) ≡ Some c
+      → IsEntryOf g kinds i (i + 1) (symbols c)
+  pub cuts : (j : ℕ) (c : C) → place < j → i + 1 < j → slice_get cells j ≡ Some c
+      → IsOfEntries symbols g (length kinds) rows row j (length row) (symbols c)

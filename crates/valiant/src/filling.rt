@@ -1,85 +1,60 @@
 //! Filling the rows of a chart from short spans to long ones: the last token's row first, and in
 //! each row the spans in the order of their ends. Rows are only appended to, so an entry is right
 //! from the moment that it stands.
-ghost use Rattle.std.specs.Prelude.{◌≡◌, ℕ, ◌+◌, ◌<◌, ◌≤◌, ◌↔◌, length, Contains, IfOk};
+ghost use Rattle.std.specs.Prelude.{◌≡◌, ◌+◌, ◌-◌, ◌<◌, ◌≤◌, [], length, slice_index_or, IfOk};
 ghost use Rattle.spec_lbnf.specs.Expansion.{HasOwnSymbols};
-ghost use Rattle.valiant.specs.Charts.{IsEntryOf};
-ghost use Rattle.valiant.specs.Rows.{found, HasRisingEnds};
-ghost use Rattle.valiant.specs.Filling.{AddsEntry, AddsProduct, AreLastRows, HasSame};
+ghost use Rattle.valiant.specs.Rows.{HasRisingEnds};
+ghost use Rattle.valiant.specs.Filling.{AddsCut, AddsCuts, AreEmpty, AreEndsBelow, AreFirstCells};
+ghost use Rattle.valiant.specs.Filling.{AreLastRows, HasSame};
 ghost use Rattle.valiant.specs.Filling.{IsRowUpTo, next_token};
 
-use crate::rows::{Entry, Row, cell_at};
+use crate::rows::{Entry, Row};
 use binary_form::Binary;
 use cell_sets::Cell;
 use sqlite_items::Items;
 use std::alloc::{AllocError, Global};
 
-/// The cell with the product of two others.
-fn with_product<C: Cell>(
-    alloc: Global,
-    bin: &Binary<C>,
-    cell: C,
-    left: &C,
-    right: &C,
-) -> Result<C, AllocError>
-    ensures { IfOk result (λ new.
-        AddsProduct bin.now (C.symbols left.now) (C.symbols right.now)
-        (C.symbols cell) (C.symbols new)) }
-{
-    if !bin.meets(left, right) {
-        return Ok(cell);
-    }
-    let product: C = bin.product(alloc, left, right)?;
-    let both = cell.union(alloc, &product)?;
-    Ok(both)
-}
-
-/// The cell with what a cut gives: its left part has the symbols of `left`, and its right part
-/// those that the row behind the cut has up to the end.
+/// The cells by their ends, with what the cut gives to the cell of its end whose left part has the
+/// symbols of `left`, and whose right part is this entry.
 fn with_cut<C: Cell>(
     alloc: Global,
     bin: &Binary<C>,
-    cell: C,
+    mut cells: Vec<C>,
     left: &C,
-    behind: &[Entry<C>],
-    end: u32,
-) -> Result<C, AllocError>
-    requires rising { HasRisingEnds behind.now }
+    entry: &Entry<C>,
+) -> Result<Vec<C>, AllocError>
+    requires { entry.now.end < length cells.items }
     ensures { IfOk result (λ new.
-        AddsProduct bin.now (C.symbols left.now) (found C.symbols behind.now end)
-        (C.symbols cell) (C.symbols new)) }
+        AddsCut C.symbols bin.now (C.symbols left.now) entry.now cells.items new.items) }
 {
-    match cell_at(behind, end) {
-        Some(right) => with_product(alloc, bin, cell, left, right),
-        None => Ok(cell),
+    if !bin.meets(left, &entry.cell) {
+        return Ok(cells);
     }
+    let end = entry.end as usize;
+    let product: C = bin.product(alloc, left, &entry.cell)?;
+    let both = cells[end].union(alloc, &product)?;
+    cells[end] = both;
+    Ok(cells)
 }
 
-/// What derives the span from the next token up to this end, of two tokens or more. The row has the
-/// shorter spans from there, so only cuts at the ends of its entries are tried.
-fn joined_cell<C: Cell>(
+/// The cells with what the cuts give whose left part has the symbols of `left`, and whose right part
+/// is an entry of the row behind it.
+fn with_cuts<C: Cell>(
     alloc: Global,
     bin: &Binary<C>,
-    kinds: &[Option<u16>],
-    rows: &[Row<C>],
-    row: &[Entry<C>],
-    end: u32,
-) -> Result<C, AllocError>
-    requires own { HasOwnSymbols bin.now }
-    requires rows { AreLastRows C.symbols bin.now kinds.now rows.now }
-    requires short { length rows.now < length kinds.now }
-    requires row { IsRowUpTo C.symbols bin.now kinds.now (next_token kinds.now rows.now) end row.now }
-    requires later { next_token kinds.now rows.now + 1 < end }
-    requires within { end ≤ length kinds.now }
-    ensures { IfOk result (λ cell.
-        IsEntryOf bin.now kinds.now (next_token kinds.now rows.now) end (C.symbols cell)) }
+    mut cells: Vec<C>,
+    left: &C,
+    behind: &[Entry<C>],
+) -> Result<Vec<C>, AllocError>
+    requires rising { HasRisingEnds behind.now }
+    requires below { AreEndsBelow (length cells.items) behind.now }
+    ensures { IfOk result (λ new.
+        AddsCuts C.symbols bin.now (C.symbols left.now) behind.now cells.items new.items) }
 {
-    let mut cell = C::empty();
-    for entry in row {
-        let behind = &rows[kinds.len() - entry.end as usize - 1];
-        cell = with_cut(alloc, bin, cell, &entry.cell, behind.as_slice(), end)?;
+    for entry in behind {
+        cells = with_cut(alloc, bin, cells, left, entry)?;
     }
-    Ok(cell)
+    Ok(cells)
 }
 
 /// A cell with the same symbols.
@@ -90,43 +65,49 @@ fn copy_of<C: Cell>(alloc: Global, cell: &C) -> Result<C, AllocError>
     Ok(copy)
 }
 
-/// What derives the span from the next token up to this end.
-fn span_cell<C: Cell>(
+/// So many cells without symbols.
+fn empty_cells<C: Cell>(alloc: Global, count: usize) -> Result<Vec<C>, AllocError>
+    requires { count ≤ 16385 }
+    ensures { IfOk result (λ cells.
+        (length cells.items ≡ count) × AreEmpty C.symbols cells.items) }
+{
+    let mut cells = Vec::new(alloc);
+    for _ in 0..count {
+        cells.push(C::empty())?;
+    }
+    Ok(cells)
+}
+
+/// A cell for each end: that of the token for the end of the token, and the others without symbols.
+fn first_cells<C: Cell>(
     alloc: Global,
     bin: &Binary<C>,
     kinds: &[Option<u16>],
-    rows: &[Row<C>],
-    row: &[Entry<C>],
-    end: u32,
-) -> Result<C, AllocError>
+    token: usize,
+) -> Result<Vec<C>, AllocError>
     requires own { HasOwnSymbols bin.now }
-    requires rows { AreLastRows C.symbols bin.now kinds.now rows.now }
-    requires short { length rows.now < length kinds.now }
-    requires row { IsRowUpTo C.symbols bin.now kinds.now (next_token kinds.now rows.now) end row.now }
-    requires order { next_token kinds.now rows.now < end }
-    requires within { end ≤ length kinds.now }
+    requires within { token < length kinds.now }
     requires few { length kinds.now ≤ 16384 }
-    ensures { IfOk result (λ cell.
-        IsEntryOf bin.now kinds.now (next_token kinds.now rows.now) end (C.symbols cell)) }
+    ensures { IfOk result (λ cells.
+        AreFirstCells C.symbols bin.now kinds.now token cells.items) }
 {
-    let first = kinds.len() - rows.len() - 1;
-    if end as usize == first + 1 {
-        let cell = copy_of(alloc, bin.token_cell(kinds[first]))?;
-        Ok(cell)
-    } else {
-        joined_cell(alloc, bin, kinds, rows, row, end)
-    }
+    let mut cells: Vec<C> = empty_cells(alloc, kinds.len() + 1)?;
+    let cell = copy_of(alloc, bin.token_cell(kinds[token]))?;
+    cells[token + 1] = cell;
+    Ok(cells)
 }
 
-/// The row with the cell behind its entries, if the cell has symbols.
-fn with_entry<C: Cell>(mut row: Row<C>, end: u32, cell: C) -> Result<Row<C>, AllocError>
-    ensures { IfOk result (λ new. AddsEntry C.symbols row end cell new) }
+/// The row of a token behind those whose rows come next, and no entries for the end of the text.
+fn row_behind<C>(rows: &[Row<C>], count: usize, token: usize) -> &[Entry<C>]
+    requires { count ≤ length rows.now + token }
+    ensures row { token < count → result.now ≡ slice_index_or rows.now (count - token - 1) [] }
+    ensures none { count ≤ token → result.now ≡ [] }
 {
-    if cell.is_empty() {
-        return Ok(row);
+    if token < count {
+        rows[count - token - 1].as_slice()
+    } else {
+        &[]
     }
-    row.push(Entry { end, cell })?;
-    Ok(row)
 }
 
 /// The entries of the spans that begin with the next token, which is the one before those of the
@@ -145,11 +126,20 @@ fn next_row<C: Cell>(
         IsRowUpTo C.symbols bin.now kinds.now (next_token kinds.now rows.now)
         (length kinds.now + 1) row) }
 {
+    let first = kinds.len() - rows.len() - 1;
     let mut row = Items::new(alloc);
-    for last in kinds.len() - rows.len() - 1..kinds.len() {
-        let end = last as u32 + 1;
-        let cell: C = span_cell(alloc, bin, kinds, rows, row.as_slice(), end)?;
-        row = with_entry(row, end, cell)?;
+    let mut cells: Vec<C> = first_cells(alloc, bin, kinds, first)?;
+    for last in first..kinds.len() {
+        if cells[last + 1].is_empty() {
+            continue;
+        }
+        let cell: C = copy_of(alloc, &cells[last + 1])?;
+        let behind = row_behind(rows, kinds.len(), last + 1);
+        cells = with_cuts(alloc, bin, cells, &cell, behind)?;
+        row.push(Entry {
+            end: last as u32 + 1,
+            cell,
+        })?;
     }
     Ok(row)
 }

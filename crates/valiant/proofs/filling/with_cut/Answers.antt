@@ -1,5 +1,10 @@
--- The right part's cell is what its row has.
+-- The union with the product is written at the entry's end.
+use Rattle.valiant.proofs.CellLemmas.{cut_set}
 use Rattle.valiant.proofs.filling.with_cut.Goals as goal
 
-pub returns-in-Some : goal.returns-in-Some
-returns-in-Some g c = rw c.in-Some.ensures at c.with_product.ensures
+pub returns : goal.returns
+returns g c =
+    let symbols = g.C.Cell.symbols in
+    let x = c.index.ensures in
+    cut_set symbols c.args.bin.now (symbols c.args.left.now) c.args.entry.now c.args.cells.items c.index.result.now
+    c.in_ok-product.product c.in_ok-both.both c.requires c.index.ensures c.in_ok-product.ensures c.in_ok-both.ensures.ok

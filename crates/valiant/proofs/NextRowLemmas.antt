@@ -1,0 +1,159 @@
+-- The row of one token is filled end by end, from the cells to which its entries add their cuts.
+use Rattle.std.proofs.Common.{◌≡◌, ℕ, zero, suc, ◌+◌, ◌-◌, ◌<◌, ◌≤◌, ◌≢◌, ◌⊎◌, ◌↔◌, List, [], ◌∷◌, ◌++◌, Option, Some, length, slice_get, get_or, set, refl, sym, ◌∙◌, ap, subst, inl, inr, arith, Contains}
+use Rattle.std.proofs.lemmas.Option.{slice_get_within, slice_get-get_or, slice_get_read}
+use Rattle.std.proofs.lemmas.List.{length-set, length_push}
+use Rattle.spec_lbnf.specs.Expansion.{Expansion, HasOwnSymbols}
+use Rattle.valiant.specs.declared.rows.Entry.{Entry}
+use Rattle.valiant.specs.Charts.{IsEntryOf}
+use Rattle.valiant.specs.Rows.{found, found_at, HasRisingEnds}
+use Rattle.valiant.specs.Filling.{IsRowUpTo, next_token, AreLastRows, AddsProduct, IsOfEntry, IsOfEntries, AreEndsBelow, AddsCuts, AreEmpty, AreFirstCells, AreCellsBehind, HasSame}
+use Rattle.valiant.proofs.FillingLemmas.{entries_none, entries_more, entries_all}
+use Rattle.valiant.proofs.CellLemmas.{get_set_same, get_set_other}
+
+-- in a longer list the first places are as they were
+get_append_left :
+    {X : Type 0} (xs ys : List X) (k : ℕ) → k < length xs → slice_get (xs ++ ys) k ≡ slice_get xs k
+get_append_left [] ys k within = absurd (omega arith)
+get_append_left (x ∷ xs) ys zero within = refl
+get_append_left (x ∷ xs) ys (suc k) within = get_append_left xs ys k (omega arith)
+
+-- and the next place has what was put there
+get_append_next :
+    {X : Type 0} (xs : List X) (x : X) → slice_get (xs ++ x ∷ []) (length xs) ≡ Some x
+get_append_next [] x = refl
+get_append_next (y ∷ xs) x = get_append_next xs x
+
+-- what has the numbers of an entry is an entry of the span
+pub same_entry :
+    (g : Expansion) (kinds : List (Option ℕ)) (i j : ℕ) (one other : List ℕ)
+    → IsEntryOf g kinds i j one → HasSame one other → IsEntryOf g kinds i j other
+same_entry g kinds i j one other is same n =
+    ((λ has. (is n).0 ((same n).0 has)), (λ derived. (same n).1 ((is n).1 derived)))
+
+module _ {C : Type 0} (symbols : C → List ℕ) (g : Expansion) (kinds : List (Option ℕ)) where
+  -- empty cells, with the token's cell at its end, are the first cells
+  pub first_cells :
+      (i : ℕ) (cells : List C) (cell : C)
+      → length cells ≡ length kinds + 1 → AreEmpty symbols cells → i < length kinds
+      → IsEntryOf g kinds i (i + 1) (symbols cell)
+      → AreFirstCells symbols g kinds i (set cells (i + 1) cell)
+  first_cells i cells cell count empty within is = record {
+    count = length-set cells (i + 1) cell ∙ count;
+    token = λ c is_c.
+        let there = get_set_same cells (i + 1) cell (omega (arith, count, within)) in
+        let same : cell ≡ c = cc in
+        rw same at is;
+    empty = λ j c behind is_c.
+        let same = get_set_other cells (i + 1) j cell (λ at. omega (arith, behind, at)) in
+        empty j c (sym same ∙ is_c);
+  }
+
+  module _ (rows : List (List (Entry C))) (last : AreLastRows symbols g kinds rows)
+      (short : length rows < length kinds) where
+    abbrev i : ℕ
+    i = next_token kinds rows
+
+    module _ (token : ℕ) (behind : List (Entry C)) (later : i < token)
+        (row : token < length kinds → behind ≡ get_or rows (length kinds - token - 1) [])
+        (none : length kinds ≤ token → behind ≡ []) where
+      -- the row behind is that of its token, if there is one
+      rows_behind : HasRisingEnds behind × AreEndsBelow (length kinds + 1) behind
+      rows_behind =
+          let side : (token < length kinds) ⊎ (length kinds ≤ token) = grind arith in
+          elim side [
+            | inl within ↦
+                let place = length kinds - token - 1 in
+                let is = last place (get_or rows place []) (slice_get-get_or rows place [] (omega arith)) in
+                rw (row within) (is.rising, (λ k d below. (is.within k d below).1))
+            | inr past ↦
+                rw (none past) ((λ m n d order within. absurd (omega arith)), (λ k d within. absurd (omega arith)))
+          ]
+
+      -- so its ends rise
+      pub behind_rising : HasRisingEnds behind
+      behind_rising = rows_behind.0
+
+      -- and have cells
+      pub behind_below : (cells : List C) → length cells ≡ length kinds + 1 → AreEndsBelow (length cells) behind
+      behind_below cells count k d within = omega (arith, count, rows_behind.1 k d within)
+
+    -- before the first span the cells are the first cells
+    pub cells_start : (cells : List C) → AreFirstCells symbols g kinds i cells → AreCellsBehind symbols g kinds rows i [] i cells
+    cells_start cells first = record {
+      count = first.count;
+      token = λ c here is. first.token c is;
+      cuts = λ j c behind later is.
+          rw (first.empty j c later is) (entries_none symbols g (length kinds) rows [] j);
+    }
+
+    module _ (row : List (Entry C)) (place : ℕ) (cells : List C) (from : i ≤ place) (within : place < length kinds)
+        (are : AreCellsBehind symbols g kinds rows i row place cells) where
+      -- the cell of the next end has what derives its span
+      pub cell_entry :
+          (c : C)
+          → HasOwnSymbols g → IsRowUpTo symbols g kinds i (place + 1) row → c ≡ get_or cells (place + 1) c
+          → IsEntryOf g kinds i (place + 1) (symbols c)
+      cell_entry c own filled is_c =
+          let read : slice_get cells (place + 1) ≡ Some c =
+          slice_get_read cells (length cells) (place + 1) c refl (omega (arith, are.count, within)) is_c in
+          let side : (place ≡ i) ⊎ (i < place) = grind arith in
+          elim side [
+            | inl here ↦
+                let At : ℕ → Type 0 = λ n. IsEntryOf g kinds i (n + 1) (symbols c) in
+                let Read : ℕ → Type 0 = λ n. slice_get cells (n + 1) ≡ Some c in
+                subst At (sym here) (are.token c here (subst Read here read))
+            | inr behind ↦
+                entries_all symbols g own kinds rows last short row (place + 1) filled (omega arith) (omega arith)
+                (length row) (symbols c) (omega arith) (are.cuts (place + 1) c (omega arith) (omega arith) read)
+          ]
+
+      -- where the next cell is empty, the cells stay as they are
+      pub cells_kept : AreCellsBehind symbols g kinds rows i row (place + 1) cells
+      cells_kept = record {
+        count = are.count;
+        token = λ c here is. absurd (omega (arith, here));
+        cuts = λ j c behind later is. are.cuts j c (omega arith) later is;
+      }
+
+      -- where it is not, they get the cuts at the end of its entry
+      pub cells_more :
+          (cell : C) (behind : List (Entry C)) (new : List C)
+          → (place + 1 < length kinds → behind ≡ get_or rows (length kinds - (place + 1) - 1) [])
+          → AddsCuts symbols g (symbols cell) behind cells new
+          → AreCellsBehind symbols g kinds rows i (row ++ record { end = place + 1; cell = cell } ∷ []) (place + 1) new
+      cells_more cell behind new is_row adds = record {
+        count = adds.count ∙ are.count;
+        token = λ c here is. absurd (omega (arith, here));
+        cuts = cuts;
+      }
+        where
+          e : Entry C
+          e = record { end = place + 1; cell = cell }
+
+          -- the entries so far give what they gave
+          so_far :
+              (j : ℕ) (numbers : List ℕ)
+              → IsOfEntries symbols g (length kinds) rows row j (length row) numbers
+              → IsOfEntries symbols g (length kinds) rows (row ++ record { end = place + 1; cell = cell } ∷ []) j (length row) numbers
+          so_far j numbers before n = (
+            (λ has.
+                let x = (before n).0 has in
+                (x.0, x.1, (x.2.0, get_append_left row _ x.0 x.1 ∙ x.2.1, x.2.2))),
+            (λ x. (before n).1 (x.0, x.1, (x.2.0, sym (get_append_left row _ x.0 x.1) ∙ x.2.1, x.2.2))),
+          )
+
+          cuts :
+              (j : ℕ) (c : C) → place + 1 < j → i + 1 < j → slice_get new j ≡ Some c
+              → IsOfEntries symbols g (length kinds) rows (row ++ record { end = place + 1; cell = cell } ∷ []) j
+              (length (row ++ record { end = place + 1; cell = cell } ∷ [])) (symbols c)
+          cuts j c after later is_c =
+              let below : j < length new = slice_get_within new j c is_c in
+              let d = get_or cells j c in
+              let is_d : slice_get cells j ≡ Some d = slice_get-get_or cells j c (omega (arith, adds.count, below)) in
+              let next : place + 1 < length kinds = omega (arith, adds.count, are.count, below, after) in
+              let added = rw (is_row next) at (adds.each j d c is_d is_c) in
+              let before = so_far j (symbols d) (are.cuts j d (omega arith) later is_d) in
+              rw (length_push row (record { end = place + 1; cell = cell }))
+              (entries_more symbols g (length kinds) rows (row ++ record { end = place + 1; cell = cell } ∷ []) j
+              (length row) (record { end = place + 1; cell = cell }) (symbols d) (symbols c)
+              (get_append_next row (record { end = place + 1; cell = cell })) added before)
