@@ -1,9 +1,9 @@
 -- What the functions of src/laws.rt say of charts.
 use Rattle.std.specs.Prelude.{ℕ, ◌<◌, ◌≤◌, ◌↔◌, List, Option, length, Contains}
-use Rattle.spec_lbnf.specs.Expansion.{Expansion}
+use Rattle.spec_lbnf.specs.Expansion.{Expansion, symbol_count}
 use Rattle.cell_sets.specs.Grids.{entry}
 use Rattle.binary_form.specs.Symbols.{BinarySymbol, BinaryDerives, IsBinarySymbolOf}
-use Rattle.binary_form.specs.Symbols.{symbol_count, number_of}
+use Rattle.binary_form.specs.Symbols.{number_of}
 use Rattle.valiant.specs.Charts.{ChartValue, IsEntryOf, IsChartOf}
 
 -- a symbol's number is in the entry of a span exactly where the symbol derives the span
