@@ -74,11 +74,13 @@ module _ {C : Type 0} (symbols : C → List ℕ) (g : Expansion) (left : List �
   cuts_start cells = record {
     count = refl;
     each = λ j c d is_c is_d n.
-        let same : c ≡ d = cc in
-        ((λ has. inl (rw same has)), (elim [
-          | inl has ↦ rw same at has
-          | inr made ↦ absurd (omega (arith, made.3.1))
-        ]));
+        let same : c ≡ d = cc in (
+          (λ has. inl (rw same has)),
+          (elim [
+            | inl has ↦ rw same at has
+            | inr made ↦ absurd (omega (arith, made.3.1))
+          ]),
+        );
   }
 
   module _ (behind : List (Entry C)) (rising : HasRisingEnds behind) (many : ℕ) (e : Entry C)
