@@ -80,17 +80,17 @@ abbrev pub AreEmpty : {C : Type 0} → (C → List ℕ) → List C → Type 0
 AreEmpty {C} symbols cells = (j : ℕ) (c : C) → slice_get cells j ≡ Some c → symbols c ≡ []
 
 -- each end has a cell: that of token i has what derives the token, and those behind are empty
-pub record AreFirstCells {C : Type 0} (symbols : C → List ℕ) (g : Expansion) (kinds : List (Option ℕ))
-    (i : ℕ) (cells : List C) : Type 0 where
+pub record AreFirstCells {C : Type 0} (symbols : C → List ℕ) (g : Expansion)
+    (kinds : List (Option ℕ)) (i : ℕ) (cells : List C) : Type 0 where
   pub count : length cells ≡ length kinds + 1
   pub token : (c : C) → slice_get cells (i + 1) ≡ Some c → IsEntryOf g kinds i (i + 1) (symbols c)
   pub empty : (j : ℕ) (c : C) → i + 1 < j → slice_get cells j ≡ Some c → symbols c ≡ []
 
 -- behind the place each end has a cell: that of token i has what derives the token, and the others
 -- have what the cuts at the ends of the row's entries give
-pub record AreCellsBehind {C : Type 0} (symbols : C → List ℕ) (g : Expansion) (kinds : List (Option ℕ))
-    (rows : List (List (Entry C))) (i : ℕ) (row : List (Entry C)) (place : ℕ) (cells : List C)
-    : Type 0 where
+pub record AreCellsBehind {C : Type 0} (symbols : C → List ℕ) (g : Expansion)
+    (kinds : List (Option ℕ)) (rows : List (List (Entry C))) (i : ℕ) (row : List (Entry C))
+    (place : ℕ) (cells : List C) : Type 0 where
   pub count : length cells ≡ length kinds + 1
   pub token : (c : C) → place ≡ i → slice_get cells (i + 1) ≡ Some c
       → IsEntryOf g kinds i (i + 1) (symbols c)

@@ -41,7 +41,7 @@ impl<C: Cell> Chart<C> {
     }
 
     /// The chart of tokens of these kinds, None for a stray token. It is filled from short spans to
-    /// long ones. For each span those cuts are tried whose left part some symbol derives. An entry
+    /// long ones, and for each span those cuts are tried that have symbols on both sides. An entry
     /// without symbols takes no memory. An error is want of memory.
     pub fn of_kinds(
         alloc: Global,

@@ -1,12 +1,11 @@
 //! Filling the rows of a chart from short spans to long ones: the last token's row first, and in
-//! each row the spans in the order of their ends. Rows are only appended to, so an entry is right
-//! from the moment that it stands.
+//! each row the spans in the order of their ends. Only pairs of entries side by side are looked at.
+//! Rows are only appended to, so an entry is right from the moment that it stands.
 ghost use Rattle.std.specs.Prelude.{◌≡◌, ◌+◌, ◌-◌, ◌<◌, ◌≤◌, [], length, slice_index_or, IfOk};
 ghost use Rattle.spec_lbnf.specs.Expansion.{HasOwnSymbols};
 ghost use Rattle.valiant.specs.Rows.{HasRisingEnds};
 ghost use Rattle.valiant.specs.Filling.{AddsCut, AddsCuts, AreEmpty, AreEndsBelow, AreFirstCells};
-ghost use Rattle.valiant.specs.Filling.{AreLastRows, HasSame};
-ghost use Rattle.valiant.specs.Filling.{IsRowUpTo, next_token};
+ghost use Rattle.valiant.specs.Filling.{AreLastRows, HasSame, IsRowUpTo, next_token};
 
 use crate::rows::{Entry, Row};
 use binary_form::Binary;
@@ -14,8 +13,8 @@ use cell_sets::Cell;
 use sqlite_items::Items;
 use std::alloc::{AllocError, Global};
 
-/// The cells by their ends, with what the cut gives to the cell of its end whose left part has the
-/// symbols of `left`, and whose right part is this entry.
+/// The cells of all ends, with what one cut gives at the end of the entry: its left part has the
+/// symbols of `left`, and its right part is the entry.
 fn with_cut<C: Cell>(
     alloc: Global,
     bin: &Binary<C>,
@@ -37,8 +36,8 @@ fn with_cut<C: Cell>(
     Ok(cells)
 }
 
-/// The cells with what the cuts give whose left part has the symbols of `left`, and whose right part
-/// is an entry of the row behind it.
+/// The cells of all ends, with what the cuts give behind a part that has the symbols of `left`: one
+/// for each entry of the row behind that part.
 fn with_cuts<C: Cell>(
     alloc: Global,
     bin: &Binary<C>,
@@ -111,7 +110,8 @@ fn row_behind<C>(rows: &[Row<C>], count: usize, token: usize) -> &[Entry<C>]
 }
 
 /// The entries of the spans that begin with the next token, which is the one before those of the
-/// rows.
+/// rows. When an end is reached, its cell has what all cuts give; with its entry, the cells of the
+/// ends behind it get the cuts there.
 fn next_row<C: Cell>(
     alloc: Global,
     bin: &Binary<C>,
