@@ -57,6 +57,27 @@ adds_closure {C = C} symbols cells right whole closure old new goes_on within is
         let Has : C → Type 0 = λ c. Contains (symbols c) n in
         (union n).1 (inr (subst Has same inner.2))
 
+-- a whole whose closure the cell has already adds nothing
+pub adds_known :
+    {C : Type 0} (symbols : C → List ℕ) (cells : List C) (right : List ℕ) (whole : ℕ) (closure : C)
+    (old : List ℕ)
+    → whole < length cells → closure ≡ get_or cells whole closure
+    → ((n : ℕ) → Contains (symbols closure) n → Contains old n)
+    → Adds (WholeGives symbols cells right whole) old old
+adds_known {C = C} symbols cells right whole closure old within is known n =
+    ((λ has. inl has), back)
+  where
+    at : slice_get cells whole ≡ Some closure
+    at = slice_get_read cells (length cells) whole closure refl within is
+
+    back : Contains old n ⊎ WholeGives symbols cells right whole n → Contains old n
+    back (inl kept) = kept
+    back (inr given) =
+        let inner = given.1 in
+        let same = same_item cells whole inner.0 closure inner.1 at in
+        let Has : C → Type 0 = λ c. Contains (symbols c) n in
+        known n (subst Has same inner.2)
+
 -- a whole that does not go on gives nothing
 pub adds_nothing :
     {C : Type 0} (symbols : C → List ℕ) (cells : List C) (right : List ℕ) (whole : ℕ) (old : List ℕ)
@@ -166,15 +187,15 @@ module _ (Gives : ℕ → ℕ → Type 0) where
             (last n).1 (inr (subst ByGiver same given.2))
       ]
 
-  module _ (givers : List ℕ) where
-    -- the list has what the givers below the limit give
+  module _ (givers start : List ℕ) where
+    -- the list has what it had at the start, and what the givers below the limit give
     abbrev pub IsGivenBelow : ℕ → List ℕ → Type 0
-    IsGivenBelow limit xs = (n : ℕ) → Contains xs n ↔ OneGivesBelow Gives givers limit n
+    IsGivenBelow limit xs = Adds (OneGivesBelow Gives givers limit) start xs
 
     -- below 0 there is no giver
-    pub given_start : IsGivenBelow 0 []
+    pub given_start : IsGivenBelow 0 start
     given_start n =
-        ((λ has. absurd (omega (arith, has.1))), (λ given. absurd (omega (arith, given.1))))
+        ((λ has. inl has), elim [ inl kept ↦ kept | inr given ↦ absurd (omega (arith, given.1)) ])
 
     -- where a giver is the next, the limit goes past it
     pub given_more :
@@ -183,20 +204,25 @@ module _ (Gives : ℕ → ℕ → Type 0) where
         → Adds (Gives giver) old new → IsGivenBelow (giver + 1) new
     given_more count from giver old new next before last n = (to, back)
       where
-        to : Contains new n → OneGivesBelow Gives givers (giver + 1) n
+        earlier : Contains old n → Contains start n ⊎ OneGivesBelow Gives givers (giver + 1) n
+        earlier has = elim ((before n).0 has) [
+          | inl first ↦ inl first
+          | inr given ↦ inr (given.0, omega (arith, given.1, next.2), given.2, given.3)
+        ]
+
+        to : Contains new n → Contains start n ⊎ OneGivesBelow Gives givers (giver + 1) n
         to has = elim ((last n).0 has) [
-          | inl kept ↦
-              let given = (before n).0 kept in
-              (given.0, omega (arith, given.1, next.2), given.2, given.3)
-          | inr given ↦ (giver, omega arith, next.0, given)
+          | inl kept ↦ earlier kept
+          | inr given ↦ inr (giver, omega arith, next.0, given)
         ]
 
         earlier_or_it : (m : ℕ) → m < giver + 1 → (m < from) ⊎ ((from ≤ m) × (m ≤ giver))
         earlier_or_it m below = grind arith
 
-        back : OneGivesBelow Gives givers (giver + 1) n → Contains new n
-        back given = elim (earlier_or_it given.0 given.1) [
-          | inl earlier ↦ (last n).1 (inl ((before n).1 (given.0, earlier, given.2, given.3)))
+        back : Contains start n ⊎ OneGivesBelow Gives givers (giver + 1) n → Contains new n
+        back (inl first) = (last n).1 (inl ((before n).1 (inl first)))
+        back (inr given) = elim (earlier_or_it given.0 given.1) [
+          | inl under ↦ (last n).1 (inl ((before n).1 (inr (given.0, under, given.2, given.3))))
           | inr between ↦
               let least : giver ≤ given.0 = next.3 given.0 given.2 between.0 in
               let same : given.0 ≡ giver = omega (arith, between.1) in
@@ -208,16 +234,15 @@ module _ (Gives : ℕ → ℕ → Type 0) where
     pub given_all :
         (count from : ℕ) (xs : List ℕ)
         → IsNextBelow count givers from None → ((giver n : ℕ) → Gives giver n → giver < count)
-        → IsGivenBelow from xs → (n : ℕ) → Contains xs n ↔ OneGives Gives givers n
-    given_all count from xs none within before n = (
-      (λ has.
-          let given = (before n).0 has in
-          (given.0, given.2, given.3)),
-      (λ given.
-          let below : given.0 < from = under given.0 given.1 (within given.0 n given.2) in
-          (before n).1 (given.0, below, given.1, given.2)),
-    )
+        → IsGivenBelow from xs → Adds (OneGives Gives givers) start xs
+    given_all count from xs none within before n = (to, back)
       where
+        to : Contains xs n → Contains start n ⊎ OneGives Gives givers n
+        to has = elim ((before n).0 has) [
+          | inl first ↦ inl first
+          | inr given ↦ inr (given.0, given.2, given.3)
+        ]
+
         under_or_not : (m : ℕ) → (m < from) ⊎ (from ≤ m)
         under_or_not m = grind arith
 
@@ -226,3 +251,40 @@ module _ (Gives : ℕ → ℕ → Type 0) where
           | inl is ↦ is
           | inr not_under ↦ absurd (none m has not_under below)
         ]
+
+        back : Contains start n ⊎ OneGives Gives givers n → Contains xs n
+        back (inl first) = (before n).1 (inl first)
+        back (inr given) =
+            let below : given.0 < from = under given.0 given.1 (within given.0 n given.2) in
+            (before n).1 (inr (given.0, below, given.1, given.2))
+
+-- where the cell has the symbols of the part below the limit and the next one, it has those below the next limit
+pub has_next :
+    (part cell : List ℕ) (count from next : ℕ)
+    → IsNextBelow count part from (Some next)
+    → ((n : ℕ) → n < from → Contains part n → Contains cell n) → Contains cell next
+    → (n : ℕ) → n < next + 1 → Contains part n → Contains cell n
+has_next part cell count from next is before here n below has = elim (earlier_or_it n below) [
+  | inl earlier ↦ before n earlier has
+  | inr between ↦
+      let least : next ≤ n = is.3 n has between.0 in
+      let same : next ≡ n = omega (arith, between.1) in
+      subst (Contains cell) same here
+]
+  where
+    earlier_or_it : (m : ℕ) → m < next + 1 → (m < from) ⊎ ((from ≤ m) × (m ≤ next))
+    earlier_or_it m under = grind arith
+
+-- where the part has no symbol from the limit on, the cell has all of them
+pub has_each :
+    (part cell : List ℕ) (count from : ℕ)
+    → IsNextBelow count part from None → ((n : ℕ) → Contains part n → n < count)
+    → ((n : ℕ) → n < from → Contains part n → Contains cell n)
+    → (n : ℕ) → Contains part n → Contains cell n
+has_each part cell count from none within before n has = elim (under_or_not n) [
+  | inl under ↦ before n under has
+  | inr not_under ↦ absurd (none n has not_under (within n has))
+]
+  where
+    under_or_not : (m : ℕ) → (m < from) ⊎ (from ≤ m)
+    under_or_not m = grind arith

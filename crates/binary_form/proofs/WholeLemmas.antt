@@ -1,14 +1,14 @@
 -- The product of cells is what the wholes of items give.
-use Rattle.std.proofs.Common.{◌≡◌, ℕ, ◌+◌, ◌<◌, ◌↔◌, List, Some, inl, inr, suc, length, slice_get, refl, sym, ◌∙◌, ap, subst, arith, Contains}
+use Rattle.std.proofs.Common.{◌≡◌, ℕ, ◌+◌, ◌<◌, ◌↔◌, ◌⊎◌, List, [], Some, inl, inr, suc, length, slice_get, refl, sym, ◌∙◌, ap, subst, arith, Contains}
 use Rattle.std.proofs.lemmas.Option.{slice_get_cases}
 use Rattle.spec_lbnf.specs.Expansion.{Expansion, symbol_count}
 use Rattle.binary_form.specs.Symbols.{BinarySymbol, suffix, number_of}
 use Rattle.binary_form.specs.UnitSteps.{stay}
-use Rattle.binary_form.specs.BinaryForm.{IsNumberOf, IsReachedNumber, MakesNumber, IsProductNumber, IsProductOf, HasProduct}
+use Rattle.binary_form.specs.BinaryForm.{IsNumberOf, IsReachedNumber, MakesNumber, IsProductNumber, IsProductOf, AddsProductOf, HasProduct}
 use Rattle.number_graph.specs.Graphs.{HasLink}
 use Rattle.binary_form.specs.Wholes.{IsWhole, AreWholes}
 use Rattle.binary_form.specs.Forms.{AreClosures}
-use Rattle.binary_form.specs.Products.{OneGives, GoesOn, IsInCellAt, WholeGives, ItemGives, IsItemMet, LinksGoOnBelow}
+use Rattle.binary_form.specs.Products.{Adds, AreBelow, OneGives, GoesOn, IsInCellAt, WholeGives, ItemGives, IsItemMet, LinksGoOnBelow}
 use Rattle.binary_form.proofs.ItemLemmas.{suffix_symbol}
 use Rattle.binary_form.proofs.NumberLemmas.{number_is_one, numbers_below, number-suffix-suc}
 
@@ -28,6 +28,18 @@ links_go_on g links wholes item whole has =
     let is = (wholes.links item whole).0 has in
     let below = numbers_below g (suffix is.r (suc is.p)) is.goes_on in
     omega (arith, below, next_number g item whole is)
+
+-- what is added to a list without numbers is the product
+pub product_from_none :
+    (g : Expansion) (left right none cell : List ℕ)
+    → none ≡ [] → AddsProductOf g left right none cell → IsProductOf g left right cell
+product_from_none g left right none cell empty added n = (to, (λ x. (added n).1 (inr x)))
+  where
+    to : Contains cell n → IsProductNumber g left right n
+    to has = elim ((added n).0 has) [
+      | inl kept ↦ absurd (omega (arith, kept.1, ap length empty))
+      | inr x ↦ x
+    ]
 
 module _ {C : Type 0} (symbols : C → List ℕ) (g : Expansion) (cells : List C) (links : List (List ℕ))
     (closures : AreClosures symbols g cells) (wholes : AreWholes g links) where
@@ -108,15 +120,29 @@ module _ {C : Type 0} (symbols : C → List ℕ) (g : Expansion) (cells : List C
     (λ x. (x.0, x.2, makes_given right x.0 x.1 n x.3 x.4)),
   )
 
-  -- a cell with what the items of the left cell give is the product
-  pub product_is :
-      (left right cell : List ℕ)
-      → ((n : ℕ) → Contains cell n ↔ OneGives (ItemGives symbols cells links right) left n)
-      → IsProductOf g left right cell
-  product_is left right cell given n = (
-    (λ has. (product_number left right n).0 ((given n).0 has)),
-    (λ x. (given n).1 ((product_number left right n).1 x)),
-  )
+  -- a cell with what the items of the left cell give has the product too
+  pub product_added :
+      (left right old new : List ℕ)
+      → Adds (OneGives (ItemGives symbols cells links right) left) old new
+      → AddsProductOf g left right old new
+  product_added left right old new given n = (to, back)
+    where
+      to : Contains new n → Contains old n ⊎ IsProductNumber g left right n
+      to has = elim ((given n).0 has) [
+        | inl kept ↦ inl kept
+        | inr added ↦ inr ((product_number left right n).0 added)
+      ]
+
+      back : Contains old n ⊎ IsProductNumber g left right n → Contains new n
+      back (inl kept) = (given n).1 (inl kept)
+      back (inr x) = (given n).1 (inr ((product_number left right n).1 x))
+
+  -- each closure has numbers of symbols alone
+  pub closures_below : AreBelow symbols (length cells) cells
+  closures_below at n cell is has =
+      let reached = ((closures.each at cell is) n).0 has in
+      let number = reached.2.1 in
+      omega (arith, closures.count, numbers_below g reached.2.0 number.0, number.1)
 
   -- the product has a symbol exactly where an item of the left cell is met
   pub met_is :

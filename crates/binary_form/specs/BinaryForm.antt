@@ -1,5 +1,5 @@
 -- What a caller sees of the binary form of a grammar.
-use Rattle.std.specs.Prelude.{◌≡◌, ℕ, suc, ◌<◌, ◌≤◌, ◌↔◌, List, [], Option, Some, length, Contains}
+use Rattle.std.specs.Prelude.{◌≡◌, ℕ, suc, ◌<◌, ◌≤◌, ◌↔◌, ◌⊎◌, List, [], Option, Some, length, Contains}
 use Rattle.std.specs.Prelude.{Result, Ok, Err}
 use Rattle.spec_grammar.specs.declared.rule.Symbol.{Symbol}
 use Rattle.spec_grammar.specs.declared.rule.Symbol.TheVariants.{Kind}
@@ -53,6 +53,11 @@ IsProductNumber g left right n =
 -- the cell has just the numbers of the product of the two
 abbrev pub IsProductOf : Expansion → List ℕ → List ℕ → List ℕ → Type 0
 IsProductOf g left right cell = (n : ℕ) → Contains cell n ↔ IsProductNumber g left right n
+
+-- the new cell has the numbers of the old one, and those of the product of the two
+abbrev pub AddsProductOf : Expansion → List ℕ → List ℕ → List ℕ → List ℕ → Type 0
+AddsProductOf g left right old new =
+    (n : ℕ) → Contains new n ↔ (Contains old n ⊎ IsProductNumber g left right n)
 
 -- the product of the two cells has a symbol
 abbrev pub HasProduct : Expansion → List ℕ → List ℕ → Type 0

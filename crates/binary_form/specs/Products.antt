@@ -40,6 +40,11 @@ abbrev pub IsItemMet : List (List ℕ) → List ℕ → ℕ → Type 0
 IsItemMet links right item =
     (whole : ℕ) × Contains (slice_index_or links item []) whole × GoesOn right whole
 
+-- each cell has numbers below the count alone
+abbrev pub AreBelow : {C : Type 0} → (C → List ℕ) → ℕ → List C → Type 0
+AreBelow {C = C} symbols count cells =
+    (at n : ℕ) (cell : C) → slice_get cells at ≡ Some cell → Contains (symbols cell) n → n < count
+
 -- the wholes are numbers below the count, and so are those of the suffixes behind their items
 abbrev pub GoOnBelow : ℕ → List ℕ → Type 0
 GoOnBelow count wholes = (whole : ℕ) → Contains wholes whole → whole + 1 < count

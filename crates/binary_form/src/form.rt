@@ -3,7 +3,7 @@ ghost use Rattle.std.specs.Prelude.{◌≡◌, ◌<◌, ◌≤◌, ◌↔◌, So
 ghost use Rattle.spec_lbnf.specs.Expansion.{IsSymbolOf, HasOwnSymbols, symbol_count};
 ghost use Rattle.binary_form.specs.Symbols.{plain, suffix, IsBinarySymbolOf, number_of};
 ghost use Rattle.binary_form.specs.BinaryForm.{IsNullableNumber, IsClosureOf, IsTokenCell};
-ghost use Rattle.binary_form.specs.BinaryForm.{IsProductOf, HasProduct};
+ghost use Rattle.binary_form.specs.BinaryForm.{IsProductOf, AddsProductOf, HasProduct};
 ghost use Rattle.binary_form.specs.Forms.{AreParts};
 
 use crate::product::{is_met, product_of};
@@ -149,7 +149,24 @@ impl<C: Cell> Binary<C> {
         ensures { IfOk result (λ cell.
             IsProductOf self.now (C.symbols left.now) (C.symbols right.now) (C.symbols cell)) }
     {
-        product_of(alloc, self.closures.as_slice(), &self.wholes, left, right)
+        self.add_product(alloc, C::empty(), left, right)
+    }
+
+    /// The cell with the product of two others. It looks where `product` looks, and makes a union
+    /// for each suffix whose closure the cell does not have yet. An error is want of memory.
+    pub fn add_product(&self, alloc: Global, cell: C, left: &C, right: &C) -> Result<C, AllocError>
+        ensures { IfOk result (λ new.
+            AddsProductOf self.now (C.symbols left.now) (C.symbols right.now)
+            (C.symbols cell) (C.symbols new)) }
+    {
+        product_of(
+            alloc,
+            self.closures.as_slice(),
+            &self.wholes,
+            left,
+            right,
+            cell,
+        )
     }
 
     /// Whether the product of the two cells has a symbol. It takes no memory, and stops at the

@@ -1,6 +1,6 @@
 //! The product of two cells: look-ups and unions alone.
 ghost use Rattle.std.specs.Prelude.{◌≡◌, ◌+◌, ◌<◌, ◌≤◌, ◌↔◌, ℕ, length, Contains, IsTrue, IfOk};
-ghost use Rattle.binary_form.specs.Products.{Adds, GoesOn, GoOnBelow, IsItemMet, IsNextBelow};
+ghost use Rattle.binary_form.specs.Products.{Adds, AreBelow, GoesOn, GoOnBelow, IsItemMet, IsNextBelow};
 ghost use Rattle.binary_form.specs.Products.{ItemGives, LinksGoOnBelow, OneGives, WholeGives};
 
 use cell_sets::Cell;
@@ -19,7 +19,26 @@ fn next_below<C: Cell>(cell: &C, from: u16, count: usize) -> Option<u16>
     }
 }
 
-/// The cell with the closure of the whole, where it goes on with a symbol of the right cell.
+/// Whether the cell has each symbol of the part. The symbols of the part are below the count.
+fn has_all<C: Cell>(cell: &C, part: &C, count: usize) -> bool
+    requires below { (n : ℕ) → Contains (C.symbols part.now) n → n < count }
+    requires few { count ≤ 2048 }
+    requires room { count ≤ C.ROOM }
+    ensures { IsTrue result
+        → (n : ℕ) → Contains (C.symbols part.now) n → Contains (C.symbols cell.now) n }
+{
+    let mut from = 0;
+    while let Some(symbol) = next_below(part, from, count) {
+        if !cell.has(symbol) {
+            return false;
+        }
+        from = symbol + 1;
+    }
+    true
+}
+
+/// The cell with the closure of the whole, where it goes on with a symbol of the right cell. No
+/// memory is taken where the cell has that closure.
 fn with_whole<C: Cell>(
     alloc: Global,
     closures: &[C],
@@ -28,17 +47,21 @@ fn with_whole<C: Cell>(
     cell: C,
 ) -> Result<C, AllocError>
     requires below { whole + 1 < length closures.now }
+    requires closed { AreBelow C.symbols (length closures.now) closures.now }
     requires few { length closures.now ≤ 2048 }
     requires room { length closures.now ≤ C.ROOM }
     ensures { IfOk result (λ new.
         Adds (WholeGives C.symbols closures.now (C.symbols right.now) whole)
         (C.symbols cell) (C.symbols new)) }
 {
-    if right.has(whole + 1) {
-        cell.union(alloc, &closures[whole as usize])
-    } else {
-        Ok(cell)
+    if !right.has(whole + 1) {
+        return Ok(cell);
     }
+    let closure = &closures[whole as usize];
+    if has_all(&cell, closure, closures.len()) {
+        return Ok(cell);
+    }
+    cell.union(alloc, closure)
 }
 
 /// The cell with the closures of the wholes that go on with a symbol of the right cell.
@@ -50,6 +73,7 @@ fn with_wholes<C: Cell>(
     start: C,
 ) -> Result<C, AllocError>
     requires below { GoOnBelow (length closures.now) wholes.now }
+    requires closed { AreBelow C.symbols (length closures.now) closures.now }
     requires few { length closures.now ≤ 2048 }
     requires room { length closures.now ≤ C.ROOM }
     ensures { IfOk result (λ new.
@@ -63,24 +87,26 @@ fn with_wholes<C: Cell>(
     Ok(cell)
 }
 
-/// The closures of all wholes that begin with a symbol of the left cell and go on with one of the
-/// right cell, as one cell.
+/// The cell with the closures of all wholes that begin with a symbol of the left cell and go on with
+/// one of the right cell.
 pub fn product_of<C: Cell>(
     alloc: Global,
     closures: &[C],
     wholes: &Links,
     left: &C,
     right: &C,
+    start: C,
 ) -> Result<C, AllocError>
     requires count { length wholes.now ≡ length closures.now }
+    requires closed { AreBelow C.symbols (length closures.now) closures.now }
     requires below { LinksGoOnBelow (length closures.now) wholes.now }
     requires few { length closures.now ≤ 2048 }
     requires room { length closures.now ≤ C.ROOM }
-    ensures { IfOk result (λ cell. (n : ℕ) → Contains (C.symbols cell) n
-        ↔ OneGives (ItemGives C.symbols closures.now wholes.now (C.symbols right.now))
-        (C.symbols left.now) n) }
+    ensures { IfOk result (λ cell.
+        Adds (OneGives (ItemGives C.symbols closures.now wholes.now (C.symbols right.now))
+        (C.symbols left.now)) (C.symbols start) (C.symbols cell)) }
 {
-    let mut cell = C::empty();
+    let mut cell = start;
     let mut from = 0;
     while let Some(item) = next_below(left, from, wholes.count()) {
         cell = with_wholes(alloc, closures, wholes.from(item), right, cell)?;

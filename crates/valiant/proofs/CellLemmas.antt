@@ -49,24 +49,25 @@ get_set_other (y ∷ ys) (suc k) (suc j) x other =
     get_set_other ys k j x (λ same. other (ap suc same))
 
 module _ {C : Type 0} (symbols : C → List ℕ) (g : Expansion) (left : List ℕ) where
-  -- a union with the product, written at the end of an entry, adds the cut
+  -- a cell with the product too, written at the end of an entry in the place of what stood there
+  -- meanwhile, adds the cut
   pub cut_set :
-      (e : Entry C) (cells : List C) (cell product both : C)
+      (e : Entry C) (cells : List C) (cell other both : C)
       → e.end < length cells → cell ≡ get_or cells e.end cell
-      → IsProductOf g left (symbols e.cell) (symbols product)
-      → IsUnion (symbols cell) (symbols product) (symbols both)
-      → AddsCut symbols g left e cells (set cells e.end both)
-  cut_set e cells cell product both within is made union = record {
-    count = length-set cells e.end both;
+      → AddsProduct g left (symbols e.cell) (symbols cell) (symbols both)
+      → AddsCut symbols g left e cells (set (set cells e.end other) e.end both)
+  cut_set e cells cell other both within is adds = record {
+    count = length-set (set cells e.end other) e.end both ∙ length-set cells e.end other;
     at = λ c d is_c is_d.
         let is_cell : slice_get cells e.end ≡ Some cell =
         slice_get_read cells (length cells) e.end cell refl within is in
-        let is_both = get_set_same cells e.end both within in
+        let inside : e.end < length (set cells e.end other) = omega (arith, within, length-set cells e.end other) in
+        let is_both = get_set_same (set cells e.end other) e.end both inside in
         let same_c : cell ≡ c = cc in
         let same_d : both ≡ d = cc in
-        rw (← same_c, ← same_d)
-        (adds_product g left (symbols e.cell) (symbols cell) (symbols product) (symbols both) made union);
-    others = λ j other. get_set_other cells e.end j both other;
+        rw (← same_c, ← same_d) adds;
+    others = λ j apart.
+        get_set_other (set cells e.end other) e.end j both apart ∙ get_set_other cells e.end j other apart;
   }
 
   -- a row without entries adds nothing

@@ -12,6 +12,7 @@ use binary_form::Binary;
 use cell_sets::Cell;
 use sqlite_items::Items;
 use std::alloc::{AllocError, Global};
+use std::mem;
 
 /// The cells of all ends, with what one cut gives at the end of the entry: its left part has the
 /// symbols of `left`, and its right part is the entry.
@@ -26,12 +27,9 @@ fn with_cut<C: Cell>(
     ensures { IfOk result (λ new.
         AddsCut C.symbols bin.now (C.symbols left.now) entry.now cells.items new.items) }
 {
-    if !bin.meets(left, &entry.cell) {
-        return Ok(cells);
-    }
     let end = entry.end as usize;
-    let product: C = bin.product(alloc, left, &entry.cell)?;
-    let both = cells[end].union(alloc, &product)?;
+    let cell = mem::replace(&mut cells[end], C::empty());
+    let both: C = bin.add_product(alloc, cell, left, &entry.cell)?;
     cells[end] = both;
     Ok(cells)
 }

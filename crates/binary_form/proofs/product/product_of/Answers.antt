@@ -14,7 +14,7 @@ loop-item-preserved g c =
     let next = c.in-Some.ensures in (
       omega (arith, next.1, c.count.ensures),
       given_more (ItemGives symbols c.args.closures.now c.args.wholes.now (symbols c.args.right.now))
-          (symbols c.args.left.now) c.count.result c.loop-item.from c.in-Some.item
+          (symbols c.args.left.now) (symbols c.args.start) c.count.result c.loop-item.from c.in-Some.item
           (symbols c.loop-item.cell) (symbols c.in_ok-cell.cell) next c.loop-item.invariant.1
           (rw c.from.ensures at c.in_ok-cell.ensures),
     )
@@ -23,5 +23,5 @@ pub returns : goal.returns
 returns g c =
     let symbols = g.C.Cell.symbols in
     given_all (ItemGives symbols c.args.closures.now c.args.wholes.now (symbols c.args.right.now))
-    (symbols c.args.left.now) c.count.result c.loop-item.from (symbols c.loop-item.cell) c.in_default.ensures
+    (symbols c.args.left.now) (symbols c.args.start) c.count.result c.loop-item.from (symbols c.loop-item.cell) c.in_default.ensures
     (λ item n given. rw c.count.ensures (link_within c.args.wholes.now item given.0 given.1)) c.loop-item.invariant.1

@@ -1,11 +1,28 @@
 use Rattle.std.proofs.Common.{◌<◌, length, refl, arith}
+use Rattle.std.proofs.lemmas.Bool.{false≢true}
+use Rattle.std.proofs.lemmas.Option.{slice_get_read}
 use Rattle.std.proofs.lemmas.Result.{IfOk-weaker}
 use Rattle.binary_form.specs.Products.{Adds, WholeGives}
-use Rattle.binary_form.proofs.GivingLemmas.{adds_closure}
+use Rattle.binary_form.proofs.GivingLemmas.{adds_closure, adds_known}
 use Rattle.binary_form.proofs.product.with_whole.Goals as goal
 
-pub returns-then-has : goal.returns-then-has
-returns-then-has g c =
+pub has_all-requires-clause-below : goal.has_all-requires-clause-below
+has_all-requires-clause-below g c κs alive n has =
+    let closures = c.args.closures.now in
+    let within : c.args.whole < length closures = omega (arith, c.requires.below) in
+    c.requires.closed c.args.whole n c.index-closures-whole.result
+    (slice_get_read closures (length closures) c.args.whole c.index-closures-whole.result refl within c.index-closures-whole.is) has
+
+pub returns-then-has_all : goal.returns-then-has_all
+returns-then-has_all g c =
+    let symbols = g.C.Cell.symbols in
+    let closures = c.args.closures.now in
+    let within : c.args.whole < length closures = omega (arith, c.requires.below) in
+    adds_known symbols closures (symbols c.args.right.now) c.args.whole c.index-closures-whole.result (symbols c.args.cell)
+    within c.index-closures-whole.is (c.has_all.ensures c.if-has_all.true)
+
+pub returns : goal.returns
+returns g c =
     let symbols = g.C.Cell.symbols in
     let closures = c.args.closures.now in
     let right = symbols c.args.right.now in
@@ -13,5 +30,5 @@ returns-then-has g c =
     IfOk-weaker c.union.result _
     (λ new. Adds (WholeGives symbols closures right c.args.whole) (symbols c.args.cell) (symbols new))
     (λ new. adds_closure symbols closures right c.args.whole c.index-closures-whole.result (symbols c.args.cell)
-    (symbols new) (c.if-has.ensures.0 refl) within c.index-closures-whole.is)
+    (symbols new) (c.has.ensures.0 c.if-not-has.false) within c.index-closures-whole.is)
     c.union.ensures.ok

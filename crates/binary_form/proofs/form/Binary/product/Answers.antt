@@ -1,21 +1,14 @@
+-- What is added to no symbols is the product.
 use Rattle.std.proofs.lemmas.Result.{IfOk-weaker}
 use Rattle.binary_form.specs.BinaryForm.{IsProductOf}
-use Rattle.binary_form.proofs.WholeLemmas.{links_go_on, product_is}
+use Rattle.binary_form.proofs.WholeLemmas.{product_from_none}
 use Rattle.binary_form.proofs.form.Binary.product.Goals as goal
-
-pub product_of-requires-clause-below : goal.product_of-requires-clause-below
-product_of-requires-clause-below g c κs within =
-    let parts = rw c.self.view_is at c.self.invariant.0 in
-    rw (c.as_slice.ensures.value, parts.closures.count)
-    (links_go_on c.args.self.now c.self.inside.wholes parts.wholes)
 
 pub returns : goal.returns
 returns g c =
-    let parts = rw c.self.view_is at c.self.invariant.0 in
     let symbols = g.C.Cell.symbols in
     let left = symbols c.args.left.now in
     let right = symbols c.args.right.now in
-    IfOk-weaker c.product_of.result _ (λ cell. IsProductOf c.args.self.now left right (symbols cell))
-    (λ cell. product_is symbols c.args.self.now c.self.inside.closures.items c.self.inside.wholes parts.closures
-    parts.wholes left right (symbols cell))
-    (rw c.as_slice.ensures.value at c.product_of.ensures)
+    IfOk-weaker c.add_product.result _ (λ cell. IsProductOf c.args.self.now left right (symbols cell))
+    (λ cell. product_from_none c.args.self.now left right (symbols c.empty.result) (symbols cell) c.empty.ensures.items)
+    c.add_product.ensures
