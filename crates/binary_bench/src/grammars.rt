@@ -39,43 +39,74 @@ pub fn chain(alloc: Global, count: u16) -> Option<Grammar> {
         rules.push(rule(alloc, category - 1, &[next]).ok()?).ok()?;
     }
     if count > 0 {
-        rules.push(rule(alloc, count - 1, &[Symbol::Kind(0)]).ok()?).ok()?;
+        rules
+            .push(rule(alloc, count - 1, &[Symbol::Kind(0)]).ok()?)
+            .ok()?;
     }
     let names = categories(alloc, count as usize).ok()?;
     Grammar::of_rules(rules, names, kinds(alloc, 1).ok()?)
 }
 
 const PROGRAM: u16 = 0;
+
 const DEFS: Symbol = Symbol::Category(1);
+
 const DEF: Symbol = Symbol::Category(2);
+
 const TYPE: Symbol = Symbol::Category(3);
+
 const PARAMS: Symbol = Symbol::Category(4);
+
 const PARAM: Symbol = Symbol::Category(5);
+
 const STMS: Symbol = Symbol::Category(6);
+
 const STM: Symbol = Symbol::Category(7);
+
 const EXP: Symbol = Symbol::Category(8);
+
 const SUM: Symbol = Symbol::Category(9);
+
 const PRODUCT: Symbol = Symbol::Category(10);
+
 const ATOM: Symbol = Symbol::Category(11);
+
 const EXPS: Symbol = Symbol::Category(12);
 
 const NAME: Symbol = Symbol::Kind(0);
+
 const NUMBER: Symbol = Symbol::Kind(1);
+
 const OPEN: Symbol = Symbol::Kind(2);
+
 const CLOSE: Symbol = Symbol::Kind(3);
+
 const BEGIN: Symbol = Symbol::Kind(4);
+
 const END: Symbol = Symbol::Kind(5);
+
 const COMMA: Symbol = Symbol::Kind(6);
+
 const SEMICOLON: Symbol = Symbol::Kind(7);
+
 const INT: Symbol = Symbol::Kind(8);
+
 const BOOL: Symbol = Symbol::Kind(9);
+
 const IS: Symbol = Symbol::Kind(10);
+
 const WHILE: Symbol = Symbol::Kind(11);
+
 const IF: Symbol = Symbol::Kind(12);
+
 const ELSE: Symbol = Symbol::Kind(13);
+
 const RETURN: Symbol = Symbol::Kind(14);
+
 const LESS: Symbol = Symbol::Kind(15);
+
 const PLUS: Symbol = Symbol::Kind(16);
+
 const TIMES: Symbol = Symbol::Kind(17);
 
 /// The rules of a small imperative language, with lists and levels of expressions written out.

@@ -103,8 +103,14 @@ fn rules_keep_file_order_and_get_numbers(rt: HostRuntime) -> Result<(), Fail> {
 fn the_entry_is_the_category_of_the_first_rule(rt: HostRuntime) -> Result<(), Fail> {
     let cases = [
         (SUMS, b"Exp".as_slice()),
-        (b"A . T ::= \"x\"; B . S ::= T T".as_slice(), b"T".as_slice()),
-        (b"B . S ::= T T; A . T ::= \"x\"".as_slice(), b"S".as_slice()),
+        (
+            b"A . T ::= \"x\"; B . S ::= T T".as_slice(),
+            b"T".as_slice(),
+        ),
+        (
+            b"B . S ::= T T; A . T ::= \"x\"".as_slice(),
+            b"S".as_slice(),
+        ),
     ];
     for (bytes, name) in cases {
         let grammar = expanded(rt.alloc(), bytes)
@@ -112,7 +118,11 @@ fn the_entry_is_the_category_of_the_first_rule(rt: HostRuntime) -> Result<(), Fa
             .ok()
             .ok_or("a grammar")?;
         assert_eq!(rt; grammar.entry(), Some(Symbol::Category(0)), "at {bytes:?}");
-        assert_eq!(rt; grammar.find(name), Some(Symbol::Category(0)), "at {bytes:?}");
+        assert_eq!(rt;
+            grammar.find(name),
+            Some(Symbol::Category(0)),
+            "at {bytes:?}"
+        );
     }
     Ok(())
 }

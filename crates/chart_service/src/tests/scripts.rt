@@ -347,7 +347,11 @@ pub(super) const ANSWERED: &[(&str, &[u8], &[u8])] = &[
         b"end\nhas\n\xff\0",
         b"end\n",
     ),
-    ("the entry over the whole text", b"has\nend\n", b"yes\nend\n"),
+    (
+        "the entry over the whole text",
+        b"has\nend\n",
+        b"yes\nend\n",
+    ),
     (
         "a category over the whole text",
         b"has S\nend\n",
