@@ -13,6 +13,7 @@ IsKnown defs name = Contains (map (λ (rule : RawRule). category_text rule.cat) 
 -- each category that the definition names among its items is known
 abbrev pub NamesKnown : List Def → Def → Type 0
 NamesKnown defs (RuleDef rule) = All (IsKnown defs) (item_categories rule.items)
+NamesKnown defs other = Unit {0}
 
 -- each definition names known categories alone
 abbrev pub AreAllKnown : List Def → Type 0

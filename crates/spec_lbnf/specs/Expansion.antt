@@ -48,6 +48,7 @@ category_text cat = replicate cat.depth 91 ++ (cat.name ++ replicate cat.depth 9
 -- the rules that a definition gives, in order: a rule gives itself
 abbrev pub rules_of_def : Def → List RawRule
 rules_of_def (RuleDef rule) = rule ∷ []
+rules_of_def other = []
 
 -- the rules that the definitions give, in file order
 abbrev pub rules_of : List Def → List RawRule

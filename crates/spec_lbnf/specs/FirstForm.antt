@@ -122,6 +122,7 @@ rule_of label cat items =
 -- the definition and its items, counted together
 abbrev pub def_size : Def → ℕ
 def_size (Rule rule) = 1 + length rule.items
+def_size other = 1
 
 -- the definitions and their items, counted together
 abbrev pub size_of : List Def → ℕ

@@ -3,3 +3,7 @@ pub mod Expansion
 pub mod Checks
 pub mod Laws
 pub mod Reading
+pub mod FileTokens
+pub mod GrammarFile
+pub mod Faults
+pub mod FileReading

@@ -28,5 +28,26 @@ pub struct RawRule {
 /// A definition of a grammar file.
 #[derive(Debug, Drop)]
 pub enum Def {
+    /// `Label . Cat ::= Items`.
     Rule(RawRule),
+    /// `internal Label . Cat ::= Items`: a rule for trees alone, which no text is read by.
+    Internal(RawRule),
+    /// `terminator Cat "word"`: lists of the category, with the word behind each element; with
+    /// `nonempty` they have one element or more.
+    Terminator {
+        nonempty: bool,
+        cat: CatName,
+        word: Name,
+    },
+    /// `separator Cat "word"`: lists of the category, with the word between two elements; with
+    /// `nonempty` they have one element or more.
+    Separator {
+        nonempty: bool,
+        cat: CatName,
+        word: Name,
+    },
+    /// `coercions Name levels`: the levels of precedence above the category.
+    Coercions { name: Name, levels: u16 },
+    /// `entrypoints Cat, Cat`: the categories that a text may be asked for, one or more.
+    Entry(Items<CatName>),
 }

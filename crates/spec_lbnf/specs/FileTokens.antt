@@ -1,0 +1,178 @@
+-- The tokens of a grammar file, by longest match, and what separates them.
+use Rattle.std.specs.Prelude.{◌≡◌, ℕ, ◌+◌, ◌<◌, ◌≤◌, ◌⊎◌, List, [], ◌∷◌, ◌++◌, length, codes, Bool}
+use Rattle.std.specs.Prelude.{true, false, ◌||◌, ◌&&◌, nat_le, All, Contains, map, flat_map, cond}
+use Rattle.std.specs.Prelude.{Option, Some, None, nat_eq, not, IfSome}
+use Rattle.std.specs.Char.{IsScalar, encode_utf8}
+use Rattle.std.specs.Str.Parse.{digits_value}
+use Rattle.spec_lbnf.specs.declared.token.Sign.{Sign}
+use Rattle.spec_lbnf.specs.declared.token.Sign.TheVariants.{Dot, Semicolon, Gives, Colon}
+use Rattle.spec_lbnf.specs.declared.token.Sign.TheVariants.{OpenBracket, CloseBracket}
+use Rattle.spec_lbnf.specs.declared.token.Sign.TheVariants.{OpenParen, CloseParen, OpenBrace}
+use Rattle.spec_lbnf.specs.declared.token.Sign.TheVariants.{CloseBrace, Comma, Bar, Star, Plus}
+use Rattle.spec_lbnf.specs.declared.token.Sign.TheVariants.{Question, Minus, Underscore}
+use Rattle.spec_lbnf.specs.declared.token.FileToken.{FileToken}
+use Rattle.spec_lbnf.specs.declared.token.FileToken.TheVariants.{Identifier, Number, Text}
+use Rattle.spec_lbnf.specs.declared.token.FileToken.TheVariants.{Character}
+use Rattle.spec_lbnf.specs.declared.token.FileToken.TheVariants.{Sign as SignToken}
+use Rattle.spec_lbnf.specs.declared.token.PlacedToken.{PlacedToken}
+use Rattle.spec_lbnf.specs.FirstForm.{is_white, is_upper, is_name_byte, Stops}
+
+-- the byte is a letter
+abbrev pub is_letter : ℕ → Bool
+is_letter byte = is_upper byte || (nat_le 97 byte && nat_le byte 122)
+
+-- the byte is a digit
+abbrev pub is_digit : ℕ → Bool
+is_digit byte = nat_le 48 byte && nat_le byte 57
+
+-- the bytes begin with one that passes
+abbrev pub Begins : (ℕ → Bool) → List ℕ → Type 0
+Begins passes [] = ⊥
+Begins passes (byte ∷ bytes) = passes byte ≡ true
+
+-- the bytes begin with these
+abbrev pub BeginsAs : List ℕ → List ℕ → Type 0
+BeginsAs front bytes = (rest : List ℕ) × (bytes ≡ front ++ rest)
+
+-- the closing text stands at the end of the bytes, and nowhere before
+pub record EndsFirst (bytes closing : List ℕ) : Type 0 where
+  pub inside : List ℕ
+  pub whole : bytes ≡ inside ++ closing
+  pub first : (before behind : List ℕ) → bytes ≡ before ++ (closing ++ behind) → behind ≡ []
+
+-- one white byte stands before the rest
+abbrev pub IsWhiteBefore : List ℕ → List ℕ → Type 0
+IsWhiteBefore bytes rest = (byte : ℕ) × (is_white byte ≡ true) × (bytes ≡ byte ∷ rest)
+
+-- a line comment stands before the rest: two hyphens, and what is left of the line
+pub record IsLineComment (bytes rest : List ℕ) : Type 0 where
+  pub line : List ℕ
+  pub on_line : All (λ byte. nat_eq byte 10 ≡ false) line
+  pub stops : Stops (λ byte. not (nat_eq byte 10)) rest
+  pub whole : bytes ≡ codes "--" ++ (line ++ rest)
+
+-- a block comment stands before the rest: from its opening text to the next closing text
+pub record IsBlockComment (bytes rest : List ℕ) : Type 0 where
+  pub block : List ℕ
+  pub closed : EndsFirst block (codes "-}")
+  pub whole : bytes ≡ codes "{-" ++ (block ++ rest)
+
+-- what separates tokens stands before the rest: a white byte or a comment
+abbrev pub Separates : List ℕ → List ℕ → Type 0
+Separates bytes rest =
+    IsWhiteBefore bytes rest ⊎ (IsLineComment bytes rest ⊎ IsBlockComment bytes rest)
+
+-- any number of white bytes and comments stand before the rest
+pub data Skips : List ℕ → List ℕ → Type 0 where
+  -- none does
+  nothing : (bytes rest : List ℕ) → bytes ≡ rest → Skips bytes rest
+  -- one does, and others behind it
+  goes_on : (bytes behind rest : List ℕ) → Separates bytes behind → Skips behind rest
+      → Skips bytes rest
+
+-- the bytes are an identifier: a letter, and letters, digits, underscores and apostrophes behind
+-- it, at most 64 bytes together
+pub record IsIdentifier (bytes : List ℕ) : Type 0 where
+  pub letter : Begins is_letter bytes
+  pub each : All (λ byte. is_name_byte byte ≡ true) bytes
+  pub short : length bytes ≤ 64
+
+-- the bytes are one to four digits
+pub record IsNumber (bytes : List ℕ) : Type 0 where
+  pub some : 0 < length bytes
+  pub each : All (λ byte. is_digit byte ≡ true) bytes
+  pub short : length bytes ≤ 4
+
+-- a part of a literal as it is written: an escape, or a byte that stands for itself
+pub data LiteralPart : Type 0 where
+  plain : ℕ → LiteralPart
+  escape : ℕ → LiteralPart
+
+-- what may stand in a literal with this quote: of escapes a quote, an apostrophe, a backslash, n
+-- and t, and else any byte but the quote, a backslash and LF
+abbrev pub IsPart : ℕ → LiteralPart → Type 0
+IsPart quote (plain byte) = Contains (quote ∷ 92 ∷ 10 ∷ []) byte → ⊥
+IsPart quote (escape byte) = Contains (codes "\"'\\nt") byte
+
+-- the bytes of a part
+abbrev pub part_bytes : LiteralPart → List ℕ
+part_bytes (plain byte) = byte ∷ []
+part_bytes (escape byte) = 92 ∷ byte ∷ []
+
+-- the byte that an escape stands for: LF for n, tab for t, and itself for any other
+abbrev pub escaped : ℕ → ℕ
+escaped byte = cond (nat_eq byte 110) 10 (cond (nat_eq byte 116) 9 byte)
+
+-- the byte that a part stands for
+abbrev pub part_value : LiteralPart → ℕ
+part_value (plain byte) = byte
+part_value (escape byte) = escaped byte
+
+-- the parts, between two of this quote, stand before the rest, and the value is what they stand for
+pub record IsLiteral (quote : ℕ) (value bytes rest : List ℕ) : Type 0 where
+  pub parts : List LiteralPart
+  pub each : All (IsPart quote) parts
+  pub whole : bytes ≡ quote ∷ flat_map part_bytes parts ++ quote ∷ rest
+  pub means : value ≡ map part_value parts
+
+-- the bytes of a sign
+abbrev pub sign_bytes : Sign → List ℕ
+sign_bytes Dot = codes "."
+sign_bytes Semicolon = codes ";"
+sign_bytes Gives = codes "::="
+sign_bytes Colon = codes ":"
+sign_bytes OpenBracket = codes "["
+sign_bytes CloseBracket = codes "]"
+sign_bytes OpenParen = codes "("
+sign_bytes CloseParen = codes ")"
+sign_bytes OpenBrace = codes "{"
+sign_bytes CloseBrace = codes "}"
+sign_bytes Comma = codes ","
+sign_bytes Bar = codes "|"
+sign_bytes Star = codes "*"
+sign_bytes Plus = codes "+"
+sign_bytes Question = codes "?"
+sign_bytes Minus = codes "-"
+sign_bytes Underscore = codes "_"
+
+-- what a longer sign or the opening of a comment has behind the sign
+abbrev pub longer_by : Sign → Option (List ℕ)
+longer_by Colon = Some (codes ":=")
+longer_by OpenBrace = Some (codes "-")
+longer_by Minus = Some (codes "-")
+longer_by other = None
+
+-- no longer sign and no comment begins with the sign and goes on with the rest
+abbrev pub IsLongestSign : Sign → List ℕ → Type 0
+IsLongestSign sign rest = IfSome (longer_by sign) (λ more. BeginsAs more rest → ⊥)
+
+-- the longest token at the front of the bytes is this one, and the rest is behind it
+abbrev pub BeginsWith : FileToken → List ℕ → List ℕ → Type 0
+BeginsWith (Identifier name) bytes rest =
+    IsIdentifier name × Stops is_name_byte rest × (bytes ≡ name ++ rest)
+BeginsWith (Number value) bytes rest =
+    (digits : List ℕ) × IsNumber digits × Stops is_digit rest × (bytes ≡ digits ++ rest)
+    × (value ≡ digits_value 10 digits)
+BeginsWith (Text value) bytes rest = IsLiteral 34 value bytes rest
+BeginsWith (Character scalar) bytes rest =
+    IsScalar scalar × IsLiteral 39 (encode_utf8 scalar) bytes rest
+BeginsWith (SignToken sign) bytes rest =
+    IsLongestSign sign rest × (bytes ≡ sign_bytes sign ++ rest)
+
+-- neither a token nor what separates tokens is at the front of the bytes
+pub record IsStuck (bytes : List ℕ) : Type 0 where
+  pub no_token : (token : FileToken) (rest : List ℕ) → BeginsWith token bytes rest → ⊥
+  pub no_space : (rest : List ℕ) → Separates bytes rest → ⊥
+
+-- the tokens of these bytes, the last of a text of so many, are these, up to the place at which no
+-- token begins and the bytes may be at their end
+abbrev pub AreTokensTo : ℕ → List ℕ → List PlacedToken → ℕ → Type 0
+AreTokensTo size bytes [] stop =
+    (rest : List ℕ) × Skips bytes rest × IsStuck rest × (size ≡ stop + length rest)
+AreTokensTo size bytes (token ∷ tokens) stop =
+    (here rest : List ℕ) × Skips bytes here × (size ≡ token.place + length here)
+    × BeginsWith token.token here rest × AreTokensTo size rest tokens stop
+
+-- the tokens of the file are these, up to the place where it ends or no token begins
+abbrev pub IsScan : List ℕ → List PlacedToken → ℕ → Type 0
+IsScan bytes tokens stop = AreTokensTo (length bytes) bytes tokens stop
