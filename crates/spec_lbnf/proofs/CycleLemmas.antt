@@ -6,7 +6,7 @@ use Rattle.spec_lbnf.specs.Checks.{IsFirstCyclic}
 use Rattle.spec_lbnf.specs.Laws.{AcyclicOrCyclic, OneCyclic}
 
 -- a number is below another, the same, or above it
-three_ways : (m n : ℕ) → (m < n) ⊎ ((m ≡ n) ⊎ (n < m))
+pub three_ways : (m n : ℕ) → (m < n) ⊎ ((m ≡ n) ⊎ (n < m))
 three_ways m n = grind arith
 
 -- no grammar both is without a cycle and has a first cyclic category

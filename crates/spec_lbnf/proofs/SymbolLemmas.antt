@@ -1,5 +1,5 @@
 -- The symbols of the rules that definitions give are symbols of their grammar.
-use Rattle.std.proofs.Common.{◌≡◌, ℕ, zero, suc, ◌<◌, List, [], ◌∷◌, length, map, Some, Contains, slice_get, sym, subst, ap, option_map, ◌∙◌, arith}
+use Rattle.std.proofs.Common.{◌≡◌, ℕ, zero, suc, ◌<◌, List, [], ◌∷◌, ◌++◌, length, map, Some, Contains, slice_get, sym, subst, ap, option_map, ◌∙◌, arith}
 use Rattle.std.specs.List.{flat_map, AllByRecursion}
 use Rattle.std.proofs.lemmas.List.{length-map}
 use Rattle.std.proofs.lemmas.List.Elements.{All-from_recursion, Contains-append_left, Contains-append_right, Contains-get_or}
@@ -9,7 +9,7 @@ use Rattle.spec_lbnf.specs.declared.definition.RawItem.{RawItem}
 use Rattle.spec_lbnf.specs.declared.definition.RawItem.TheVariants.{Cat, Word}
 use Rattle.spec_lbnf.specs.declared.definition.RawRule.{RawRule}
 use Rattle.spec_lbnf.specs.declared.definition.Def.{Def}
-use Rattle.spec_lbnf.specs.Expansion.{IsSymbolOf, HasSymbolsOf, category_text, rules_of, item_categories, item_words, categories_of, words_of, distinct, number_of, symbol_of, numbered_rule, expansion_of}
+use Rattle.spec_lbnf.specs.Expansion.{IsSymbolOf, HasSymbolsOf, category_text, rules_of, item_categories, item_words, met_categories, internal_category, categories_of, words_of, distinct, number_of, symbol_of, numbered_rule, expansion_of}
 use Rattle.spec_lbnf.specs.Laws.{OwnSymbols}
 use Rattle.spec_lbnf.proofs.NameLemmas.{numbers_name_back, distinct_names}
 use Rattle.spec_lbnf.proofs.FileLemmas.{item_at}
@@ -19,7 +19,7 @@ abbrev AreNumbered : List (List ℕ) → List (List ℕ) → Type 0
 AreNumbered list names = (name : List ℕ) → Contains names name → number_of list name < length list
 
 -- names are numbered by the list of them without repetitions
-distinct_number : (names : List (List ℕ)) → AreNumbered (distinct names) names
+pub distinct_number : (names : List (List ℕ)) → AreNumbered (distinct names) names
 distinct_number names name there =
     let listed : Contains (distinct names) name = ((distinct_names names).same name).1 there in
     slice_get_within (distinct names) (number_of (distinct names) name) name (numbers_name_back (distinct names) name listed)
@@ -41,10 +41,21 @@ first_there name names = Contains-get_or (name ∷ names) 0 name (omega arith)
 behind_there : (first name : List ℕ) (names : List (List ℕ)) → Contains names name → Contains (first ∷ names) name
 behind_there first name names there = Contains-append_right (first ∷ []) names name there
 
+-- the categories of the rules and of the internal rules, with repetitions
+abbrev pub category_names : List Def → List (List ℕ)
+category_names defs = flat_map met_categories (rules_of defs) ++ flat_map internal_category defs
+
+-- the categories that a rule meets are among them
+rule_met : (defs : List Def) (r : ℕ) (rule : RawRule) (name : List ℕ) → slice_get (rules_of defs) r ≡ Some rule
+    → Contains (met_categories rule) name → Contains (category_names defs) name
+rule_met defs r rule name is there =
+    Contains-append_left (flat_map met_categories (rules_of defs)) (flat_map internal_category defs) name
+    (given_there met_categories (rules_of defs) r rule name is there)
+
 module _ (defs : List Def) where
   -- the categories of the grammar
   abbrev categories : List (List ℕ)
-  categories = categories_of (rules_of defs)
+  categories = categories_of defs
 
   -- the words of the grammar
   abbrev words : List (List ℕ)
@@ -66,10 +77,9 @@ module _ (defs : List Def) where
   -- each rule as it is written gives one with symbols of the grammar
   rule_own : (r : ℕ) (rule : RawRule) → slice_get (rules_of defs) r ≡ Some rule → HasSymbolsOf (expansion_of defs) (numbered_rule categories words rule)
   rule_own r rule is =
-      let meets : RawRule → List (List ℕ) = λ (raw : RawRule). category_text raw.cat ∷ item_categories raw.items in
       let tells : RawRule → List (List ℕ) = λ (raw : RawRule). item_words raw.items in
-      let named : AreNumbered categories (meets rule)
-      = λ name there. distinct_number (flat_map meets (rules_of defs)) name (given_there meets (rules_of defs) r rule name is there) in
+      let named : AreNumbered categories (met_categories rule)
+      = λ name there. distinct_number (category_names defs) name (rule_met defs r rule name is there) in
       let told : AreNumbered words (tells rule)
       = λ name there. distinct_number (flat_map tells (rules_of defs)) name (given_there tells (rules_of defs) r rule name is there) in (
         named (category_text rule.cat) (first_there (category_text rule.cat) (item_categories rule.items)),

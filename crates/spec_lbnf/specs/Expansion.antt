@@ -1,7 +1,12 @@
 -- The grammar that definitions stand for: its rules in file order, and the numbers of its categories and kinds.
 use Rattle.std.specs.Prelude.{◌≡◌, ℕ, ◌+◌, ◌<◌, List, [], ◌∷◌, ◌++◌, length, map, filter, flat_map, All}
-use Rattle.std.specs.Prelude.{not, replicate, bytes_eq, Some, slice_get}
-use Rattle.std.specs.List.{position_or_len, sum_by}
+use Rattle.std.specs.Prelude.{not, replicate, bytes_eq, Some, slice_get, zero, codes, Bool, true, false}
+use Rattle.std.specs.Prelude.{cond, Option, None}
+use Rattle.std.specs.Option.{option_map, option_or}
+use Rattle.std.specs.Fmt.{decimal}
+use Rattle.std.specs.List.{position_or_len, sum_by, range_with_len}
+use Rattle.spec_grammar.specs.declared.rule.Label.TheVariants.{Wild, Nil, Cons, One}
+use Rattle.spec_lbnf.specs.GrammarFile.{words_in}
 use Rattle.spec_grammar.specs.declared.rule.Symbol.{Symbol}
 use Rattle.spec_grammar.specs.declared.rule.Symbol.TheVariants.{Category, Kind}
 use Rattle.spec_grammar.specs.declared.rule.Rule.{Rule}
@@ -12,13 +17,16 @@ use Rattle.spec_lbnf.specs.declared.definition.RawItem.{RawItem}
 use Rattle.spec_lbnf.specs.declared.definition.RawItem.TheVariants.{Cat, Word}
 use Rattle.spec_lbnf.specs.declared.definition.RawRule.{RawRule}
 use Rattle.spec_lbnf.specs.declared.definition.Def.{Def}
-use Rattle.spec_lbnf.specs.declared.definition.Def.TheVariants.{Rule as RuleDef}
+use Rattle.spec_lbnf.specs.declared.definition.Def.TheVariants.{Rule as RuleDef, Internal}
+use Rattle.spec_lbnf.specs.declared.definition.Def.TheVariants.{Terminator, Separator, Coercions, Entry}
 
--- an expanded grammar: its rules, the texts of its categories, and its kinds, each by number
+-- an expanded grammar: its rules, the texts of its categories, and its kinds, each by number, and
+-- the symbol that is asked for where none is named
 pub record Expansion : Type 0 where
   pub rules : List Rule
   pub categories : List (List ℕ)
   pub kinds : List KindDef
+  pub entry : Option Symbol
 
 -- the symbol is the grammar's: its number is below the count of categories, or of kinds
 abbrev pub IsSymbolOf : Expansion → Symbol → Type 0
@@ -45,10 +53,81 @@ symbol_count g = length g.categories + length g.kinds + item_count g.rules
 abbrev pub category_text : CatName → List ℕ
 category_text cat = replicate cat.depth 91 ++ (cat.name ++ replicate cat.depth 93)
 
--- the rules that a definition gives, in order: a rule gives itself
+-- the category of the lists of a category
+abbrev pub list_of : CatName → CatName
+list_of cat = record { name = cat.name; depth = cat.depth + 1 }
+
+-- the words as items
+abbrev pub word_items : List (List ℕ) → List RawItem
+word_items words = map Word words
+
+-- the empty list: [] . [C] ::=
+abbrev pub nil_rule : CatName → RawRule
+nil_rule cat = record { label = Nil; cat = list_of cat; items = [] }
+
+-- a list of one element, with these words behind it: (:[]) . [C] ::= C words
+abbrev pub one_rule : CatName → List (List ℕ) → RawRule
+one_rule cat words =
+    record { label = One; cat = list_of cat; items = Cat cat ∷ word_items words }
+
+-- an element, these words, and the other elements: (:) . [C] ::= C words [C]
+abbrev pub cons_rule : CatName → List (List ℕ) → RawRule
+cons_rule cat words = record {
+  label = Cons;
+  cat = list_of cat;
+  items = Cat cat ∷ word_items words ++ Cat (list_of cat) ∷ [];
+}
+
+-- lists with the words behind each element, from the empty list on, or from one element on
+abbrev pub terminator_rules : Bool → CatName → List (List ℕ) → List RawRule
+terminator_rules nonempty cat words =
+    cond nonempty (one_rule cat words) (nil_rule cat) ∷ cons_rule cat words ∷ []
+
+-- the empty list, unless lists are not empty
+abbrev pub nil_rules : Bool → CatName → List RawRule
+nil_rules true cat = []
+nil_rules false cat = nil_rule cat ∷ []
+
+-- lists with the words between each two elements; without words, as if they stood behind each
+abbrev pub separator_rules : Bool → CatName → List (List ℕ) → List RawRule
+separator_rules nonempty cat [] = terminator_rules nonempty cat []
+separator_rules nonempty cat words =
+    nil_rules nonempty cat ++ (one_rule cat [] ∷ cons_rule cat words ∷ [])
+
+-- the category of a level of precedence: the name at level 0, and else the name and the number
+abbrev pub level_category : List ℕ → ℕ → CatName
+level_category name zero = record { name = name; depth = 0 }
+level_category name level = record { name = name ++ decimal level; depth = 0 }
+
+-- from a level to the next: _ . C1 ::= C2
+abbrev pub level_rule : List ℕ → ℕ → RawRule
+level_rule name level = record {
+  label = Wild;
+  cat = level_category name level;
+  items = Cat (level_category name (level + 1)) ∷ [];
+}
+
+-- from the last level to the first, in brackets: _ . C2 ::= "(" C ")"
+abbrev pub bracket_rule : List ℕ → ℕ → RawRule
+bracket_rule name level = record {
+  label = Wild;
+  cat = level_category name level;
+  items = Word (codes "(") ∷ Cat (level_category name 0) ∷ Word (codes ")") ∷ [];
+}
+
+-- from each level below the last to the next, and from the last to the first
+abbrev pub coercion_rules : List ℕ → ℕ → List RawRule
+coercion_rules name levels =
+    map (level_rule name) (range_with_len 0 levels) ++ bracket_rule name levels ∷ []
+
+-- the rules that a definition gives, in order
 abbrev pub rules_of_def : Def → List RawRule
 rules_of_def (RuleDef rule) = rule ∷ []
-rules_of_def other = []
+rules_of_def (Internal rule) = []
+rules_of_def (Terminator nonempty cat word) = terminator_rules nonempty cat (words_in word)
+rules_of_def (Separator nonempty cat word) = separator_rules nonempty cat (words_in word)
+rules_of_def (Coercions name levels) = coercion_rules name levels
+rules_of_def (Entry cats) = []
 
 -- the rules that the definitions give, in file order
 abbrev pub rules_of : List Def → List RawRule
@@ -71,11 +150,35 @@ abbrev pub distinct : List (List ℕ) → List (List ℕ)
 distinct [] = []
 distinct (x ∷ xs) = x ∷ filter (λ y. not (bytes_eq x y)) (distinct xs)
 
--- the categories in the order in which the rules meet them, in each rule its own category first
-abbrev pub categories_of : List RawRule → List (List ℕ)
-categories_of rules =
-    distinct
-    (flat_map (λ (rule : RawRule). category_text rule.cat ∷ item_categories rule.items) rules)
+-- the category of an internal rule
+abbrev pub internal_category : Def → List (List ℕ)
+internal_category (Internal rule) = category_text rule.cat ∷ []
+internal_category other = []
+
+-- the categories that a rule meets: its own first, and then those of its items
+abbrev pub met_categories : RawRule → List (List ℕ)
+met_categories rule = category_text rule.cat ∷ item_categories rule.items
+
+-- the categories in the order in which the rules meet them, and behind these the categories that
+-- only internal rules have, in file order
+abbrev pub categories_of : List Def → List (List ℕ)
+categories_of defs =
+    distinct (flat_map met_categories (rules_of defs) ++ flat_map internal_category defs)
+
+-- the first category of the first definition of entry points
+abbrev pub first_entry : List Def → Option (List ℕ)
+first_entry [] = None
+first_entry (Entry (cat ∷ cats) ∷ defs) = Some (category_text cat)
+first_entry (other ∷ defs) = first_entry defs
+
+-- the category of the first rule
+abbrev pub first_category : List RawRule → Option (List ℕ)
+first_category [] = None
+first_category (rule ∷ rules) = Some (category_text rule.cat)
+
+-- the category that is asked for where none is named
+abbrev pub entry_text : List Def → Option (List ℕ)
+entry_text defs = option_or (first_entry defs) (first_category (rules_of defs))
 
 -- the words in the order in which the rules meet them
 abbrev pub words_of : List RawRule → List (List ℕ)
@@ -98,12 +201,17 @@ numbered_rule categories words rule = record {
   items = map (symbol_of categories words) rule.items;
 }
 
+-- the category of this text
+abbrev pub category_symbol : List (List ℕ) → List ℕ → Symbol
+category_symbol categories text = Category (number_of categories text)
+
 -- the grammar that the definitions stand for
 abbrev pub expansion_of : List Def → Expansion
 expansion_of defs =
     let rules : List RawRule = rules_of defs in
     record {
-      rules = map (numbered_rule (categories_of rules) (words_of rules)) rules;
-      categories = categories_of rules;
+      rules = map (numbered_rule (categories_of defs) (words_of rules)) rules;
+      categories = categories_of defs;
       kinds = map WordKind (words_of rules);
+      entry = option_map (category_symbol (categories_of defs)) (entry_text defs);
     }

@@ -1,10 +1,10 @@
 -- What is true of these definitions, for every file and every list of definitions.
-use Rattle.std.specs.Prelude.{◌≡◌, ℕ, ◌*◌, ◌≤◌, ◌↔◌, List, length, Some, slice_get, Contains}
+use Rattle.std.specs.Prelude.{◌≡◌, ℕ, ◌*◌, ◌≤◌, ◌↔◌, List, length, Some, slice_get, Contains, IfSome}
 use Rattle.spec_grammar.specs.Cycles.{IsAcyclic}
 use Rattle.spec_lbnf.specs.declared.definition.Def.{Def}
 use Rattle.spec_lbnf.specs.FirstForm.{Spells, IsFirstUnbuilt, size_of}
-use Rattle.spec_lbnf.specs.Expansion.{Expansion, distinct, number_of, expansion_of, HasOwnSymbols}
-use Rattle.spec_lbnf.specs.Checks.{AreAllKnown, IsFirstUnknown, IsFirstCyclic}
+use Rattle.spec_lbnf.specs.Expansion.{Expansion, distinct, number_of, expansion_of, HasOwnSymbols, IsSymbolOf}
+use Rattle.spec_lbnf.specs.Checks.{AreAllKnown, IsFirstCyclic, Unfitness, AreFit, IsUnfit}
 
 -- no file both spells definitions and has a first piece that is not built
 abbrev pub SpelledOrUnbuilt : Type 0
@@ -29,17 +29,20 @@ TwoBytesEach =
 abbrev pub OwnSymbols : Type 0
 OwnSymbols = (defs : List Def) → HasOwnSymbols (expansion_of defs)
 
--- no definitions both name known categories alone and have a first unknown one
-abbrev pub FitOrUnknown : Type 0
-FitOrUnknown =
-    (defs : List Def) (name : List ℕ) (number : ℕ) → AreAllKnown defs
-    → IsFirstUnknown defs name number → ⊥
+-- where all categories are known, the entry is a symbol of the grammar
+abbrev pub OwnEntry : Type 0
+OwnEntry =
+    (defs : List Def) → AreAllKnown defs
+    → IfSome (expansion_of defs).entry (IsSymbolOf (expansion_of defs))
 
--- at most one category, named in one definition, is the first unknown one
-abbrev pub OneUnknown : Type 0
-OneUnknown =
-    (defs : List Def) (a b : List ℕ) (i j : ℕ) → IsFirstUnknown defs a i → IsFirstUnknown defs b j
-    → (a ≡ b) × (i ≡ j)
+-- no definitions are fit and unfit
+abbrev pub FitOrUnfit : Type 0
+FitOrUnfit = (defs : List Def) (fault : Unfitness) → AreFit defs → IsUnfit defs fault → ⊥
+
+-- definitions are unfit for one reason
+abbrev pub OneUnfitness : Type 0
+OneUnfitness =
+    (defs : List Def) (a b : Unfitness) → IsUnfit defs a → IsUnfit defs b → a ≡ b
 
 -- no grammar both is without a cycle and has a first cyclic category
 abbrev pub AcyclicOrCyclic : Type 0

@@ -1,6 +1,7 @@
 //! Laws of the definitions: each function here does nothing, and its clause is a theorem.
 ghost use Rattle.spec_lbnf.specs.Laws.{SpelledOrUnbuilt, OneSpelling, OneUnbuilt, TwoBytesEach};
-ghost use Rattle.spec_lbnf.specs.Laws.{OwnSymbols, FitOrUnknown, OneUnknown, NumbersNameBack};
+ghost use Rattle.spec_lbnf.specs.Laws.{OwnSymbols, OwnEntry, FitOrUnfit, OneUnfitness};
+ghost use Rattle.spec_lbnf.specs.Laws.{NumbersNameBack};
 ghost use Rattle.spec_lbnf.specs.Laws.{AcyclicOrCyclic, OneCyclic, DistinctNames};
 
 /// No file both spells definitions and has a piece that is not built.
@@ -26,11 +27,15 @@ pub fn own_symbols()
     ensures { OwnSymbols }
 {}
 
-/// No definitions both name known categories alone and have a first unknown category, and at most
-/// one category, named in one definition, is the first.
-pub fn fit_or_unknown()
-    ensures either { FitOrUnknown }
-    ensures one { OneUnknown }
+/// No definitions pass all checks and fail one, and the first that they fail gives one fault.
+pub fn fit_or_unfit()
+    ensures either { FitOrUnfit }
+    ensures one { OneUnfitness }
+{}
+
+/// Where all categories are known, the entry is a symbol of the grammar.
+pub fn own_entry()
+    ensures { OwnEntry }
 {}
 
 /// No grammar both is without a cycle and has a first cyclic category, and at most one text is that

@@ -7,7 +7,7 @@ mod token;
 
 pub use definition::{CatName, Def, RawItem, RawRule};
 pub use laws::{
-    acyclic_or_cyclic, distinct_names, fit_or_unknown, numbers_name_back, one_spelling,
-    own_symbols, spelled_or_unbuilt, two_bytes_each,
+    acyclic_or_cyclic, distinct_names, fit_or_unfit, numbers_name_back, one_spelling,
+    own_entry, own_symbols, spelled_or_unbuilt, two_bytes_each,
 };
 pub use token::{FileToken, PlacedToken, Sign};

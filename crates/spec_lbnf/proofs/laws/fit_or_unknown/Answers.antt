@@ -1,8 +1,0 @@
-use Rattle.spec_lbnf.proofs.CheckLemmas.{fit_or_unknown, one_unknown}
-use Rattle.spec_lbnf.proofs.laws.fit_or_unknown.Goals as goal
-
-pub returns-clause-either : goal.returns-clause-either
-returns-clause-either c = fit_or_unknown
-
-pub returns-clause-one : goal.returns-clause-one
-returns-clause-one c = one_unknown
