@@ -71,7 +71,7 @@ entry_known all (Terminator nonempty cat word ∷ defs) known = entry_known all 
 entry_known all (Separator nonempty cat word ∷ defs) known = entry_known all defs known.1
 entry_known all (Coercions name levels ∷ defs) known = entry_known all defs known.1
 entry_known all (Entry [] ∷ defs) known = entry_known all defs known.1
-entry_known all (Entry (cat ∷ cats) ∷ defs) known = (recursion_from_All (IsKnown all) _ known.0).0
+entry_known all (Entry (cat ∷ cats) ∷ defs) known = (recursion_from_All (IsKnown all) (map category_text (cat ∷ cats)) known.0).0
 
 -- the category of the first rule is numbered
 first_numbered : (defs : List Def) (rules : List RawRule) → rules_of defs ≡ rules
