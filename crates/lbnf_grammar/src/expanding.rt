@@ -67,7 +67,7 @@ fn acyclic(alloc: Global, parts: GrammarParts) -> Result<Grammar, GrammarFault>
 /// The grammar that the definitions stand for, or the first category, in file order, that no rule
 /// has, or else the category of least number that reaches itself by steps. Categories and words are
 /// numbered from 0 as the rules meet them, each rule's own category first. Names are copied; it
-/// takes one look-up for each item, and then what `Grammar::of_rules` takes.
+/// takes one look-up for each item, and then what `Grammar::of_rules` takes for chains of steps.
 pub fn expand(alloc: Global, defs: &Defs) -> Result<Grammar, GrammarFault>
     ensures { Expands defs.now result }
 {

@@ -98,7 +98,8 @@ impl Grammar {
     }
 
     /// The rank of the category of this number: how many steps the longest chain of steps from it
-    /// has. A step leads to a category of lower rank. It takes no memory.
+    /// has. A step leads to a category of lower rank, by `steps_lower_ranks` of `spec_grammar`. It
+    /// takes no memory.
     pub fn rank(&self, c: u16) -> u16
         requires { c < length self.now.categories }
         ensures { IsRank self.now.rules c result }

@@ -108,10 +108,11 @@ impl Grammar {
     /// items or more, and where some category reaches itself. Categories may share a name, of which
     /// `find` then knows the first.
     ///
-    /// It looks at each item, passes over the rules for the nullable categories, at most once more
-    /// than there are of them, searches from each step of each category, and goes round by round
-    /// over all steps, at most as many rounds as there are categories. It takes memory for the
-    /// steps, and for a few numbers of each category, of which the grammar keeps one.
+    /// It looks at each item once, and then at the chains of steps: it passes over the items for
+    /// the nullable categories, at most once more than there are of them, looks at each item twice
+    /// for the steps, searches from each step of each category, and for the ranks goes round by
+    /// round over all steps, at most as many rounds as there are categories. Beside the ranks, which
+    /// the grammar keeps, it takes memory for the steps and for a few numbers of each category.
     pub fn of_rules(
         alloc: Global,
         rules: Vec<Rule>,
