@@ -44,7 +44,7 @@ pub fn chain(alloc: Global, count: u16) -> Option<Grammar> {
             .ok()?;
     }
     let names = categories(alloc, count as usize).ok()?;
-    Grammar::of_rules(rules, names, kinds(alloc, 1).ok()?)
+    Grammar::of_rules(alloc, rules, names, kinds(alloc, 1).ok()?).ok()?
 }
 
 const PROGRAM: u16 = 0;
@@ -150,5 +150,6 @@ pub fn imperative(alloc: Global) -> Option<Grammar> {
     for (category, items) in IMPERATIVE {
         rules.push(rule(alloc, *category, items).ok()?).ok()?;
     }
-    Grammar::of_rules(rules, categories(alloc, 13).ok()?, kinds(alloc, 18).ok()?)
+    let names = categories(alloc, 13).ok()?;
+    Grammar::of_rules(alloc, rules, names, kinds(alloc, 18).ok()?).ok()?
 }

@@ -286,7 +286,7 @@ fn long_form(alloc: Global, count: usize) -> Option<Result<u32, BinaryFault>> {
 
 #[test]
 fn a_form_has_2048_symbols_at_most(rt: HostRuntime) -> Result<(), Fail> {
-    for (items, want) in [(0, 1), (1, 2), (2046, 2047), (2047, 2048)] {
+    for (items, want) in [(0, 1), (2, 3), (2046, 2047), (2047, 2048)] {
         let count = long_form(rt.alloc(), items).ok_or("a grammar")?;
         assert!(rt; matches!(count, Ok(found) if found == want), "at {items}");
     }

@@ -1,9 +1,10 @@
--- The check of categories: what is listed is known, and the first that is not is the first unknown one.
-use Rattle.std.proofs.Common.{◌≡◌, ℕ, ◌+◌, ◌<◌, ◌≤◌, List, [], ◌∷◌, ◌++◌, length, map, fold, take, drop, get_or, true, false, ◌||◌, Some, All, slice_get, refl, sym, ap, subst, ◌∙◌, inl, inr, arith, append_assoc}
+-- The check of categories: what is listed is known, and the first that is not is the first unknown
+-- one.
+use Rattle.std.proofs.Common.{below_more, ◌≡◌, ℕ, ◌+◌, ◌<◌, ◌≤◌, List, [], ◌∷◌, ◌++◌, length, map, fold, take, drop, get_or, true, false, ◌||◌, Some, All, slice_get, refl, sym, ap, subst, ◌∙◌, inl, inr, append_assoc}
 use Rattle.std.specs.List.{list_any}
 use Rattle.std.specs.Str.{bytes_eq}
 use Rattle.std.specs.Cmp.Lexicographic.{nat_list_eq_equiv}
-use Rattle.std.proofs.lemmas.Bool.{cases_Bool, cases_eq, both_ways}
+use Rattle.std.proofs.lemmas.Bool.{cases_Bool, both_ways}
 use Rattle.std.proofs.Math.Bool.{or-false, or_assoc}
 use Rattle.std.proofs.lemmas.List.{drop_more, take_more, take_all, take-append-drop}
 use Rattle.std.proofs.lemmas.List.Elements.{All-nil, All-cons, All-append, All-weaker}
@@ -69,7 +70,8 @@ module _ (defs : List Def) (known : List (List ℕ)) (are : known ≡ fold with_
   pub names_known : (def : Def) → All (IsListed known) (def_categories def) → NamesKnown defs def
   names_known (RuleDef rule) listed = All-weaker (IsListed known) (IsKnown defs) listed_known (item_categories rule.items) listed
 
-  -- the first category of a definition that is not listed is the first unknown one, if the definitions before name known ones alone
+  -- the first category of a definition that is not listed is the first unknown one, if the
+  -- definitions before name known ones alone
   pub first_unknown : (def : Def) (name : List ℕ) (number : ℕ) → slice_get defs number ≡ Some def
       → ((k : ℕ) (other : Def) → k < number → slice_get defs k ≡ Some other → NamesKnown defs other)
       → IsFirstUnlisted known (def_categories def) name → IsFirstUnknown defs name number
@@ -94,10 +96,10 @@ all_known defs each k d lt = each k (get_or defs k d) lt (slice_get-get_or defs 
 pub more_known : (defs : List Def) (n : ℕ) (next : Def) → slice_get defs n ≡ Some next → NamesKnown defs next
     → ((k : ℕ) (def : Def) → k < n → slice_get defs k ≡ Some def → NamesKnown defs def)
     → (k : ℕ) (def : Def) → k < n + 1 → slice_get defs k ≡ Some def → NamesKnown defs def
-more_known defs n next at known each k def lt at_k = elim (cases_eq k n) [
-  | inl e ↦ subst (NamesKnown defs) (same_Some next def (sym at ∙ ap (slice_get defs) (sym e) ∙ at_k)) known
-  | inr ne ↦ each k def (omega arith) at_k
-]
+more_known defs n next at known each k def lt at_k =
+    below_more (λ m. (other : Def) → slice_get defs m ≡ Some other → NamesKnown defs other) n
+    (λ m earlier other at_m. each m other earlier at_m)
+    (λ other at_n. subst (NamesKnown defs) (same_Some next other (sym at ∙ at_n)) known) k lt def at_k
 
 -- the categories of items side by side
 item_categories-append : (items others : List RawItem)

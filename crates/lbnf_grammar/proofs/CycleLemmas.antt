@@ -9,7 +9,8 @@ use Rattle.lbnf_grammar.specs.declared.fault.GrammarFault.TheVariants.{Memory, U
 use Rattle.lbnf_grammar.specs.Grammars.{Expands}
 use Rattle.lbnf_grammar.specs.Checking.{PassesCycles}
 
--- the answer of the check for cycles on the grammar that definitions stand for is the answer on the definitions
+-- the answer of the check for cycles on the grammar that definitions stand for is the answer on the
+-- definitions
 pub expands : (defs : List Def) (g : Expansion) (result : Result Expansion GrammarFault)
     → AreAllKnown defs → g ≡ expansion_of defs → PassesCycles g result → Expands defs result
 expands defs g (Ok kept) known is passes =

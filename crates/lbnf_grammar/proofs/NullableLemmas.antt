@@ -1,5 +1,5 @@
 -- What flags say of the symbols that derive the empty span, and flags that are set rule by rule.
-use Rattle.std.proofs.Common.{◌≡◌, ◌≢◌, ℕ, zero, suc, ◌+◌, ◌<◌, ◌⊎◌, List, [], ◌∷◌, Bool, true, false, ◌&&◌, IsTrue, length, slice_get, slice_set, slice_index_or, Some, refl, sym, ◌∙◌, ap, subst, inl, inr, arith, get_or-set_other}
+use Rattle.std.proofs.Common.{below_more, ◌≡◌, ◌≢◌, ℕ, zero, suc, ◌+◌, ◌<◌, ◌⊎◌, List, [], ◌∷◌, Bool, true, false, ◌&&◌, IsTrue, length, slice_get, slice_set, slice_index_or, Some, refl, sym, ◌∙◌, subst, inl, inr, arith, get_or-set_other}
 use Rattle.std.specs.List.{list_all, AllByRecursion}
 use Rattle.std.proofs.lemmas.Bool.{false≢true}
 use Rattle.std.proofs.lemmas.List.{length-set}
@@ -123,15 +123,10 @@ fewer_clear (false ∷ flags) (suc c) lt clear = let fewer = fewer_clear flags c
 -- one more rule is met
 met_more : (rules : List Rule) (flags : List Bool) (n : ℕ) (rule : Rule) → slice_get rules n ≡ Some rule
     → IsMet flags rule → AreMet rules flags n → AreMet rules flags (n + 1)
-met_more rules flags n rule is met before r x lt at = elim (before_or_last r n lt) [
-  | inl less ↦ before r x less at
-  | inr last ↦
-      let same : rule ≡ x = same_Some _ _ (sym is ∙ ap (slice_get rules) (sym last) ∙ at) in
-      subst (IsMet flags) same met
-]
-  where
-    before_or_last : (r n : ℕ) → r < n + 1 → (r < n) ⊎ (r ≡ n)
-    before_or_last r n lt = grind arith
+met_more rules flags n rule is met before r x lt at =
+    below_more (λ k. (y : Rule) → slice_get rules k ≡ Some y → IsMet flags y) n
+    (λ k earlier y at_k. before k y earlier at_k)
+    (λ y at_n. subst (IsMet flags) (same_Some rule y (sym is ∙ at_n)) met) r lt x at
 
 module _ (rules : List Rule) (start old new : List Bool) (n : ℕ) (rule : Rule) (has_set : Bool) (is : slice_get rules n ≡ Some rule) where
   -- the rule set a flag

@@ -2,8 +2,8 @@
 use Rattle.std.proofs.Common.{below_more, ◌≡◌, ℕ, zero, suc, ◌+◌, ◌^◌, ◌<◌, ◌≤◌, ◌⊎◌, ◌↔◌, inl, inr, List, [], ◌∷◌, ◌++◌, length, slice_index_or, replicate, refl, sym, ◌∙◌, subst, arith}
 use Rattle.std.specs.List.{Contains, All}
 use Rattle.std.proofs.lemmas.List.Elements.{Contains-append_left, Contains-push, Contains-push_cases, All-from_get_or}
-use Rattle.std.proofs.lemmas.List.{length-replicate, get_or-replicate, get_or_append_left, get_or_push}
-use Rattle.spec_grammar.specs.Cycles.{Leads, IsCyclic, IsAcyclic, HasChain}
+use Rattle.std.proofs.lemmas.List.{length-replicate, get_or-replicate, get_or_append_left, get_or_default, get_or_push}
+use Rattle.spec_grammar.specs.Cycles.{Leads, IsCyclic, IsAcyclic, HasChain, IsRank}
 use Rattle.spec_grammar.proofs.CycleLemmas.{leads_then, shorter_chain, step_lengthens, chain_is_short}
 use Rattle.spec_lbnf.specs.Expansion.{Expansion}
 use Rattle.number_graph.specs.Graphs.{HasLink, AreLinksWithin, NumberReaches, stay, step, IsOnCycle}
@@ -204,3 +204,12 @@ pub lengths_are_few :
 lengths_are_few g most lengths longest few =
     All-from_get_or (λ n. n + 1 < 2 ^ 16) lengths 0
     (λ c within. omega (arith, (longest.each c (omega (arith, within, longest.count))).within, few))
+
+-- what stands at a category's place in the list is its rank
+pub rank_at :
+    (g : Expansion) (ranks : List ℕ) (c rank : ℕ)
+    → AreRanks g ranks → c < length g.categories → rank ≡ slice_index_or ranks c rank
+    → IsRank g.rules c rank
+rank_at g ranks c rank are below is =
+    let at : rank ≡ slice_index_or ranks c 0 = is ∙ get_or_default ranks c rank 0 (omega (arith, below, are.count)) in
+    subst (IsRank g.rules c) (sym at) (are.each c below)

@@ -1,5 +1,5 @@
 -- Links between categories that rules add item by item, and that they are the steps.
-use Rattle.std.proofs.Common.{◌≡◌, ℕ, zero, suc, ◌+◌, ◌<◌, ◌⊎◌, ◌↔◌, inl, inr, List, [], ◌∷◌, ◌++◌, Bool, true, false, IsTrue, cond, length, slice_get, Some, refl, sym, ◌∙◌, ap, subst, arith}
+use Rattle.std.proofs.Common.{below_more, ◌≡◌, ℕ, zero, suc, ◌+◌, ◌<◌, ◌⊎◌, ◌↔◌, inl, inr, List, [], ◌∷◌, ◌++◌, Bool, true, false, IsTrue, cond, length, slice_get, Some, refl, sym, ◌∙◌, ap, subst, arith}
 use Rattle.std.specs.List.{Contains, AllByRecursion}
 use Rattle.std.proofs.lemmas.Bool.{false≢true}
 use Rattle.std.proofs.lemmas.List.Elements.{Contains-append_left, Contains-push, Contains-push_cases, All-contains, All-from_recursion, recursion_from_All}
@@ -114,16 +114,15 @@ module _ (flags : List Bool) (rules : List Rule) (count : ℕ) where
     );
   }
     where
-      earlier_or_last : (r : ℕ) → r < n + 1 → (r < n) ⊎ (r ≡ n)
-      earlier_or_last r lt = grind arith
-
       parted : (a b : ℕ) → IsStepOfRules flags rules (n + 1) a b → HasLink old a b ⊎ IsRuleStep flags rule a b
-      parted a b x = elim (earlier_or_last x.0 x.2) [
-        | inl earlier ↦ inl ((before.exact a b).1 (x.0, x.1, earlier, x.3, x.4))
-        | inr last ↦
-            let same : x.1 ≡ rule = same_Some _ _ (sym x.3 ∙ ap (slice_get rules) last ∙ is) in
-            inr (subst (λ s. IsRuleStep flags s a b) same x.4)
-      ]
+      parted a b x =
+          below_more Parts n
+          (λ k earlier y at step. inl ((before.exact a b).1 (k, y, earlier, at, step)))
+          (λ y at step. inr (subst (λ s. IsRuleStep flags s a b) (same_Some y rule (sym at ∙ is)) step))
+          x.0 x.2 x.1 x.3 x.4
+        where
+          Parts : ℕ → Type 0
+          Parts k = (y : Rule) → slice_get rules k ≡ Some y → IsRuleStep flags y a b → HasLink old a b ⊎ IsRuleStep flags rule a b
 
 -- an item of a list stands between others
 split_at :

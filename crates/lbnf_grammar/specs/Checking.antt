@@ -1,6 +1,6 @@
 -- The check of the categories that definitions name. Serves the proofs alone.
-use Rattle.std.specs.Prelude.{◌≡◌, List, ◌∷◌, ◌++◌, true, false, Option, Result, Ok, Err, All}
-use Rattle.std.specs.Prelude.{MatchOption, bytes_eq, ℕ}
+use Rattle.std.specs.Prelude.{◌≡◌, ℕ, List, ◌∷◌, ◌++◌, true, false, Option, Some, None, Result, Ok}
+use Rattle.std.specs.Prelude.{Err, All, MatchOption, bytes_eq}
 use Rattle.std.specs.List.{list_any}
 use Rattle.spec_grammar.specs.Cycles.{IsAcyclic}
 use Rattle.spec_lbnf.specs.declared.definition.Def.{Def}
@@ -9,6 +9,7 @@ use Rattle.spec_lbnf.specs.Expansion.{Expansion, category_text, item_categories}
 use Rattle.spec_lbnf.specs.Checks.{AreAllKnown, IsFirstUnknown, IsFirstCyclic}
 use Rattle.lbnf_grammar.specs.declared.fault.GrammarFault.{GrammarFault}
 use Rattle.lbnf_grammar.specs.declared.fault.GrammarFault.TheVariants.{Memory, UnknownCategory, Cyclic}
+use Rattle.lbnf_grammar.specs.Grammars.{IsWellFormed}
 use Rattle.lbnf_grammar.specs.Numbering.{with_name}
 
 -- the names with the category of the definition's rule
@@ -44,9 +45,15 @@ ChecksDefs defs (Err Memory) = Unit {0}
 ChecksDefs defs (Err (UnknownCategory name number)) = IsFirstUnknown defs name number
 ChecksDefs defs (Err (Cyclic name)) = ⊥
 
--- the grammar has no cycle and is kept, or its first cyclic category is told; want of memory is free
+-- the grammar has no cycle and is kept, or its first cyclic category is told; want of memory is
+-- free
 abbrev pub PassesCycles : Expansion → Result Expansion GrammarFault → Type 0
 PassesCycles g (Ok kept) = IsAcyclic g.rules × (kept ≡ g)
 PassesCycles g (Err Memory) = Unit {0}
 PassesCycles g (Err (UnknownCategory name number)) = ⊥
 PassesCycles g (Err (Cyclic name)) = IsFirstCyclic g name
+
+-- these parts, and None exactly where they are not well formed
+abbrev pub GivesParts : Expansion → Option Expansion → Type 0
+GivesParts parts None = IsWellFormed parts → ⊥
+GivesParts parts (Some given) = IsWellFormed parts × (given ≡ parts)

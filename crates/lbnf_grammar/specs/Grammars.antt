@@ -1,8 +1,8 @@
 -- What a caller sees of expanding definitions, of making a grammar, of its entry, and of looking a
 -- category up.
-use Rattle.std.specs.Prelude.{◌≡◌, ◌<◌, ◌^◌, ℕ, List, [], Option, Some, None, Result, Ok, Err}
-use Rattle.std.specs.Prelude.{length, slice_get, Contains, MatchOption}
-use Rattle.spec_grammar.specs.Cycles.{IsAcyclic}
+use Rattle.std.specs.Prelude.{◌≡◌, ◌<◌, ◌^◌, ◌⊎◌, ℕ, List, [], Option, Some, None, Result, Ok}
+use Rattle.std.specs.Prelude.{Err, length, slice_get, Contains, MatchOption}
+use Rattle.spec_grammar.specs.Cycles.{IsCyclic, IsAcyclic}
 use Rattle.spec_grammar.specs.declared.rule.Rule.{Rule}
 use Rattle.spec_grammar.specs.declared.rule.Symbol.{Symbol}
 use Rattle.spec_grammar.specs.declared.rule.Symbol.TheVariants.{Category}
@@ -30,10 +30,11 @@ pub record IsWellFormed (g : Expansion) : Type 0 where
   pub few_items : item_count g.rules < 2 ^ 31
   pub own : HasOwnSymbols g
 
--- the grammar of these parts, and None exactly where they are not well formed
+-- the grammar of these parts, and None exactly where they are not well formed or some category
+-- reaches itself
 abbrev pub MakesGrammar : Expansion → Option Expansion → Type 0
-MakesGrammar parts None = IsWellFormed parts → ⊥
-MakesGrammar parts (Some g) = IsWellFormed parts × (g ≡ parts)
+MakesGrammar parts (Some g) = IsWellFormed parts × IsAcyclic parts.rules × (g ≡ parts)
+MakesGrammar parts None = (IsWellFormed parts → ⊥) ⊎ ((c : ℕ) × IsCyclic parts.rules c)
 
 -- the entry is this symbol, the category of the first rule: None exactly where there is no rule
 abbrev pub FindsEntry : List Rule → Option Symbol → Type 0

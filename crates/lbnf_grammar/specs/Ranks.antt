@@ -1,7 +1,10 @@
--- The first category that reaches itself, and the ranks of all categories where none does.
+-- The first category that reaches itself, and the ranks of all categories where none does. Serves
+-- the proofs alone.
 use Rattle.std.specs.Prelude.{◌≡◌, ℕ, ◌<◌, List, Option, length, slice_index_or, MatchOption}
 use Rattle.spec_grammar.specs.Cycles.{IsCyclic, IsAcyclic, IsRank}
 use Rattle.spec_lbnf.specs.Expansion.{Expansion}
+use Rattle.lbnf_grammar.specs.declared.chains.Chains.{Chains}
+use Rattle.lbnf_grammar.specs.declared.chains.Chains.TheVariants.{Cyclic, Ranked}
 
 -- the category reaches itself, and none of a lesser number does
 pub record IsLeastCyclic (g : Expansion) (c : ℕ) : Type 0 where
@@ -17,3 +20,8 @@ FindsCyclic g found = MatchOption found (IsAcyclic g.rules) (IsLeastCyclic g)
 pub record AreRanks (g : Expansion) (ranks : List ℕ) : Type 0 where
   pub count : length ranks ≡ length g.categories
   pub each : (c : ℕ) → c < length g.categories → IsRank g.rules c (slice_index_or ranks c 0)
+
+-- the least category that reaches itself is told, or none does and the ranks are told
+abbrev pub TellsChains : Expansion → Chains → Type 0
+TellsChains g (Cyclic c) = IsLeastCyclic g c
+TellsChains g (Ranked ranks) = IsAcyclic g.rules × AreRanks g ranks.items

@@ -1,27 +1,24 @@
 //! Whether a category reaches itself.
 ghost use Rattle.std.specs.Prelude.{IfOk};
-ghost use Rattle.lbnf_grammar.specs.Nullable.{AreNullableFlags};
 ghost use Rattle.lbnf_grammar.specs.Ranks.{FindsCyclic};
+ghost use Rattle.lbnf_grammar.specs.StepLinks.{AreSteps};
 
-use crate::grammar::Grammar;
-use crate::stepping::category_steps;
-use number_graph::reaches_itself;
+use crate::parts::GrammarParts;
+use number_graph::{Links, reaches_itself};
 use std::alloc::{AllocError, Global};
 
-/// The least category that reaches itself by one step or more, by the flags of the nullable
-/// categories, and `None` where none does. It searches from each step of each category up to that
-/// one.
-pub fn first_cyclic(
+/// The least category that reaches itself by one step or more, and `None` where none does. It
+/// searches from each step of each category up to that one.
+pub(crate) fn first_cyclic(
     alloc: Global,
-    grammar: &Grammar,
-    nullable: &[bool],
+    parts: &GrammarParts,
+    steps: &Links,
 ) -> Result<Option<u16>, AllocError>
-    requires { AreNullableFlags grammar.now nullable.now }
-    ensures { IfOk result (FindsCyclic grammar.now) }
+    requires { AreSteps parts.now steps.now }
+    ensures { IfOk result (FindsCyclic parts.now) }
 {
-    let links = category_steps(alloc, grammar, nullable)?;
-    for category in 0..grammar.category_count() {
-        if reaches_itself(alloc, &links, category)? {
+    for category in 0..parts.category_count() {
+        if reaches_itself(alloc, steps, category)? {
             return Ok(Some(category));
         }
     }

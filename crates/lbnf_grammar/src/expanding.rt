@@ -7,12 +7,12 @@ ghost use Rattle.lbnf_grammar.specs.Grammars.{Expands};
 ghost use Rattle.lbnf_grammar.specs.Checking.{PassesCycles};
 ghost use Rattle.lbnf_grammar.specs.Ranks.{IsLeastCyclic};
 
+use crate::chains::{Chains, chains_of};
 use crate::checking::check;
-use crate::cycles::first_cyclic;
 use crate::fault::GrammarFault;
 use crate::grammar::Grammar;
-use crate::nullable::nullable_categories;
 use crate::numbering::numbered_rules;
+use crate::parts::GrammarParts;
 use crate::tables::{Tables, tables_of};
 use crate::texts::copy_name;
 use lbnf_text::{Def, Defs};
@@ -30,39 +30,36 @@ fn kinds_of(alloc: Global, words: Vec<Name>) -> Result<Vec<KindDef>, AllocError>
         .collect(alloc)
 }
 
-/// The grammar that the definitions stand for.
-fn numbered_grammar(alloc: Global, defs: &[Def]) -> Result<Grammar, AllocError>
+/// The parts of the grammar that the definitions stand for.
+fn numbered_parts(alloc: Global, defs: &[Def]) -> Result<GrammarParts, AllocError>
     requires few { size_of defs.now ≤ 32768 }
-    ensures { IfOk result (λ grammar. grammar ≡ expansion_of defs.now) }
+    ensures { IfOk result (λ parts. parts ≡ expansion_of defs.now) }
 {
     let tables = tables_of(alloc, defs)?;
     let rules = numbered_rules(alloc, &tables, defs)?;
     let Tables { categories, words } = tables;
     let kinds = kinds_of(alloc, words.into_list())?;
-    Ok(Grammar::of(rules, categories.into_list(), kinds))
+    Ok(GrammarParts::of(rules, categories.into_list(), kinds))
 }
 
 /// That the category reaches itself, or that memory ran out.
-fn cyclic(alloc: Global, grammar: &Grammar, category: u16) -> GrammarFault
-    requires first { IsLeastCyclic grammar.now category }
-    ensures { PassesCycles grammar.now (Err result) }
+fn cyclic(alloc: Global, parts: &GrammarParts, category: u16) -> GrammarFault
+    requires first { IsLeastCyclic parts.now category }
+    ensures { PassesCycles parts.now (Err result) }
 {
-    match copy_name(alloc, grammar.category_name(category)) {
+    match copy_name(alloc, &parts.categories()[category as usize]) {
         Ok(name) => GrammarFault::Cyclic { name },
         Err(_) => GrammarFault::Memory,
     }
 }
 
-/// The grammar, or its first category that reaches itself.
-fn acyclic(alloc: Global, grammar: Grammar) -> Result<Grammar, GrammarFault>
-    ensures { PassesCycles grammar result }
+/// The grammar of these parts, or the first category that reaches itself.
+fn acyclic(alloc: Global, parts: GrammarParts) -> Result<Grammar, GrammarFault>
+    ensures { PassesCycles parts result }
 {
-    let Ok(nullable) = nullable_categories(alloc, &grammar) else {
-        return Err(GrammarFault::Memory);
-    };
-    match first_cyclic(alloc, &grammar, nullable.as_slice()) {
-        Ok(None) => Ok(grammar),
-        Ok(Some(category)) => Err(cyclic(alloc, &grammar, category)),
+    match chains_of(alloc, &parts) {
+        Ok(Chains::Ranked(ranks)) => Ok(Grammar::of(parts, ranks)),
+        Ok(Chains::Cyclic(category)) => Err(cyclic(alloc, &parts, category)),
         Err(_) => Err(GrammarFault::Memory),
     }
 }
@@ -70,14 +67,14 @@ fn acyclic(alloc: Global, grammar: Grammar) -> Result<Grammar, GrammarFault>
 /// The grammar that the definitions stand for, or the first category, in file order, that no rule
 /// has, or else the category of least number that reaches itself by steps. Categories and words are
 /// numbered from 0 as the rules meet them, each rule's own category first. Names are copied; it
-/// takes one look-up for each item, and for each category a search over the steps.
+/// takes one look-up for each item, and then what `Grammar::of_rules` takes for chains of steps.
 pub fn expand(alloc: Global, defs: &Defs) -> Result<Grammar, GrammarFault>
     ensures { Expands defs.now result }
 {
     let list = defs.as_slice();
     check(alloc, list)?;
-    let Ok(grammar) = numbered_grammar(alloc, list) else {
+    let Ok(parts) = numbered_parts(alloc, list) else {
         return Err(GrammarFault::Memory);
     };
-    acyclic(alloc, grammar)
+    acyclic(alloc, parts)
 }

@@ -1,58 +1,50 @@
 //! A grammar with numbers in place of names.
-ghost use Rattle.std.specs.Prelude.{◌≡◌, ◌<◌, ◌^◌, length, slice_get, Contains, IfSome};
+ghost use Rattle.std.specs.Prelude.{◌≡◌, ◌<◌, ◌^◌, length, slice_get, Contains, Some, IfSome};
 ghost use Rattle.std.specs.Prelude.{MatchOption};
+ghost use Rattle.spec_grammar.specs.Cycles.{IsAcyclic, IsRank};
 ghost use Rattle.spec_lbnf.specs.Expansion.{HasOwnSymbols, IsSymbolOf, item_count};
 ghost use Rattle.lbnf_grammar.specs.Grammars.{FindsCategory, FindsEntry};
+ghost use Rattle.lbnf_grammar.specs.Ranks.{AreRanks};
 
+use crate::parts::GrammarParts;
 use spec_grammar::{Rule, Symbol};
 use spec_lexing::KindDef;
 use spec_text::Name;
-use sqlite_items::Items;
 use std::marker::Model;
 
-/// An accepted grammar: its rules, categories and kinds, each numbered from 0.
+/// An accepted grammar: its rules, categories and kinds, each numbered from 0. No category reaches
+/// itself by steps, and each has its rank.
 #[derive(Debug, Drop)]
 pub struct Grammar {
-    rules: Vec<Rule>,
-    categories: Vec<Name>,
-    kinds: Vec<KindDef>,
+    parts: GrammarParts,
+    ranks: Vec<u16>,
 }
 
 impl Model for Grammar {
-    ghost use Rattle.std.specs.Prelude.{◌<◌, ◌^◌, length};
-    ghost use Rattle.spec_lbnf.specs.Expansion.{Expansion, HasOwnSymbols, item_count};
+    ghost use Rattle.spec_grammar.specs.Cycles.{IsAcyclic};
+    ghost use Rattle.spec_lbnf.specs.Expansion.{Expansion};
+    ghost use Rattle.lbnf_grammar.specs.Ranks.{AreRanks};
 
     ghost Value = { Expansion };
 
-    ghost view = { λ g. record { rules = g.rules.items; categories = g.categories.items; kinds = g.kinds.items } };
+    ghost view = { λ g. g.parts };
 
-    ghost invariant = { λ g. (length g.rules.items < 2 ^ 16)
-        × (length g.categories.items < 2 ^ 16)
-        × (length g.kinds.items < 2 ^ 16)
-        × (item_count g.rules.items < 2 ^ 31)
-        × HasOwnSymbols (record {
-          rules = g.rules.items;
-          categories = g.categories.items;
-          kinds = g.kinds.items;
-        }) };
+    ghost invariant = { λ g. IsAcyclic g.parts.rules × AreRanks g.parts g.ranks.items };
 }
 
 impl Grammar {
-    pub(crate) fn of(rules: Vec<Rule>, categories: Vec<Name>, kinds: Vec<KindDef>) -> Grammar
-        requires rules { length rules.items < 2 ^ 16 }
-        requires categories { length categories.items < 2 ^ 16 }
-        requires kinds { length kinds.items < 2 ^ 16 }
-        requires few { item_count rules.items < 2 ^ 31 }
-        requires known { HasOwnSymbols
-            (record { rules = rules.items; categories = categories.items; kinds = kinds.items }) }
-        ensures { result
-            ≡ record { rules = rules.items; categories = categories.items; kinds = kinds.items } }
+    pub(crate) fn of(parts: GrammarParts, ranks: Vec<u16>) -> Grammar
+        requires acyclic { IsAcyclic parts.rules }
+        requires ranks { AreRanks parts ranks.items }
+        ensures { result ≡ parts }
     {
-        Grammar {
-            rules,
-            categories,
-            kinds,
-        }
+        Grammar { parts, ranks }
+    }
+
+    pub(crate) fn parts(&self) -> &GrammarParts
+        ensures { result.now ≡ self.now }
+    {
+        &self.parts
     }
 
     /// The rules, in file order. It takes no memory.
@@ -61,15 +53,16 @@ impl Grammar {
         ensures few { length self.now.rules < 2 ^ 16 }
         ensures few_items { item_count self.now.rules < 2 ^ 31 }
         ensures known { HasOwnSymbols self.now }
+        ensures acyclic { IsAcyclic self.now.rules }
     {
-        self.rules.as_slice()
+        self.parts.rules()
     }
 
     /// How many rules there are.
     pub fn rule_count(&self) -> u16
         ensures { result ≡ length self.now.rules }
     {
-        self.rules.len() as u16
+        self.parts.rules().len() as u16
     }
 
     /// The rule of this number.
@@ -77,7 +70,7 @@ impl Grammar {
         requires { r < length self.now.rules }
         ensures { slice_get self.now.rules r ≡ Some result.now }
     {
-        &self.rules[r as usize]
+        &self.parts.rules()[r as usize]
     }
 
     /// The entry, which is the category of the first rule, and `None` where there is no rule.
@@ -85,7 +78,7 @@ impl Grammar {
         ensures entry { FindsEntry self.now.rules result }
         ensures own { IfSome result (IsSymbolOf self.now) }
     {
-        let rule = self.rules.first()?;
+        let rule = self.parts.rules().first()?;
         Some(Symbol::Category(rule.category))
     }
 
@@ -93,7 +86,7 @@ impl Grammar {
     pub fn category_count(&self) -> u16
         ensures { result ≡ length self.now.categories }
     {
-        self.categories.len() as u16
+        self.parts.category_count()
     }
 
     /// The text of the category of this number, in its brackets.
@@ -101,14 +94,24 @@ impl Grammar {
         requires { c < length self.now.categories }
         ensures { slice_get self.now.categories c ≡ Some result.now }
     {
-        &self.categories[c as usize]
+        &self.parts.categories()[c as usize]
+    }
+
+    /// The rank of the category of this number: how many steps the longest chain of steps from it
+    /// has. A step leads to a category of lower rank, by `steps_lower_ranks` of `spec_grammar`. It
+    /// takes no memory.
+    pub fn rank(&self, c: u16) -> u16
+        requires { c < length self.now.categories }
+        ensures { IsRank self.now.rules c result }
+    {
+        self.ranks[c as usize]
     }
 
     /// How many kinds of token there are.
     pub fn kind_count(&self) -> u16
         ensures { result ≡ length self.now.kinds }
     {
-        self.kinds.len() as u16
+        self.parts.kinds().len() as u16
     }
 
     /// The kinds, by number. It takes no memory.
@@ -116,7 +119,7 @@ impl Grammar {
         ensures items { result.now ≡ self.now.kinds }
         ensures few { length self.now.kinds < 2 ^ 16 }
     {
-        self.kinds.as_slice()
+        self.parts.kinds()
     }
 
     /// The kind of this number.
@@ -124,7 +127,7 @@ impl Grammar {
         requires { k < length self.now.kinds }
         ensures { slice_get self.now.kinds k ≡ Some result.now }
     {
-        &self.kinds[k as usize]
+        &self.parts.kinds()[k as usize]
     }
 
     /// The category of this text, and `None` where no category has it. It looks at each in turn.
@@ -132,7 +135,7 @@ impl Grammar {
         ensures found { FindsCategory self.now.categories text.now result }
         ensures own { IfSome result (IsSymbolOf self.now) }
     {
-        let place = place_of(self.categories.as_slice(), text)?;
+        let place = place_of(self.parts.categories(), text)?;
         Some(Symbol::Category(place as u16))
     }
 }

@@ -1,6 +1,7 @@
 //! From the definitions of a grammar file to a numbered grammar.
 #![tactic(auto)]
 
+mod chains;
 mod checking;
 mod cycles;
 mod expanding;
@@ -10,17 +11,16 @@ mod making;
 mod names;
 mod nullable;
 mod numbering;
+mod parts;
 mod ranking;
 mod stepping;
 mod tables;
 mod texts;
 
-pub use cycles::first_cyclic;
 pub use expanding::expand;
 pub use fault::GrammarFault;
 pub use grammar::Grammar;
 pub use nullable::{are_nullable, is_nullable, nullable_categories};
-pub use ranking::ranks;
 pub use spec_grammar::{Rule, Symbol};
 pub use spec_lexing::KindDef;
 pub use sqlite_items::Items;

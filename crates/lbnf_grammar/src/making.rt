@@ -1,12 +1,16 @@
 //! Grammars of numbered rules, made from their parts.
-ghost use Rattle.std.specs.Prelude.{◌≡◌, ◌<◌, ◌^◌, ◌↔◌, [], IsTrue, All, length};
+ghost use Rattle.std.specs.Prelude.{◌≡◌, ◌<◌, ◌^◌, ◌↔◌, [], IsTrue, All, IfOk, length};
 ghost use Rattle.spec_lbnf.specs.Expansion.{IsSymbolOf, HasSymbolsOf, HasOwnSymbols, item_count};
 ghost use Rattle.lbnf_grammar.specs.Grammars.{IsWellFormed, MakesGrammar};
+ghost use Rattle.lbnf_grammar.specs.Checking.{GivesParts};
 
+use crate::chains::{Chains, chains_of};
 use crate::grammar::Grammar;
+use crate::parts::GrammarParts;
 use spec_grammar::{Rule, Symbol};
 use spec_lexing::KindDef;
 use spec_text::Name;
+use std::alloc::{AllocError, Global};
 
 /// There are fewer rules, and fewer categories and kinds.
 const NUMBERS: usize = 65_536;
@@ -81,19 +85,49 @@ fn is_well_formed(rules: &[Rule], categories: &[Name], kinds: &[KindDef]) -> boo
         && have_own(categories, kinds, rules)
 }
 
+/// These parts, and `None` where they are not well formed. It looks at each item once and takes no
+/// memory.
+pub(crate) fn parts_of(
+    rules: Vec<Rule>,
+    categories: Vec<Name>,
+    kinds: Vec<KindDef>,
+) -> Option<GrammarParts>
+    ensures { GivesParts
+        (record { rules = rules.items; categories = categories.items; kinds = kinds.items })
+        result }
+{
+    if !is_well_formed(rules.as_slice(), categories.as_slice(), kinds.as_slice()) {
+        return None;
+    }
+    Some(GrammarParts::of(rules, categories, kinds))
+}
+
 impl Grammar {
     /// The grammar of these rules, which may be one that no file spells. `None` where a rule has a
     /// symbol that is not there, where there are 65,536 rules, categories or kinds or more, or 2^31
-    /// items or more. It looks at each item once and takes no memory. Categories may share a name,
-    /// of which `find` then knows the first.
-    pub fn of_rules(rules: Vec<Rule>, categories: Vec<Name>, kinds: Vec<KindDef>) -> Option<Grammar>
-        ensures { MakesGrammar
-            (record { rules = rules.items; categories = categories.items; kinds = kinds.items })
-            result }
+    /// items or more, and where some category reaches itself. Categories may share a name, of which
+    /// `find` then knows the first.
+    ///
+    /// It looks at each item once, and then at the chains of steps: it passes over the items for
+    /// the nullable categories, at most once more than there are of them, looks at each item twice
+    /// for the steps, searches from each step of each category, and for the ranks goes round by
+    /// round over all steps, at most as many rounds as there are categories. Beside the ranks, which
+    /// the grammar keeps, it takes memory for the steps and for a few numbers of each category.
+    pub fn of_rules(
+        alloc: Global,
+        rules: Vec<Rule>,
+        categories: Vec<Name>,
+        kinds: Vec<KindDef>,
+    ) -> Result<Option<Grammar>, AllocError>
+        ensures { IfOk result (MakesGrammar
+            (record { rules = rules.items; categories = categories.items; kinds = kinds.items })) }
     {
-        if !is_well_formed(rules.as_slice(), categories.as_slice(), kinds.as_slice()) {
-            return None;
+        let Some(parts) = parts_of(rules, categories, kinds) else {
+            return Ok(None);
+        };
+        match chains_of(alloc, &parts)? {
+            Chains::Cyclic(_) => Ok(None),
+            Chains::Ranked(ranks) => Ok(Some(Grammar::of(parts, ranks))),
         }
-        Some(Grammar::of(rules, categories, kinds))
     }
 }

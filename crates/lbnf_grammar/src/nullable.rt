@@ -8,6 +8,7 @@ ghost use Rattle.lbnf_grammar.specs.NullablePasses.{AreSound, AreMet, HaveFlags,
 ghost use Rattle.lbnf_grammar.specs.NullablePasses.{clear_count};
 
 use crate::grammar::Grammar;
+use crate::parts::GrammarParts;
 use spec_grammar::{Rule, Symbol};
 use std::alloc::{AllocError, Global};
 
@@ -73,11 +74,20 @@ fn pass(rules: &[Rule], flags: &mut Vec<bool>) -> bool
 /// For each category, by number, whether it derives the empty span. A pass looks at each item of
 /// each rule at most once, and there is at most one pass more than there are such categories. The
 /// flags are all the memory that it takes.
+pub(crate) fn nullable_flags(alloc: Global, parts: &GrammarParts) -> Result<Vec<bool>, AllocError>
+    ensures { IfOk result (λ flags. AreNullableFlags parts.now flags.items) }
+{
+    let rules = parts.rules();
+    let mut flags = vec![in alloc; false; parts.category_count() as usize]?;
+    while pass(rules, &mut flags) {}
+    Ok(flags)
+}
+
+/// For each category of the grammar, by number, whether it derives the empty span. It passes over
+/// the rules, at most once more than there are such categories, and a pass looks at each item at
+/// most once. The flags are all the memory that it takes.
 pub fn nullable_categories(alloc: Global, grammar: &Grammar) -> Result<Vec<bool>, AllocError>
     ensures { IfOk result (λ flags. AreNullableFlags grammar.now flags.items) }
 {
-    let rules = grammar.rules();
-    let mut flags = vec![in alloc; false; grammar.category_count() as usize]?;
-    while pass(rules, &mut flags) {}
-    Ok(flags)
+    nullable_flags(alloc, grammar.parts())
 }

@@ -2,12 +2,11 @@
 ghost use Rattle.std.specs.Prelude.{◌≡◌, ℕ, ◌+◌, ◌<◌, ◌^◌, All, Contains, IfOk, length};
 ghost use Rattle.spec_grammar.specs.Cycles.{IsAcyclic};
 ghost use Rattle.number_graph.specs.Graphs.{AreLinksWithin};
-ghost use Rattle.lbnf_grammar.specs.Nullable.{AreNullableFlags};
 ghost use Rattle.lbnf_grammar.specs.Ranks.{AreRanks};
 ghost use Rattle.lbnf_grammar.specs.Heights.{AreHeights, IsHeight};
+ghost use Rattle.lbnf_grammar.specs.StepLinks.{AreSteps};
 
-use crate::grammar::Grammar;
-use crate::stepping::category_steps;
+use crate::parts::GrammarParts;
 use number_graph::Links;
 use std::alloc::{AllocError, Global};
 
@@ -39,19 +38,22 @@ fn heights(alloc: Global, links: &Links, values: &[u16]) -> Result<Vec<u16>, All
     Ok(heights)
 }
 
-/// The rank of each category, by number, of a grammar without cycles. It goes round by round: after
+/// The rank of each category, by number, where none reaches itself. It goes round by round: after
 /// so many rounds a category has the length of its longest chain of at most so many steps, and each
 /// chain has fewer steps than there are categories. A round looks at each step once, and a round
 /// that changes nothing is the last.
-pub fn ranks(alloc: Global, grammar: &Grammar, nullable: &[bool]) -> Result<Vec<u16>, AllocError>
-    requires nullable { AreNullableFlags grammar.now nullable.now }
-    requires acyclic { IsAcyclic grammar.now.rules }
-    ensures { IfOk result (λ ranks. AreRanks grammar.now ranks.items) }
+pub(crate) fn ranks(
+    alloc: Global,
+    parts: &GrammarParts,
+    steps: &Links,
+) -> Result<Vec<u16>, AllocError>
+    requires steps { AreSteps parts.now steps.now }
+    requires acyclic { IsAcyclic parts.now.rules }
+    ensures { IfOk result (λ ranks. AreRanks parts.now ranks.items) }
 {
-    let links = category_steps(alloc, grammar, nullable)?;
-    let mut ranks = vec![in alloc; 0; links.count()]?;
-    for _round in 1..grammar.category_count() {
-        let longer = heights(alloc, &links, ranks.as_slice())?;
+    let mut ranks = vec![in alloc; 0; steps.count()]?;
+    for _round in 1..parts.category_count() {
+        let longer = heights(alloc, steps, ranks.as_slice())?;
         if longer == ranks {
             return Ok(ranks);
         }

@@ -5,8 +5,8 @@ ghost use Rattle.lbnf_grammar.specs.Nullable.{AreNullableFlags};
 ghost use Rattle.lbnf_grammar.specs.StepLinks.{AreSteps, IsItemStep, IsRuleStep};
 ghost use Rattle.lbnf_grammar.specs.StepLinks.{full_count as full_items, own_count as own_items};
 
-use crate::grammar::Grammar;
 use crate::nullable::is_nullable;
+use crate::parts::GrammarParts;
 use number_graph::Links;
 use spec_grammar::{Rule, Symbol};
 use std::alloc::{AllocError, Global};
@@ -64,16 +64,16 @@ fn add_rule(links: &mut Links, flags: &[bool], rule: &Rule) -> Result<(), AllocE
 
 /// The steps between the categories, by the flags of the nullable ones. It looks at each item of
 /// the rules twice.
-pub fn category_steps(
+pub(crate) fn category_steps(
     alloc: Global,
-    grammar: &Grammar,
+    parts: &GrammarParts,
     nullable: &[bool],
 ) -> Result<Links, AllocError>
-    requires { AreNullableFlags grammar.now nullable.now }
-    ensures { IfOk result (AreSteps grammar.now) }
+    requires { AreNullableFlags parts.now nullable.now }
+    ensures { IfOk result (AreSteps parts.now) }
 {
     let mut links = Links::new(alloc, nullable.len())?;
-    for rule in grammar.rules() {
+    for rule in parts.rules() {
         add_rule(&mut links, nullable, rule)?;
     }
     Ok(links)

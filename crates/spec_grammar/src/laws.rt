@@ -1,4 +1,5 @@
-//! Laws of derivation and of steps between categories. Each body is empty: the contract is the law, and calling the function cites it.
+//! Laws of derivation and of steps between categories. Each body is empty: the contract is the law,
+//! and calling the function cites it.
 ghost use Rattle.spec_grammar.specs.Laws.{CategoryDerivesByItsRules, ItemsDeriveInTurn};
 ghost use Rattle.spec_grammar.specs.Laws.{ItemsLieWithin, KindDerivesItsToken};
 ghost use Rattle.spec_grammar.specs.Laws.{EmptyItemsDeriveEmptySpan, NoStrayIsDerived};
@@ -7,7 +8,8 @@ ghost use Rattle.spec_grammar.specs.Examples.{SmallCases};
 ghost use Rattle.spec_grammar.specs.CycleLaws.{ChainsAreShort, RanksAreUnique, StepsLowerRanks};
 ghost use Rattle.spec_grammar.specs.CycleExamples.{SmallCycles};
 
-/// A nullable symbol derives the empty span at every place of every text, and at one place is enough.
+/// A nullable symbol derives the empty span at every place of every text, and at one place is
+/// enough.
 pub fn nullable_everywhere()
     ensures { NullableDerivesEverywhere }
 {}

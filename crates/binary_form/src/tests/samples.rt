@@ -50,7 +50,7 @@ fn words(alloc: Global, count: u16) -> Option<Vec<KindDef>> {
     Some(kinds)
 }
 
-/// The grammar of the sample, `None` where memory ran out or a symbol is not there.
+/// The grammar of the sample, `None` where memory ran out or it is no grammar.
 pub fn grammar_of(alloc: Global, sample: Sample) -> Option<Grammar> {
     let (categories, kinds, sides) = sample;
     let mut rules = Vec::new(alloc);
@@ -62,10 +62,12 @@ pub fn grammar_of(alloc: Global, sample: Sample) -> Option<Grammar> {
         };
         rules.push(rule).ok()?;
     }
-    Grammar::of_rules(rules, names(alloc, categories)?, words(alloc, kinds)?)
+    let names = names(alloc, categories)?;
+    Grammar::of_rules(alloc, rules, names, words(alloc, kinds)?).ok()?
 }
 
-/// One category, and one rule for it that has it so many times.
+/// One category, and one rule for it that has it so many times, which is no grammar where that is
+/// once.
 pub fn long_rule(alloc: Global, count: usize) -> Option<Grammar> {
     let mut items = Items::new(alloc);
     for _ in 0..count {
@@ -77,5 +79,5 @@ pub fn long_rule(alloc: Global, count: usize) -> Option<Grammar> {
         items,
     };
     let rules = vec![in alloc; rule].ok()?;
-    Grammar::of_rules(rules, names(alloc, 1)?, Vec::new(alloc))
+    Grammar::of_rules(alloc, rules, names(alloc, 1)?, Vec::new(alloc)).ok()?
 }

@@ -1,41 +1,13 @@
 //! Cyclic categories and ranks of small grammars, whose rules are built by hand.
-ghost use Rattle.lbnf_grammar.specs.Nullable.{AreNullableFlags};
-
-use super::small_grammars::{A, B, C, D, EMPTY, WORD, grammar_of};
+use super::expanded;
+use super::small_grammars::{A, B, C, D, EMPTY, Sides, WORD, grammar_of, small_parts};
+use crate::chains::{Chains, chains_of};
 use crate::*;
-use std::alloc::{AllocError, Global};
 use std::test::*;
-
-/// The rules of a grammar, each a category and its side.
-type Rules = &'static [(u16, &'static [Symbol])];
-
-/// The first cyclic category, and the ranks if there is none.
-fn measured(
-    alloc: Global,
-    grammar: &Grammar,
-    nullable: &[bool],
-) -> Result<(Option<u16>, Vec<u16>), AllocError>
-    requires { AreNullableFlags grammar.now nullable.now }
-{
-    let cyclic = first_cyclic(alloc, grammar, nullable)?;
-    match cyclic {
-        Some(_) => Ok((cyclic, Vec::new(alloc))),
-        None => Ok((None, ranks(alloc, grammar, nullable)?)),
-    }
-}
-
-/// The same of the grammar of these rules.
-fn measured_of(alloc: Global, rules: Rules) -> Option<(Option<u16>, Vec<u16>)> {
-    let grammar = grammar_of(alloc, rules)?;
-    match nullable_categories(alloc, &grammar) {
-        Ok(nullable) => measured(alloc, &grammar, nullable.as_slice()).ok(),
-        Err(_) => None,
-    }
-}
 
 /// A grammar as it is written, with "w" for the word; its rules; and the first cyclic one of its
 /// categories A, B, C and D.
-type Cycle = (&'static str, Rules, Option<u16>);
+type Cycle = (&'static str, Sides, Option<u16>);
 
 const CYCLES: &[Cycle] = &[
     ("", &[], None),
@@ -83,15 +55,28 @@ const CYCLES: &[Cycle] = &[
 #[test]
 fn the_least_category_that_reaches_itself_is_told(rt: HostRuntime) -> Result<(), Fail> {
     for (text, rules, want) in CYCLES {
-        let (cyclic, _) = measured_of(rt.alloc(), *rules).ok_or("an answer")?;
+        let parts = small_parts(rt.alloc(), *rules)?.ok_or("parts")?;
+        let cyclic = match chains_of(rt.alloc(), &parts)? {
+            Chains::Cyclic(category) => Some(category),
+            Chains::Ranked(_) => None,
+        };
         assert_eq!(rt; cyclic, *want, "at {text:?}");
+    }
+    Ok(())
+}
+
+#[test]
+fn rules_by_which_a_category_reaches_itself_are_no_grammar(rt: HostRuntime) -> Result<(), Fail> {
+    for (text, rules, cyclic) in CYCLES {
+        let grammar = grammar_of(rt.alloc(), *rules)?;
+        assert_eq!(rt; grammar.is_some(), cyclic.is_none(), "at {text:?}");
     }
     Ok(())
 }
 
 /// A grammar as it is written, with "w" for the word; its rules; and the ranks of its categories A,
 /// B, C and D.
-type Ranked = (&'static str, Rules, [u16; 4]);
+type Ranked = (&'static str, Sides, [u16; 4]);
 
 const RANKED: &[Ranked] = &[
     ("", &[], [0, 0, 0, 0]),
@@ -146,8 +131,31 @@ const RANKED: &[Ranked] = &[
 #[test]
 fn a_rank_is_the_length_of_the_longest_chain_of_steps(rt: HostRuntime) -> Result<(), Fail> {
     for (text, rules, want) in RANKED {
-        let (_, ranks) = measured_of(rt.alloc(), *rules).ok_or("an answer")?;
-        assert_eq!(rt; ranks.as_slice(), want.as_slice(), "at {text:?}");
+        let grammar = grammar_of(rt.alloc(), *rules)?.ok_or("a grammar")?;
+        for (number, rank) in want.iter().enumerate() {
+            let category = number as u16;
+            assert!(rt; category < grammar.category_count());
+            assert_eq!(rt; grammar.rank(category), *rank, "at {text:?} {category}");
+        }
+    }
+    Ok(())
+}
+
+/// Sums of products of atoms, and a statement that is a sum.
+const LEVELS: &[u8] =
+    b"Add . Sum ::= Sum \"+\" Product; S . Sum ::= Product; Mul . Product ::= Product \"*\" Atom; P . Product ::= Atom; One . Atom ::= \"1\"; Do . Statement ::= Sum";
+
+#[test]
+fn an_expanded_grammar_has_ranks(rt: HostRuntime) -> Result<(), Fail> {
+    let grammar = expanded(rt.alloc(), LEVELS)
+        .ok_or("the form")?
+        .ok()
+        .ok_or("a grammar")?;
+    assert_eq!(rt; grammar.category_count(), 4);
+    for (number, rank) in [2, 1, 0, 3].iter().enumerate() {
+        let category = number as u16;
+        assert!(rt; category < grammar.category_count());
+        assert_eq!(rt; grammar.rank(category), *rank, "at {category}");
     }
     Ok(())
 }

@@ -1,11 +1,12 @@
 //! Nullable categories of small grammars, whose rules are built by hand.
-use super::small_grammars::{A, B, C, D, EMPTY, WORD, grammar_of};
+use super::small_grammars::{A, B, C, D, EMPTY, Sides, WORD, grammar_of, small_parts};
+use crate::nullable::nullable_flags;
 use crate::*;
 use std::test::*;
 
 /// A grammar as it is written, with "w" for the word; its rules; and which of A, B, C and D are
 /// nullable by them.
-type Case = (&'static str, &'static [(u16, &'static [Symbol])], [bool; 4]);
+type Case = (&'static str, Sides, [bool; 4]);
 
 const CASES: &[Case] = &[
     ("", &[], [false, false, false, false]),
@@ -78,8 +79,8 @@ fn a_category_is_nullable_where_a_rule_of_it_has_nullable_items_alone(
     rt: HostRuntime,
 ) -> Result<(), Fail> {
     for (text, rules, want) in CASES {
-        let grammar = grammar_of(rt.alloc(), rules).ok_or("a grammar")?;
-        let flags = nullable_categories(rt.alloc(), &grammar)?;
+        let parts = small_parts(rt.alloc(), rules)?.ok_or("parts")?;
+        let flags = nullable_flags(rt.alloc(), &parts)?;
         assert_eq!(rt; flags.as_slice(), want.as_slice(), "at {text:?}");
     }
     Ok(())
@@ -126,7 +127,7 @@ const E: Symbol = Symbol::Category(4);
 const SECOND_WORD: Symbol = Symbol::Kind(1);
 
 #[test]
-fn rules_with_a_symbol_that_is_not_there_are_no_grammar(rt: HostRuntime) {
+fn rules_with_a_symbol_that_is_not_there_are_no_grammar(rt: HostRuntime) -> Result<(), Fail> {
     let cases: [(u16, &[Symbol], bool); 7] = [
         (3, EMPTY, true),
         (4, EMPTY, false),
@@ -138,7 +139,8 @@ fn rules_with_a_symbol_that_is_not_there_are_no_grammar(rt: HostRuntime) {
     ];
     for (category, items, want) in cases {
         let sides = [(1, [A, B].as_slice()), (category, items), (2, EMPTY)];
-        let grammar = grammar_of(rt.alloc(), sides.as_slice());
+        let grammar = grammar_of(rt.alloc(), sides.as_slice())?;
         assert_eq!(rt; grammar.is_some(), want, "at {category} {items:?}");
     }
+    Ok(())
 }

@@ -1,32 +1,58 @@
 //! Grammars whose rules are built by hand.
+use crate::making::parts_of;
+use crate::parts::GrammarParts;
 use crate::*;
 use lbnf_text::{Label, Name};
-use std::alloc::Global;
+use std::alloc::{AllocError, Global};
+
+/// The rules of a grammar, each a category and its side.
+pub type Sides = &'static [(u16, &'static [Symbol])];
 
 fn unnamed(alloc: Global) -> Name {
     Name::of(Vec::new(alloc))
 }
 
-/// The grammar of these rules over the categories 0 to 3 and the kind 0, whose names are empty.
-pub fn grammar_of(alloc: Global, sides: &[(u16, &[Symbol])]) -> Option<Grammar> {
-    let categories = vec![in alloc;
-        unnamed(alloc),
-        unnamed(alloc),
-        unnamed(alloc),
-        unnamed(alloc),
-    ]
-    .ok()?;
-    let kinds = vec![in alloc; KindDef::Word(unnamed(alloc))].ok()?;
+/// So many categories, whose names are empty.
+fn categories(alloc: Global, count: usize) -> Result<Vec<Name>, AllocError> {
+    let mut names = Vec::new(alloc);
+    for _ in 0..count {
+        names.push(unnamed(alloc))?;
+    }
+    Ok(names)
+}
+
+fn kinds(alloc: Global) -> Result<Vec<KindDef>, AllocError> {
+    Ok(vec![in alloc; KindDef::Word(unnamed(alloc))]?)
+}
+
+fn rules(alloc: Global, sides: &[(u16, &[Symbol])]) -> Result<Vec<Rule>, AllocError> {
     let mut rules = Vec::new(alloc);
     for (category, items) in sides {
-        let rule = Rule {
+        rules.push(Rule {
             label: Label::Wild,
             category: *category,
-            items: Items::from_slice(alloc, items).ok()?,
-        };
-        rules.push(rule).ok()?;
+            items: Items::from_slice(alloc, items)?,
+        })?;
     }
-    Grammar::of_rules(rules, categories, kinds)
+    Ok(rules)
+}
+
+/// The parts of these rules over the categories 0 to 3 and the kind 0.
+pub fn small_parts(
+    alloc: Global,
+    sides: &[(u16, &[Symbol])],
+) -> Result<Option<GrammarParts>, AllocError> {
+    let categories = categories(alloc, 4)?;
+    Ok(parts_of(rules(alloc, sides)?, categories, kinds(alloc)?))
+}
+
+/// The grammar of these rules over the categories 0 to 3 and the kind 0.
+pub fn grammar_of(
+    alloc: Global,
+    sides: &[(u16, &[Symbol])],
+) -> Result<Option<Grammar>, AllocError> {
+    let categories = categories(alloc, 4)?;
+    Grammar::of_rules(alloc, rules(alloc, sides)?, categories, kinds(alloc)?)
 }
 
 pub const A: Symbol = Symbol::Category(0);

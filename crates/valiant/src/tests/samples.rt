@@ -50,7 +50,7 @@ fn words(alloc: Global, count: u16) -> Option<Vec<KindDef>> {
     Some(kinds)
 }
 
-/// The grammar of the sample, `None` where memory ran out or a symbol is not there.
+/// The grammar of the sample, `None` where memory ran out or it is no grammar.
 pub fn grammar_of(alloc: Global, sample: Sample) -> Option<Grammar> {
     let (categories, kinds, sides) = sample;
     let mut rules = Vec::new(alloc);
@@ -62,5 +62,6 @@ pub fn grammar_of(alloc: Global, sample: Sample) -> Option<Grammar> {
         };
         rules.push(rule).ok()?;
     }
-    Grammar::of_rules(rules, names(alloc, categories)?, words(alloc, kinds)?)
+    let names = names(alloc, categories)?;
+    Grammar::of_rules(alloc, rules, names, words(alloc, kinds)?).ok()?
 }

@@ -4,4 +4,4 @@ use Rattle.lbnf_grammar.proofs.cycles.first_cyclic.Given as goal
 
 -- none of the categories so far reaches itself
 abbrev pub invariant-loop-category : goal.invariant-loop-category
-invariant-loop-category l = (c : ℕ) → c < l.category → IsCyclic l.grammar.rules c → ⊥
+invariant-loop-category l = (c : ℕ) → c < l.category → IsCyclic l.parts.rules c → ⊥

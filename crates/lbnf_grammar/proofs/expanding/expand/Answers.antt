@@ -9,4 +9,4 @@ pub returns : goal.returns
 returns c =
     let P : List Def → Type 0 = λ defs. Expands defs c.acyclic.result in
     subst P c.as_slice-list.ensures.list
-    (expands c.as_slice-list.result.now c.in-Ok.grammar c.acyclic.result c.in_ok-check.ensures c.in-Ok.ensures c.acyclic.ensures)
+    (expands c.as_slice-list.result.now c.in-Ok.parts c.acyclic.result c.in_ok-check.ensures c.in-Ok.ensures c.acyclic.ensures)

@@ -4,4 +4,4 @@ use Rattle.lbnf_grammar.proofs.ranking.ranks.Given as goal
 
 -- before each round chains of fewer steps than its number are measured
 abbrev pub invariant-loop-round : goal.invariant-loop-round
-invariant-loop-round l = AreLongestWithin l.grammar (l._round - 1) (l.ranks).items
+invariant-loop-round l = AreLongestWithin l.parts (l._round - 1) (l.ranks).items

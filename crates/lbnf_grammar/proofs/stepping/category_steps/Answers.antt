@@ -5,7 +5,7 @@ use Rattle.lbnf_grammar.proofs.stepping.category_steps.Goals as goal
 
 pub loop-rule-preserved : goal.loop-rule-preserved
 loop-rule-preserved c =
-    let rules = c.args.grammar.now.rules in
+    let rules = c.args.parts.now.rules in
     let read = rw c.rules-rule-items.ensures.items at c.rule-item.is in
     let before = rw c.rules-rule-items.ensures.items at c.loop-rule-test.true in
     let is = slice_get_read rules (length rules) c.loop-rule.rule-index c.rule-item.result refl before read in
@@ -14,8 +14,8 @@ loop-rule-preserved c =
 
 pub returns : goal.returns
 returns c =
-    let rules = c.args.grammar.now.rules in
+    let rules = c.args.parts.now.rules in
     let past = rw c.rules-rule-items.ensures.items at c.loop-rule-test.false in
     let end = rw c.rules-rule-items.ensures.items at c.loop-rule.auto.rule-index-end in
     let all : c.loop-rule.rule-index ≡ length rules = omega (arith, past, end) in
-    steps_are c.args.grammar.now c.args.nullable.now c.requires c.rules-rule-items.ensures.known c.loop-rule.links (rw all at c.loop-rule.invariant)
+    steps_are c.args.parts.now c.args.nullable.now c.requires c.rules-rule-items.ensures.known c.loop-rule.links (rw all at c.loop-rule.invariant)

@@ -4,7 +4,7 @@ use Rattle.spec_lexing.specs.declared.kind_def.KindDef.TheVariants.{Word as Word
 use Rattle.spec_lbnf.specs.Expansion.{HasOwnSymbols, rules_of, categories_of, words_of, numbered_rule}
 use Rattle.spec_lbnf.proofs.SymbolLemmas.{own_symbols}
 use Rattle.lbnf_grammar.proofs.TableLemmas.{are_few, expansion_is}
-use Rattle.lbnf_grammar.proofs.expanding.numbered_grammar.Goals as goal
+use Rattle.lbnf_grammar.proofs.expanding.numbered_parts.Goals as goal
 
 pub numbered_rules-requires-clause-categories : goal.numbered_rules-requires-clause-categories
 numbered_rules-requires-clause-categories c =

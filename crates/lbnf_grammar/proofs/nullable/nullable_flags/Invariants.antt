@@ -1,12 +1,12 @@
 use Rattle.std.proofs.Common.{◌≡◌, length}
 use Rattle.lbnf_grammar.specs.NullablePasses.{AreSound, clear_count}
-use Rattle.lbnf_grammar.proofs.nullable.nullable_categories.Given as goal
+use Rattle.lbnf_grammar.proofs.nullable.nullable_flags.Given as goal
 
 -- the flags are sound, and each category has one
 abbrev pub invariant-loop-rules : goal.invariant-loop-rules
 invariant-loop-rules l = record {
-  sound : AreSound l.grammar.rules (l.flags).items;
-  len : length (l.flags).items ≡ length l.grammar.categories;
+  sound : AreSound l.parts.rules (l.flags).items;
+  len : length (l.flags).items ≡ length l.parts.categories;
 }
 
 -- each pass but the last sets a flag
