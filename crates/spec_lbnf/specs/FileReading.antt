@@ -21,7 +21,7 @@ use Rattle.spec_lbnf.specs.declared.token.FileToken.TheVariants.{Sign as SignTok
 use Rattle.spec_lbnf.specs.declared.token.PlacedToken.{PlacedToken}
 use Rattle.spec_lbnf.specs.FirstForm.{starts_upper}
 use Rattle.spec_lbnf.specs.FileTokens.{sign_bytes}
-use Rattle.spec_lbnf.specs.GrammarFile.{words_in}
+use Rattle.spec_lbnf.specs.Words.{words_in}
 
 -- what a reader gives: a value, and the tokens behind it; or the tokens from where it cannot go on;
 -- or the tokens from a category on that is too long

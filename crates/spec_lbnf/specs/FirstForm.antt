@@ -9,7 +9,9 @@ use Rattle.spec_lbnf.specs.declared.definition.CatName.{CatName}
 use Rattle.spec_lbnf.specs.declared.definition.RawItem.{RawItem}
 use Rattle.spec_lbnf.specs.declared.definition.RawItem.TheVariants.{Cat, Word}
 use Rattle.spec_lbnf.specs.declared.definition.Def.{Def}
-use Rattle.spec_lbnf.specs.declared.definition.Def.TheVariants.{Rule}
+use Rattle.spec_lbnf.specs.declared.definition.Def.TheVariants.{Rule, Internal, Terminator}
+use Rattle.spec_lbnf.specs.declared.definition.Def.TheVariants.{Separator, Coercions, Entry}
+use Rattle.spec_lbnf.specs.Words.{words_in}
 
 -- the byte separates tokens: space, tab, LF, VT, FF or CR
 abbrev pub is_white : ℕ → Bool
@@ -119,10 +121,15 @@ abbrev pub rule_of : List ℕ → List ℕ → List RawItem → Def
 rule_of label cat items =
     Rule (record { label = Named label; cat = category_of cat; items = items })
 
--- the definition and its items, counted together
+-- the definition and its items, its words behind or between elements, or its entry points, counted
+-- together
 abbrev pub def_size : Def → ℕ
 def_size (Rule rule) = 1 + length rule.items
-def_size other = 1
+def_size (Internal rule) = 1 + length rule.items
+def_size (Terminator nonempty cat word) = 1 + length (words_in word)
+def_size (Separator nonempty cat word) = 1 + length (words_in word)
+def_size (Coercions name levels) = 1
+def_size (Entry cats) = 1 + length cats
 
 -- the definitions and their items, counted together
 abbrev pub size_of : List Def → ℕ

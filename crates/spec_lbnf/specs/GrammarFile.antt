@@ -18,16 +18,8 @@ use Rattle.spec_lbnf.specs.declared.token.Sign.TheVariants.{CloseParen, Undersco
 use Rattle.spec_lbnf.specs.declared.token.FileToken.{FileToken}
 use Rattle.spec_lbnf.specs.declared.token.FileToken.TheVariants.{Identifier, Number, Text}
 use Rattle.spec_lbnf.specs.declared.token.FileToken.TheVariants.{Sign as SignToken}
+use Rattle.spec_lbnf.specs.Words.{is_empty, words_in}
 use Rattle.spec_lbnf.specs.FirstForm.{starts_upper}
-
--- the list has no element
-abbrev pub is_empty : {A : Type 0} → List A → Bool
-is_empty [] = true
-is_empty (x ∷ xs) = false
-
--- the words of a string: it is cut at its spaces, and empty words vanish
-abbrev pub words_in : List ℕ → List (List ℕ)
-words_in text = filter (λ word. not (is_empty word)) (slice_split (λ byte. nat_eq byte 32) text)
 
 -- the identifier begins with an upper-case letter, as a label's and a category's name does
 abbrev pub IsUpperName : List ℕ → Type 0

@@ -1,3 +1,4 @@
+pub mod Words
 pub mod FirstForm
 pub mod Expansion
 pub mod Checks
@@ -7,3 +8,4 @@ pub mod FileTokens
 pub mod GrammarFile
 pub mod Faults
 pub mod FileReading
+pub mod Limits
