@@ -7,6 +7,7 @@ mod cycles;
 mod expanding;
 mod fault;
 mod grammar;
+mod macros;
 mod making;
 mod names;
 mod nullable;
@@ -16,6 +17,7 @@ mod ranking;
 mod stepping;
 mod tables;
 mod texts;
+mod words;
 
 pub use expanding::expand;
 pub use fault::GrammarFault;

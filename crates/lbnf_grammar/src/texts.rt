@@ -1,10 +1,12 @@
 //! The texts of categories, and copies of names and labels.
-ghost use Rattle.std.specs.Prelude.{◌≡◌, IfOk};
+ghost use Rattle.std.specs.Prelude.{◌≡◌, ◌++◌, IfOk};
+ghost use Rattle.std.specs.Fmt.{decimal};
 ghost use Rattle.spec_lbnf.specs.Expansion.{category_text};
 
 use spec_grammar::Label;
-use spec_lbnf::CatName;
+use spec_lbnf::{CatName, RawItem, RawRule};
 use spec_text::Name;
+use sqlite_items::Items;
 use std::alloc::{AllocError, Global};
 
 pub fn copy_name(alloc: Global, name: &Name) -> Result<Name, AllocError>
@@ -24,6 +26,52 @@ pub fn copy_label(alloc: Global, label: &Label) -> Result<Label, AllocError>
         Label::Cons => Ok(Label::Cons),
         Label::One => Ok(Label::One),
     }
+}
+
+/// The name, and the number behind it.
+pub fn numbered_name(alloc: Global, name: &Name, number: u32) -> Result<Name, AllocError>
+    ensures { IfOk result (λ text. text ≡ name.now ++ decimal number) }
+{
+    let name = name.as_str();
+    let text = format!(in alloc; "{name}{number}")?;
+    Ok(Name::of(text.into_bytes()))
+}
+
+pub fn copy_category(alloc: Global, cat: &CatName) -> Result<CatName, AllocError>
+    ensures { IfOk result (λ copy. copy ≡ cat.now) }
+{
+    let name = copy_name(alloc, &cat.name)?;
+    let depth = cat.depth;
+    Ok(CatName { name, depth })
+}
+
+pub fn copy_item(alloc: Global, item: &RawItem) -> Result<RawItem, AllocError>
+    ensures { IfOk result (λ copy. copy ≡ item.now) }
+{
+    match item {
+        RawItem::Cat(cat) => Ok(RawItem::Cat(copy_category(alloc, cat)?)),
+        RawItem::Word(word) => Ok(RawItem::Word(copy_name(alloc, word)?)),
+    }
+}
+
+pub fn copy_items(alloc: Global, items: &[RawItem]) -> Result<Items<RawItem>, AllocError>
+    ensures { IfOk result (λ copy. copy ≡ items.now) }
+{
+    let mut copy = Items::new(alloc);
+    for item in items {
+        copy.push(copy_item(alloc, item)?)?;
+    }
+    Ok(copy)
+}
+
+pub fn copy_rule(alloc: Global, rule: &RawRule) -> Result<RawRule, AllocError>
+    ensures { IfOk result (λ copy. copy ≡ rule.now) }
+{
+    Ok(RawRule {
+        label: copy_label(alloc, &rule.label)?,
+        cat: copy_category(alloc, &rule.cat)?,
+        items: copy_items(alloc, rule.items.as_slice())?,
+    })
 }
 
 /// The category's name in its brackets.

@@ -6,7 +6,7 @@ use Rattle.std.specs.Option.{option_map, option_or}
 use Rattle.std.specs.Fmt.{decimal}
 use Rattle.std.specs.List.{position_or_len, sum_by, range_with_len}
 use Rattle.spec_grammar.specs.declared.rule.Label.TheVariants.{Wild, Nil, Cons, One}
-use Rattle.spec_lbnf.specs.Words.{words_in}
+use Rattle.spec_lbnf.specs.Words.{is_empty, words_in}
 use Rattle.spec_grammar.specs.declared.rule.Symbol.{Symbol}
 use Rattle.spec_grammar.specs.declared.rule.Symbol.TheVariants.{Category, Kind}
 use Rattle.spec_grammar.specs.declared.rule.Rule.{Rule}
@@ -57,42 +57,40 @@ category_text cat = replicate cat.depth 91 ++ (cat.name ++ replicate cat.depth 9
 abbrev pub list_of : CatName → CatName
 list_of cat = record { name = cat.name; depth = cat.depth + 1 }
 
--- the words as items
-abbrev pub word_items : List (List ℕ) → List RawItem
-word_items words = map Word words
+-- the words of a string, as items
+abbrev pub word_items : List ℕ → List RawItem
+word_items text = map Word (words_in text)
 
 -- the empty list: [] . [C] ::=
 abbrev pub nil_rule : CatName → RawRule
 nil_rule cat = record { label = Nil; cat = list_of cat; items = [] }
 
--- a list of one element, with these words behind it: (:[]) . [C] ::= C words
-abbrev pub one_rule : CatName → List (List ℕ) → RawRule
-one_rule cat words =
-    record { label = One; cat = list_of cat; items = Cat cat ∷ word_items words }
+-- a list of one element, with these items behind it: (:[]) . [C] ::= C items
+abbrev pub one_rule : CatName → List RawItem → RawRule
+one_rule cat items = record { label = One; cat = list_of cat; items = Cat cat ∷ items }
 
--- an element, these words, and the other elements: (:) . [C] ::= C words [C]
-abbrev pub cons_rule : CatName → List (List ℕ) → RawRule
-cons_rule cat words = record {
+-- an element, these items, and the other elements: (:) . [C] ::= C items [C]
+abbrev pub cons_rule : CatName → List RawItem → RawRule
+cons_rule cat items = record {
   label = Cons;
   cat = list_of cat;
-  items = Cat cat ∷ word_items words ++ Cat (list_of cat) ∷ [];
+  items = Cat cat ∷ items ++ Cat (list_of cat) ∷ [];
 }
 
--- lists with the words behind each element, from the empty list on, or from one element on
-abbrev pub terminator_rules : Bool → CatName → List (List ℕ) → List RawRule
-terminator_rules nonempty cat words =
-    cond nonempty (one_rule cat words) (nil_rule cat) ∷ cons_rule cat words ∷ []
+-- lists with these items behind each element, from the empty list on, or from one element on
+abbrev pub terminator_rules : Bool → CatName → List RawItem → List RawRule
+terminator_rules nonempty cat items =
+    cond nonempty (one_rule cat items) (nil_rule cat) ∷ cons_rule cat items ∷ []
 
 -- the empty list, unless lists are not empty
 abbrev pub nil_rules : Bool → CatName → List RawRule
-nil_rules true cat = []
-nil_rules false cat = nil_rule cat ∷ []
+nil_rules nonempty cat = cond nonempty [] (nil_rule cat ∷ [])
 
--- lists with the words between each two elements; without words, as if they stood behind each
-abbrev pub separator_rules : Bool → CatName → List (List ℕ) → List RawRule
-separator_rules nonempty cat [] = terminator_rules nonempty cat []
-separator_rules nonempty cat words =
-    nil_rules nonempty cat ++ (one_rule cat [] ∷ cons_rule cat words ∷ [])
+-- lists with these items between each two elements; without items, as if they stood behind each
+abbrev pub separator_rules : Bool → CatName → List RawItem → List RawRule
+separator_rules nonempty cat items =
+    cond (is_empty items) (terminator_rules nonempty cat items)
+    (nil_rules nonempty cat ++ (one_rule cat [] ∷ cons_rule cat items ∷ []))
 
 -- the category of a level of precedence: the name at level 0, and else the name and the number
 abbrev pub level_category : List ℕ → ℕ → CatName
@@ -124,8 +122,8 @@ coercion_rules name levels =
 abbrev pub rules_of_def : Def → List RawRule
 rules_of_def (RuleDef rule) = rule ∷ []
 rules_of_def (Internal rule) = []
-rules_of_def (Terminator nonempty cat word) = terminator_rules nonempty cat (words_in word)
-rules_of_def (Separator nonempty cat word) = separator_rules nonempty cat (words_in word)
+rules_of_def (Terminator nonempty cat word) = terminator_rules nonempty cat (word_items word)
+rules_of_def (Separator nonempty cat word) = separator_rules nonempty cat (word_items word)
 rules_of_def (Coercions name levels) = coercion_rules name levels
 rules_of_def (Entry cats) = []
 
