@@ -174,3 +174,177 @@ pub one_change : {A : Type 0} (first second : Spelling A) → IsOne first
     → ((a : A) (tokens rest : List FileToken) → second a tokens rest → first a tokens rest) → IsOne second
 one_change first second one back a b tokens rest other is_a is_b =
     one a b tokens rest other (back a tokens rest is_a) (back b tokens other is_b)
+
+-- where nothing can be read, nothing is
+pub stuck_here : {A : Type 0} (Behind : List FileToken → Type 0) (spells : Spelling A) (tokens : List PlacedToken)
+    → IsOpenFront [] → GoesOn Behind spells []
+    → ((others : List FileToken) (value : A) (behind : List FileToken) → Follows tokens others → spells value others behind → ⊥)
+    → Tells Behind spells tokens (stuck tokens)
+stuck_here Behind spells tokens closed goes_on blocked = record {
+  front = [];
+  whole = refl;
+  closed = closed;
+  goes_on = goes_on;
+  blocked = blocked;
+}
+
+-- a reader tells in the words of another spelling, where that is the same on what begins as the
+-- tokens do
+pub change_tells : {A : Type 0} (Behind : List FileToken → Type 0) (first second : Spelling A) (tokens : List PlacedToken) (x : Read A)
+    → ((a : A) (others rest : List FileToken) → first a others rest → second a others rest)
+    → ((a : A) (others rest : List FileToken) → Follows tokens others → second a others rest → first a others rest)
+    → Tells Behind first tokens x → Tells Behind second tokens x
+change_tells Behind first second tokens (got a rest) forth back is = record {
+  used = is.used;
+  whole = is.whole;
+  behind = is.behind;
+  spelled = λ others behind. forth a (bare is.used ++ others) others (is.spelled others behind);
+  closed = is.closed;
+}
+change_tells Behind first second tokens (stuck rest) forth back is = record {
+  front = is.front;
+  whole = is.whole;
+  closed = is.closed;
+  goes_on = (
+    is.goes_on.0,
+    is.goes_on.1,
+    λ others behind. forth is.goes_on.0 (bare is.front ++ (is.goes_on.1 ++ others)) others (is.goes_on.2 others behind),
+  );
+  blocked = λ others value behind follows spelled.
+    is.blocked others value behind follows (back value (bare is.front ++ others) behind (follows_whole tokens is.front rest others is.whole follows) spelled);
+}
+change_tells Behind first second tokens (long rest) forth back is = record {
+  front = is.front;
+  whole = is.whole;
+  closed = is.closed;
+  begins = is.begins;
+  goes_on = (
+    is.goes_on.0,
+    is.goes_on.1,
+    λ others behind.
+      forth is.goes_on.0 ((bare is.front ++ bare is.begins.own) ++ (is.goes_on.1 ++ others)) others (is.goes_on.2 others behind),
+  );
+}
+
+-- the whole of tokens in three parts
+in_parts : (tokens used rest front behind : List PlacedToken) → tokens ≡ used ++ rest → rest ≡ front ++ behind
+    → tokens ≡ (used ++ front) ++ behind
+in_parts tokens used rest front behind e f = e ∙ ap (λ zs. used ++ zs) f ∙ sym (append_assoc used front behind)
+
+-- two parts without places, and others behind them
+bare_parts : (used front : List PlacedToken) (others : List FileToken)
+    → bare (used ++ front) ++ others ≡ bare used ++ (bare front ++ others)
+bare_parts used front others =
+    ap (λ zs. zs ++ others) (bare-append used front) ∙ append_assoc (bare used) (bare front) others
+
+module _ {A B : Type 0} (Behind : List FileToken → Type 0) (first : Spelling A) (next : A → Spelling B) where
+  -- what is read behind a value tells of both
+  pub then_got : (a : A) (tokens rest : List PlacedToken) → IsOne first → IsGot IsAny first a tokens rest
+      → (y : Read B) → Tells Behind (next a) rest y → Tells Behind (Then first next) tokens y
+  then_got a tokens rest one is (got b behind) then = record {
+    used = is.used ++ then.used;
+    whole = in_parts tokens is.used rest then.used behind is.whole then.whole;
+    behind = then.behind;
+    spelled = λ others may. (
+      a,
+      bare then.used ++ others,
+      rw (bare_parts is.used then.used others) (is.spelled (bare then.used ++ others) tt),
+      then.spelled others may,
+    );
+    closed = rw (bare-append is.used then.used) (closed_both (bare is.used) (bare then.used) is.closed then.closed);
+  }
+  then_got a tokens rest one is (stuck behind) then = record {
+    front = is.used ++ then.front;
+    whole = in_parts tokens is.used rest then.front behind is.whole then.whole;
+    closed = rw (bare-append is.used then.front) (front_behind (bare is.used) (bare then.front) is.closed then.closed);
+    goes_on = (then.goes_on.0, then.goes_on.1, λ others may.
+      let inner : List FileToken = then.goes_on.1 ++ others in (
+        a,
+        bare then.front ++ inner,
+        rw (bare_parts is.used then.front inner) (is.spelled (bare then.front ++ inner) tt),
+        then.goes_on.2 others may,
+      ));
+    blocked = λ others value last follows spelled.
+      let inner : List FileToken = bare then.front ++ others in
+      let own : first spelled.0 (bare is.used ++ inner) spelled.1 = rw (bare_parts is.used then.front others) at spelled.2 in
+      let same = one a spelled.0 (bare is.used ++ inner) inner spelled.1 (is.spelled inner tt) own in
+      then.blocked others value last follows (rw (same.0, same.1) spelled.3);
+  }
+  then_got a tokens rest one is (long behind) then = record {
+    front = is.used ++ then.front;
+    whole = in_parts tokens is.used rest then.front behind is.whole then.whole;
+    closed = rw (bare-append is.used then.front) (closed_both (bare is.used) (bare then.front) is.closed then.closed);
+    begins = then.begins;
+    goes_on = (then.goes_on.0, then.goes_on.1, λ others may.
+      let inner : List FileToken = (bare then.front ++ bare then.begins.own) ++ (then.goes_on.1 ++ others) in (
+        a,
+        inner,
+        rw (
+          append_assoc (bare (is.used ++ then.front)) (bare then.begins.own) (then.goes_on.1 ++ others),
+          bare_parts is.used then.front (bare then.begins.own ++ (then.goes_on.1 ++ others)),
+          ← append_assoc (bare then.front) (bare then.begins.own) (then.goes_on.1 ++ others),
+        ) (is.spelled inner tt),
+        then.goes_on.2 others may,
+      ));
+  }
+
+  -- with a value behind it the front can go on with both
+  more_then : (front : List FileToken) → ((a : A) → GoesOn Behind (next a) []) → GoesOn IsAny first front
+      → GoesOn Behind (Then first next) front
+  more_then front some goes_on =
+      let then = some goes_on.0 in
+      (then.0, goes_on.1 ++ then.1, λ others may.
+        let inner : List FileToken = then.1 ++ others in (
+          goes_on.0,
+          inner,
+          rw (append_assoc goes_on.1 then.1 others) (goes_on.2 inner tt),
+          then.2 others may,
+        ))
+
+  -- readers in turn tell of their spellings in turn
+  pub then_tells : (tokens : List PlacedToken) (q : A → Reader B) → IsOne first
+      → ((a : A) → GoesOn Behind (next a) [])
+      → ((a : A) (rest : List PlacedToken) → IsGot IsAny first a tokens rest → Tells Behind (next a) rest (q a rest))
+      → (x : Read A) → Tells IsAny first tokens x → Tells Behind (Then first next) tokens (next_on q x)
+  unfolding next_on
+  then_tells tokens q one some each (got a rest) is = then_got a tokens rest one is (q a rest) (each a rest is)
+  then_tells tokens q one some each (stuck rest) is = record {
+    front = is.front;
+    whole = is.whole;
+    closed = is.closed;
+    goes_on = more_then (bare is.front) some is.goes_on;
+    blocked = λ others value behind follows spelled. is.blocked others spelled.0 spelled.1 follows spelled.2;
+  }
+  then_tells tokens q one some each (long rest) is = record {
+    front = is.front;
+    whole = is.whole;
+    closed = is.closed;
+    begins = is.begins;
+    goes_on = more_then (bare is.front ++ bare is.begins.own) some is.goes_on;
+  }
+
+-- what a reader gives, turned into another value, tells of that value
+pub gives_tells : {A B : Type 0} (Behind : List FileToken → Type 0) (first : Spelling A) (turn : A → B) (tokens : List PlacedToken) (x : Read A)
+    → Tells Behind first tokens x → Tells Behind (Gives turn first) tokens (next_on (λ a. pure (turn a)) x)
+unfolding next_on
+gives_tells Behind first turn tokens (got a rest) is = record {
+  used = is.used;
+  whole = is.whole;
+  behind = is.behind;
+  spelled = λ others may. (a, refl, is.spelled others may);
+  closed = is.closed;
+}
+gives_tells Behind first turn tokens (stuck rest) is = record {
+  front = is.front;
+  whole = is.whole;
+  closed = is.closed;
+  goes_on = (turn is.goes_on.0, is.goes_on.1, λ others may. (is.goes_on.0, refl, is.goes_on.2 others may));
+  blocked = λ others value behind follows spelled. is.blocked others spelled.0 behind follows spelled.2;
+}
+gives_tells Behind first turn tokens (long rest) is = record {
+  front = is.front;
+  whole = is.whole;
+  closed = is.closed;
+  begins = is.begins;
+  goes_on = (turn is.goes_on.0, is.goes_on.1, λ others may. (is.goes_on.0, refl, is.goes_on.2 others may));
+}
