@@ -1,14 +1,18 @@
 -- Where two runs of tokens meet, no whole category is made: those of the whole are those of one of
 -- the runs.
 use Rattle.std.proofs.Common.{◌≡◌, ℕ, zero, suc, List, [], ◌∷◌, ◌++◌, ◌⊎◌, inl, inr, refl, sym, ap, ◌∙◌, append_assoc, arith}
-use Rattle.std.specs.Prelude.{replicate}
-use Rattle.std.proofs.lemmas.List.{append_cancel_left}
+use Rattle.std.specs.Prelude.{replicate, Bool, true, false, ◌<◌, ◌≤◌, ◌+◌, length}
+use Rattle.std.specs.List.{list_any}
+use Rattle.std.proofs.Common.{length-append, subst, ◌||◌}
+use Rattle.std.proofs.lemmas.Bool.{false≢true}
+use Rattle.std.proofs.lemmas.List.{append_cancel_left, length-replicate}
 use Rattle.spec_lbnf.specs.declared.definition.CatName.{CatName}
 use Rattle.spec_lbnf.specs.declared.token.Sign.TheVariants.{OpenBracket, CloseBracket}
 use Rattle.spec_lbnf.specs.declared.token.FileToken.{FileToken}
 use Rattle.spec_lbnf.specs.declared.token.FileToken.TheVariants.{Identifier}
 use Rattle.spec_lbnf.specs.declared.token.FileToken.TheVariants.{Sign as SignToken}
 use Rattle.spec_lbnf.specs.GrammarFile.{category_tokens}
+use Rattle.spec_lbnf.specs.Expansion.{category_text}
 use Rattle.spec_lbnf.specs.Faults.{EndsOpen, HasLongCategory}
 
 -- the tokens begin with a close bracket
@@ -202,3 +206,104 @@ closed_both xs ys first second =
       ];
       no_close = front.no_close;
     }
+
+-- a category has as many bytes as its brackets and its name
+pub category_len : (cat : CatName) → length (category_text cat) ≡ cat.depth + length cat.name + cat.depth
+category_len cat =
+    let opens : List ℕ = replicate cat.depth 91 in
+    let closes : List ℕ = replicate cat.depth 93 in
+    let count_opens : length opens ≡ cat.depth = length-replicate {A = ℕ} cat.depth 91 in
+    let count_closes : length closes ≡ cat.depth = length-replicate {A = ℕ} cat.depth 93 in
+    omega (arith, length-append opens (cat.name ++ closes), length-append cat.name closes, count_opens, count_closes)
+
+-- the tokens of a bracketed name, with others behind it
+abbrev pub bracketed : ℕ → List ℕ → List FileToken → List FileToken
+bracketed opens name behind = replicate opens (SignToken OpenBracket) ++ (Identifier name ∷ behind)
+
+-- a category and what is behind it are a bracketed name
+pub category_bracketed : (cat : CatName) (behind : List FileToken)
+    → category_tokens cat ++ behind ≡ bracketed cat.depth cat.name (replicate cat.depth (SignToken CloseBracket) ++ behind)
+category_bracketed cat behind =
+    append_assoc (replicate cat.depth (SignToken OpenBracket)) (Identifier cat.name ∷ replicate cat.depth (SignToken CloseBracket)) behind
+
+-- a bracketed name has a token
+pub bracketed_some : (opens : ℕ) (name : List ℕ) (behind : List FileToken) → bracketed opens name behind ≡ [] → ⊥
+bracketed_some zero name behind e = cc
+bracketed_some (suc opens) name behind e = cc
+
+-- the token is an identifier
+abbrev pub is_name : FileToken → Bool
+is_name (Identifier name) = true
+is_name other = false
+
+-- there is an identifier in a bracketed name
+bracketed_named : (opens : ℕ) (name : List ℕ) (behind : List FileToken) → list_any is_name (bracketed opens name behind) ≡ true
+bracketed_named zero name behind = refl
+bracketed_named (suc opens) name behind = bracketed_named opens name behind
+
+-- and behind others
+named_behind : (before tokens : List FileToken) → list_any is_name tokens ≡ true → list_any is_name (before ++ tokens) ≡ true
+named_behind [] tokens named = named
+named_behind (x ∷ before) tokens named = by (is_name x) (named_behind before tokens named)
+  where
+    by : (first : Bool) → list_any is_name (before ++ tokens) ≡ true → (first || list_any is_name (before ++ tokens)) ≡ true
+    by true e = refl
+    by false e = e
+
+-- tokens without an identifier have no category
+pub lacks_without_names : (tokens : List FileToken) → list_any is_name tokens ≡ false → LacksLong tokens
+lacks_without_names tokens none before has =
+    let stands : tokens ≡ before ++ bracketed has.cat.depth has.cat.name (replicate has.cat.depth (SignToken CloseBracket) ++ has.behind)
+        = has.stands ∙ ap (λ zs. before ++ zs) (category_bracketed has.cat has.behind) in
+    let some = named_behind before _ (bracketed_named has.cat.depth has.cat.name (replicate has.cat.depth (SignToken CloseBracket) ++ has.behind)) in
+    false≢true (sym none ∙ ap (list_any is_name) stands ∙ some)
+
+-- no tokens are closed
+pub nothing_closed : IsClosed []
+nothing_closed = record {
+  lacks = lacks_without_names [] refl;
+  no_open = λ ends. by ends.0 ends.1;
+  no_close = λ begins. absurd (cc begins.1);
+}
+  where
+    by : (before : List FileToken) → [] ≡ before ++ SignToken OpenBracket ∷ [] → ⊥
+    by [] e = cc
+    by (x ∷ before) e = cc
+
+-- the identifier, if the token is one, has at most 64 bytes
+abbrev pub IsShort : FileToken → Type 0
+IsShort (Identifier name) = length name ≤ 64
+IsShort other = Unit {0}
+
+-- a token that is no bracket, and whose name is short, is closed
+pub one_closed : (token : FileToken) → (token ≡ SignToken OpenBracket → ⊥) → (token ≡ SignToken CloseBracket → ⊥)
+    → IsShort token → IsClosed (token ∷ [])
+one_closed token not_open not_close short = record {
+  lacks = λ before has.
+    lacks has.cat before has.behind (has.stands ∙ ap (λ zs. before ++ zs) (category_bracketed has.cat has.behind)) has.long;
+  no_open = λ ends. ends_not ends.0 ends.1;
+  no_close = λ begins. not_close (cc begins.1);
+}
+  where
+    ends_not : (before : List FileToken) → token ∷ [] ≡ before ++ SignToken OpenBracket ∷ [] → ⊥
+    ends_not [] e = not_open (cc e)
+    ends_not (x ∷ before) e =
+        let tail : before ++ SignToken OpenBracket ∷ [] ≡ [] = cc e in
+        let none = (nothing_of before (SignToken OpenBracket ∷ []) tail).1 in
+        cc none
+
+    is_name_alone : (opens : ℕ) (name : List ℕ) (before behind : List FileToken) → token ∷ [] ≡ before ++ bracketed opens name behind
+        → (opens ≡ 0) × (token ≡ Identifier name)
+    is_name_alone zero name [] behind e = (refl, cc e)
+    is_name_alone (suc opens) name [] behind e = absurd (not_open (cc e))
+    is_name_alone opens name (x ∷ before) behind e =
+        let tail : before ++ bracketed opens name behind ≡ [] = cc e in
+        absurd (bracketed_some opens name behind (nothing_of before (bracketed opens name behind) tail).1)
+
+    lacks : (cat : CatName) (before behind : List FileToken)
+        → token ∷ [] ≡ before ++ bracketed cat.depth cat.name (replicate cat.depth (SignToken CloseBracket) ++ behind)
+        → 128 < length (category_text cat) → ⊥
+    lacks cat before behind e long =
+        let alone = is_name_alone cat.depth cat.name before _ e in
+        let few : length cat.name ≤ 64 = subst IsShort alone.1 short in
+        omega (arith, category_len cat, alone.0, few, long)

@@ -3,6 +3,7 @@ use Rattle.std.proofs.Common.{◌≡◌, ℕ, zero, suc, ◌≤◌, ◌<◌, Lis
 use Rattle.std.proofs.lemmas.List.{append-nil}
 use Rattle.std.proofs.lemmas.Option.{same_Some, none-some}
 use Rattle.spec_lbnf.specs.declared.definition.CatName.{CatName}
+use Rattle.spec_lbnf.specs.declared.token.Sign.TheVariants.{OpenBracket, CloseBracket}
 use Rattle.spec_lbnf.specs.declared.token.FileToken.{FileToken}
 use Rattle.spec_lbnf.specs.declared.token.FileToken.TheVariants.{Identifier, Number, Text, Character}
 use Rattle.spec_lbnf.specs.declared.token.FileToken.TheVariants.{Sign as SignToken}
@@ -10,13 +11,8 @@ use Rattle.spec_lbnf.specs.declared.token.PlacedToken.{PlacedToken}
 use Rattle.spec_lbnf.specs.Expansion.{category_text}
 use Rattle.spec_lbnf.specs.GrammarFile.{IsCategory, category_tokens}
 use Rattle.spec_lbnf.specs.Faults.{bare}
-use Rattle.spec_lbnf.specs.FileReading.{Read, got, stuck, long, Reader, next_on, pure, take_token, to_end}
-use Rattle.spec_lbnf.proofs.BoundaryLemmas.{IsClosed, IsOpenFront, LacksLong, front_behind, closed_both, closed_front}
-
--- the token, if it is an identifier, has at most 64 bytes
-abbrev pub IsShort : FileToken → Type 0
-IsShort (Identifier name) = length name ≤ 64
-IsShort other = Unit {0}
+use Rattle.spec_lbnf.specs.FileReading.{Read, got, stuck, long, Reader, next_on, pure, take_token, take_or_stick, to_end}
+use Rattle.spec_lbnf.proofs.BoundaryLemmas.{IsClosed, IsOpenFront, IsShort, front_behind, closed_both, closed_front, nothing_closed, one_closed}
 
 -- no identifier among the tokens has more than 64 bytes
 abbrev pub HaveShortNames : List PlacedToken → Type 0
@@ -348,3 +344,76 @@ gives_tells Behind first turn tokens (long rest) is = record {
   begins = is.begins;
   goes_on = (turn is.goes_on.0, is.goes_on.1, λ others may. (is.goes_on.0, refl, is.goes_on.2 others may));
 }
+
+-- no tokens are a front
+pub nothing_front : IsOpenFront []
+nothing_front = closed_front [] nothing_closed
+
+-- the token is a bracket
+abbrev pub IsBracket : FileToken → Type 0
+IsBracket token = (token ≡ SignToken OpenBracket) ⊎ (token ≡ SignToken CloseBracket)
+
+-- a reader of one token that is no bracket tells of that token
+pub token_tells : {A : Type 0} (value_of : FileToken → Option A) (token : FileToken) (a : A) → value_of token ≡ Some a
+    → ((t : FileToken) (b : A) → value_of t ≡ Some b → IsBracket t → ⊥)
+    → (tokens : List PlacedToken) → HaveShortNames tokens → Tells IsAny (TokenOf value_of) tokens (take_token value_of tokens)
+unfolding take_token
+token_tells {A} value_of token a has others [] short =
+    stuck_here IsAny (TokenOf value_of) [] nothing_front (a, token ∷ [], λ behind may. (token, has, refl))
+      (λ behind value rest follows spelled. cc (follows, spelled.2))
+token_tells {A} value_of token a has others (t ∷ tokens) short = by (value_of t.token) refl
+  where
+    by : (x : Option A) → value_of t.token ≡ x → Tells IsAny (TokenOf value_of) (t ∷ tokens) (take_or_stick x t tokens)
+    by (Some value) e = record {
+      used = t ∷ [];
+      whole = refl;
+      behind = tt;
+      spelled = λ behind may. (t.token, e, refl);
+      closed = one_closed t.token (λ is. others t.token value e (inl is)) (λ is. others t.token value e (inr is)) short.0;
+    }
+    by None e =
+        stuck_here IsAny (TokenOf value_of) (t ∷ tokens) nothing_front (a, token ∷ [], λ behind may. (token, has, refl))
+          (λ behind value rest follows spelled.
+            let same : t.token ≡ spelled.0 = cc (follows.1, spelled.2) in
+            none-some value (sym e ∙ ap value_of same ∙ spelled.1))
+
+-- one token can be read
+pub token_some : {A : Type 0} (value_of : FileToken → Option A) (token : FileToken) (a : A) → value_of token ≡ Some a
+    → GoesOn IsAny (TokenOf value_of) []
+token_some value_of token a has = (a, token ∷ [], λ behind may. (token, has, refl))
+
+-- the end can be read
+pub end_some : {A : Type 0} (a : A) → GoesOn IsNothing (AtEnd a) []
+end_some a = (a, [], λ behind none. (refl, none, none))
+
+-- a reader of the end tells of it
+pub end_tells : {A : Type 0} (a : A) (tokens : List PlacedToken) → Tells IsNothing (AtEnd a) tokens (to_end a tokens)
+unfolding to_end
+end_tells a [] = record {
+  used = [];
+  whole = refl;
+  behind = refl;
+  spelled = λ others none. (refl, none, none);
+  closed = nothing_closed;
+}
+end_tells a (t ∷ tokens) =
+    stuck_here IsNothing (AtEnd a) (t ∷ tokens) nothing_front (end_some a) (λ others value behind follows spelled. cc (follows.1, spelled.1))
+
+-- where a reader reads up to the end, the end is behind it
+pub to_end_tells : {A : Type 0} (spells : Spelling A) (tokens : List PlacedToken) (x : Read A)
+    → Tells IsNothing spells tokens x → Tells IsNothing spells tokens (next_on to_end x)
+unfolding next_on to_end
+to_end_tells spells tokens (got a []) is = is
+to_end_tells spells tokens (got a (t ∷ rest)) is = absurd (cc is.behind)
+to_end_tells spells tokens (stuck rest) is = is
+to_end_tells spells tokens (long rest) is = is
+
+-- some value can be spelled behind another
+pub some_then : {A B : Type 0} (Behind : List FileToken → Type 0) (first : Spelling A) (next : A → Spelling B)
+    → ((a : A) → GoesOn Behind (next a) []) → GoesOn IsAny first [] → GoesOn Behind (Then first next) []
+some_then Behind first next some goes_on = more_then Behind first next [] some goes_on
+
+-- some value can be turned
+pub some_gives : {A B : Type 0} (Behind : List FileToken → Type 0) (turn : A → B) (first : Spelling A)
+    → GoesOn Behind first [] → GoesOn Behind (Gives turn first) []
+some_gives Behind turn first goes_on = (turn goes_on.0, goes_on.1, λ others may. (goes_on.0, refl, goes_on.2 others may))
