@@ -54,11 +54,11 @@ ends_behind xs ys ends =
     (xs ++ ends.0, ap (λ zs. xs ++ zs) ends.1 ∙ sym (append_assoc xs ends.0 (SignToken OpenBracket ∷ [])))
 
 -- one token in front
-ends_cons : (x : FileToken) (xs : List FileToken) → EndsOpen xs → EndsOpen (x ∷ xs)
+pub ends_cons : (x : FileToken) (xs : List FileToken) → EndsOpen xs → EndsOpen (x ∷ xs)
 ends_cons x xs ends = ends_behind (x ∷ []) xs ends
 
 -- nothing is the list only where both its parts are
-nothing_of : {A : Type 0} (xs ys : List A) → xs ++ ys ≡ [] → (xs ≡ []) × (ys ≡ [])
+pub nothing_of : {A : Type 0} (xs ys : List A) → xs ++ ys ≡ [] → (xs ≡ []) × (ys ≡ [])
 nothing_of [] ys e = (refl, e)
 nothing_of (x ∷ xs) ys e = absurd cc
 
@@ -237,12 +237,12 @@ is_name (Identifier name) = true
 is_name other = false
 
 -- there is an identifier in a bracketed name
-bracketed_named : (opens : ℕ) (name : List ℕ) (behind : List FileToken) → list_any is_name (bracketed opens name behind) ≡ true
+pub bracketed_named : (opens : ℕ) (name : List ℕ) (behind : List FileToken) → list_any is_name (bracketed opens name behind) ≡ true
 bracketed_named zero name behind = refl
 bracketed_named (suc opens) name behind = bracketed_named opens name behind
 
 -- and behind others
-named_behind : (before tokens : List FileToken) → list_any is_name tokens ≡ true → list_any is_name (before ++ tokens) ≡ true
+pub named_behind : (before tokens : List FileToken) → list_any is_name tokens ≡ true → list_any is_name (before ++ tokens) ≡ true
 named_behind [] tokens named = named
 named_behind (x ∷ before) tokens named = by (is_name x) (named_behind before tokens named)
   where

@@ -9,3 +9,4 @@ pub mod NameLemmas
 pub mod SymbolLemmas
 pub mod BoundaryLemmas
 pub mod ReaderLemmas
+pub mod SignLemmas
