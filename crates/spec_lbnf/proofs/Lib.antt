@@ -10,3 +10,4 @@ pub mod SymbolLemmas
 pub mod BoundaryLemmas
 pub mod ReaderLemmas
 pub mod SignLemmas
+pub mod CategoryLemmas
