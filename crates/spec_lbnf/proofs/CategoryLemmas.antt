@@ -144,7 +144,7 @@ category_closed cat short = record {
 }
 
 -- the tokens do not begin with this one
-abbrev BeginsNot : FileToken → List PlacedToken → Type 0
+abbrev pub BeginsNot : FileToken → List PlacedToken → Type 0
 BeginsNot first [] = Unit {0}
 BeginsNot first (token ∷ tokens) = token.token ≡ first → ⊥
 
@@ -209,7 +209,7 @@ no_name_follows (suc n) (suc d) name behind others no_open no_name e =
     no_name_follows n d name behind others no_open no_name (cc e)
 
 -- what begins as tokens that do not begin with this one does not
-follows_not : (first : FileToken) (rest : List PlacedToken) (others more : List FileToken) → BeginsNot first rest
+pub follows_not : (first : FileToken) (rest : List PlacedToken) (others more : List FileToken) → BeginsNot first rest
     → Follows rest others → others ≡ first ∷ more → ⊥
 follows_not first [] others more begins follows e = cc
 follows_not first (token ∷ rest) others more begins follows e = begins (cc (follows.1, e))

@@ -11,3 +11,4 @@ pub mod BoundaryLemmas
 pub mod ReaderLemmas
 pub mod SignLemmas
 pub mod CategoryLemmas
+pub mod LabelLemmas
