@@ -12,3 +12,4 @@ pub mod ReaderLemmas
 pub mod SignLemmas
 pub mod CategoryLemmas
 pub mod LabelLemmas
+pub mod RuleLemmas
