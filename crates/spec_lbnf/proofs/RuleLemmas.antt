@@ -15,7 +15,7 @@ use Rattle.spec_lbnf.specs.declared.token.FileToken.{FileToken}
 use Rattle.spec_lbnf.specs.declared.token.FileToken.TheVariants.{Identifier, Text}
 use Rattle.spec_lbnf.specs.declared.token.FileToken.TheVariants.{Sign as SignToken}
 use Rattle.spec_lbnf.specs.declared.token.PlacedToken.{PlacedToken}
-use Rattle.spec_lbnf.specs.GrammarFile.{WrittenItem, category, string, IsWritten, written_tokens, written_items, words_in, category_tokens, SpellsItems, SpellsRule}
+use Rattle.spec_lbnf.specs.GrammarFile.{WrittenItem, category, string, IsWritten, written_tokens, written_items, words_in, category_tokens, label_tokens, SpellsItems, SpellsRule}
 use Rattle.spec_lbnf.specs.Faults.{bare}
 use Rattle.spec_lbnf.specs.FileReading.{Read, got, stuck, long, Reader, next_on, ◌>>=◌, pure, is_sign, sign_at, text_value, category_at, label_at, item_by, item_at, items_at, side_at, rule_at}
 use Rattle.spec_lbnf.proofs.BoundaryLemmas.{bracketed, category_bracketed, bracketed_some, one_closed, nothing_closed}
@@ -204,3 +204,183 @@ one_items a b tokens rest other is_a is_b = (
           (v, each_v.0, refl, refl) (w, each_w.0, refl, e) in
         let behind = by vs ws each_v.1 each_w.1 same.1 in
         λ i. same.0 i ++ behind i
+
+-- the token as this sign
+abbrev pub sign_value : Sign → FileToken → Option (Unit {0})
+sign_value sign token = cond (is_sign sign token) (Some tt) None
+
+-- this sign stands before the rest
+abbrev pub SignOf : Sign → Spelling (Unit {0})
+SignOf sign = TokenOf (sign_value sign)
+
+-- a sign with a value is this sign
+pub sign_value_is : (sign : Sign) (token : FileToken) (done : Unit {0}) → sign_value sign token ≡ Some done → token ≡ SignToken sign
+sign_value_is sign token done h = sign_true sign token (cond_some {A = Unit {0}} (is_sign sign token) tt done h).0
+
+-- the reader of a sign that is no bracket tells of it
+pub sign_tells : (sign : Sign) → sign_value sign (SignToken sign) ≡ Some tt
+    → (SignToken sign ≡ SignToken OpenBracket → ⊥) → (SignToken sign ≡ SignToken CloseBracket → ⊥)
+    → (tokens : List PlacedToken) → HaveShortNames tokens → Tells IsAny (SignOf sign) tokens (sign_at sign tokens)
+unfolding sign_at
+sign_tells sign same not_open not_close tokens short =
+    token_tells (sign_value sign) (SignToken sign) tt same
+      (λ token done has is. elim is [
+        | inl e ↦ not_open (sym (sign_value_is sign token done has) ∙ e)
+        | inr e ↦ not_close (sym (sign_value_is sign token done has) ∙ e)
+      ])
+      tokens short
+
+-- the tokens are a rule, and nothing is behind it
+abbrev pub RuleOf : Spelling RawRule
+RuleOf rule tokens rest = SpellsRule rule tokens × (rest ≡ [])
+
+-- the rule of these parts
+abbrev rule_of : Label → CatName → List RawItem → RawRule
+rule_of label cat items = record { label = label; cat = cat; items = items }
+
+-- what is behind the parts of a rule, one after the other
+abbrev BehindGives : Label → CatName → Spelling RawRule
+BehindGives label cat = Gives (rule_of label cat) ItemsOf
+
+abbrev BehindCategory : Label → CatName → Spelling RawRule
+BehindCategory label cat = Then (SignOf GivesSign) (λ done. BehindGives label cat)
+
+abbrev BehindDot : Label → Spelling RawRule
+BehindDot label = Then Category (BehindCategory label)
+
+abbrev BehindLabel : Label → Spelling RawRule
+BehindLabel label = Then (SignOf Dot) (λ done. BehindDot label)
+
+abbrev RuleParts : Spelling RawRule
+RuleParts = Then LabelOf BehindLabel
+
+-- the readers of these
+abbrev behind_gives : Label → CatName → Reader RawRule
+behind_gives label cat = side_at >>= (λ items. pure (rule_of label cat items))
+
+abbrev behind_category : Label → CatName → Reader RawRule
+behind_category label cat = sign_at GivesSign >>= (λ done. behind_gives label cat)
+
+abbrev behind_dot : Label → Reader RawRule
+behind_dot label = category_at >>= behind_category label
+
+abbrev behind_label : Label → Reader RawRule
+behind_label label = sign_at Dot >>= (λ done. behind_dot label)
+
+-- the parts make a rule
+rule_forth : (rule : RawRule) (tokens rest : List FileToken) → RuleParts rule tokens rest → RuleOf rule tokens rest
+rule_forth rule tokens rest is =
+    let dot = is.3 in
+    let cat = dot.3 in
+    let gives = cat.3 in
+    let items = gives.3 in
+    let is_dot = sign_value_is Dot dot.2.0 dot.0 dot.2.1 in
+    let is_gives = sign_value_is GivesSign gives.2.0 gives.0 gives.2.1 in
+    let behind_cat : cat.1 ≡ SignToken GivesSign ∷ gives.1 = gives.2.2 ∙ ap (λ t. t ∷ gives.1) is_gives in
+    let at_cat : dot.1 ≡ category_tokens cat.0 ++ (SignToken GivesSign ∷ gives.1) = cat.2.1 ∙ ap (λ zs. category_tokens cat.0 ++ zs) behind_cat in
+    let behind : is.1 ≡ SignToken Dot ∷ (category_tokens cat.0 ++ (SignToken GivesSign ∷ gives.1)) = dot.2.2 ∙ (λ i. is_dot i ∷ at_cat i) in
+    let own : SpellsRule (rule_of is.0 cat.0 items.0) tokens = record {
+      is_label = is.2.0;
+      is_cat = cat.2.0;
+      side = gives.1;
+      items = items.2.0;
+      whole = is.2.1 ∙ ap (λ zs. label_tokens is.0 ++ zs) behind;
+    } in
+    (subst (λ r. SpellsRule r tokens) (sym items.1) own, items.2.1)
+
+-- a rule is made of the parts
+rule_back : (rule : RawRule) (tokens rest : List FileToken) → RuleOf rule tokens rest → RuleParts rule tokens rest
+rule_back rule tokens rest is =
+    let own = is.0 in
+    let behind_cat : List FileToken = SignToken GivesSign ∷ own.side in
+    let behind_dot : List FileToken = category_tokens rule.cat ++ behind_cat in (
+      rule.label,
+      SignToken Dot ∷ behind_dot,
+      (own.is_label, own.whole),
+      (
+        tt,
+        behind_dot,
+        (SignToken Dot, refl, refl),
+        (
+          rule.cat,
+          behind_cat,
+          (own.is_cat, refl),
+          (tt, own.side, (SignToken GivesSign, refl, refl), (rule.items, refl, (own.items, is.1))),
+        ),
+      ),
+    )
+
+-- tokens are at most one rule
+pub one_rule : IsOne RuleOf
+one_rule = one_change RuleParts RuleOf
+    (one_then LabelOf BehindLabel one_label (λ label.
+      one_then (SignOf Dot) (λ done. BehindDot label) (one_token (sign_value Dot)) (λ done.
+        one_then Category (BehindCategory label) one_category (λ cat.
+          one_then (SignOf GivesSign) (λ done. BehindGives label cat) (one_token (sign_value GivesSign)) (λ done.
+            one_gives (rule_of label cat) ItemsOf one_items)))))
+    rule_back
+
+-- some right side can be read
+some_behind_gives : (label : Label) (cat : CatName) → GoesOn IsNothing (BehindGives label cat) []
+some_behind_gives label cat = some_gives IsNothing (rule_of label cat) ItemsOf some_items
+
+-- and behind the other parts
+some_behind_category : (label : Label) (cat : CatName) → GoesOn IsNothing (BehindCategory label cat) []
+some_behind_category label cat =
+    some_then IsNothing (SignOf GivesSign) (λ done. BehindGives label cat) (λ done. some_behind_gives label cat)
+      (token_some (sign_value GivesSign) (SignToken GivesSign) tt refl)
+
+some_behind_dot : (label : Label) → GoesOn IsNothing (BehindDot label) []
+some_behind_dot label = some_then IsNothing Category (BehindCategory label) (some_behind_category label) some_category
+
+some_behind_label : (label : Label) → GoesOn IsNothing (BehindLabel label) []
+some_behind_label label =
+    some_then IsNothing (SignOf Dot) (λ done. BehindDot label) (λ done. some_behind_dot label)
+      (token_some (sign_value Dot) (SignToken Dot) tt refl)
+
+-- some rule can be read
+pub some_rule : GoesOn IsNothing RuleOf []
+some_rule =
+    let parts = some_then IsNothing LabelOf BehindLabel some_behind_label some_label in
+    (parts.0, parts.1, λ others none. rule_forth parts.0 (parts.1 ++ others) others (parts.2 others none))
+
+-- the reader of a right side tells of it
+side_tells : (label : Label) (cat : CatName) (tokens : List PlacedToken) → HaveShortNames tokens
+    → Tells IsNothing (BehindGives label cat) tokens (behind_gives label cat tokens)
+unfolding side_at
+side_tells label cat tokens short =
+    gives_tells IsNothing ItemsOf (rule_of label cat) tokens (items_at (length tokens) tokens)
+      (items_tell (length tokens) tokens (omega arith) short)
+
+-- and so do those of the parts before it
+behind_category_tells : (label : Label) (cat : CatName) (tokens : List PlacedToken) → HaveShortNames tokens
+    → Tells IsNothing (BehindCategory label cat) tokens (behind_category label cat tokens)
+behind_category_tells label cat tokens short =
+    then_tells IsNothing (SignOf GivesSign) (λ done. BehindGives label cat) tokens (λ done. behind_gives label cat)
+      (one_token (sign_value GivesSign)) (λ done. some_behind_gives label cat)
+      (λ done rest is. side_tells label cat rest (short_rest IsAny (SignOf GivesSign) done tokens rest is short))
+      (sign_at GivesSign tokens) (sign_tells GivesSign refl (λ e. cc e) (λ e. cc e) tokens short)
+
+behind_dot_tells : (label : Label) (tokens : List PlacedToken) → HaveShortNames tokens
+    → Tells IsNothing (BehindDot label) tokens (behind_dot label tokens)
+behind_dot_tells label tokens short =
+    then_tells IsNothing Category (BehindCategory label) tokens (behind_category label) one_category (some_behind_category label)
+      (λ cat rest is. behind_category_tells label cat rest (short_rest IsAny Category cat tokens rest is short))
+      (category_at tokens) (category_tells tokens)
+
+behind_label_tells : (label : Label) (tokens : List PlacedToken) → HaveShortNames tokens
+    → Tells IsNothing (BehindLabel label) tokens (behind_label label tokens)
+behind_label_tells label tokens short =
+    then_tells IsNothing (SignOf Dot) (λ done. BehindDot label) tokens (λ done. behind_dot label)
+      (one_token (sign_value Dot)) (λ done. some_behind_dot label)
+      (λ done rest is. behind_dot_tells label rest (short_rest IsAny (SignOf Dot) done tokens rest is short))
+      (sign_at Dot tokens) (sign_tells Dot refl (λ e. cc e) (λ e. cc e) tokens short)
+
+-- the reader of a rule tells of the rule that the tokens are
+pub rule_tells : (tokens : List PlacedToken) → HaveShortNames tokens → Tells IsNothing RuleOf tokens (rule_at tokens)
+unfolding rule_at
+rule_tells tokens short =
+    change_tells IsNothing RuleParts RuleOf tokens _ rule_forth (λ a others rest follows. rule_back a others rest)
+      (then_tells IsNothing LabelOf BehindLabel tokens behind_label one_label some_behind_label
+        (λ label rest is. behind_label_tells label rest (short_rest IsAny LabelOf label tokens rest is short))
+        (label_at tokens) (label_tells tokens short))
