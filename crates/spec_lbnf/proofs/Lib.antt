@@ -13,3 +13,4 @@ pub mod SignLemmas
 pub mod CategoryLemmas
 pub mod LabelLemmas
 pub mod RuleLemmas
+pub mod FormLemmas
