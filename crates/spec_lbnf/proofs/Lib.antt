@@ -14,3 +14,4 @@ pub mod CategoryLemmas
 pub mod LabelLemmas
 pub mod RuleLemmas
 pub mod FormLemmas
+pub mod DefLemmas
