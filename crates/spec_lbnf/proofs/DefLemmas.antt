@@ -13,7 +13,7 @@ use Rattle.spec_lbnf.specs.declared.definition.Def.{Def}
 use Rattle.spec_lbnf.specs.declared.definition.Def.TheVariants.{Rule, Internal, Terminator, Separator, Coercions, Entry}
 use Rattle.spec_lbnf.specs.declared.token.Sign.TheVariants.{OpenBracket, OpenParen, Underscore}
 use Rattle.spec_lbnf.specs.declared.token.FileToken.{FileToken}
-use Rattle.spec_lbnf.specs.declared.token.FileToken.TheVariants.{Identifier, Number, Text}
+use Rattle.spec_lbnf.specs.declared.token.FileToken.TheVariants.{Identifier, Number, Text, Character}
 use Rattle.spec_lbnf.specs.declared.token.FileToken.TheVariants.{Sign as SignToken}
 use Rattle.spec_lbnf.specs.declared.token.PlacedToken.{PlacedToken}
 use Rattle.spec_lbnf.specs.FirstForm.{starts_upper}
@@ -244,3 +244,144 @@ rule_back : (def : Def) (token : FileToken) (tokens more rest : List FileToken) 
 rule_back (Rule rule) token tokens more rest begins kind is = (rule, refl, is)
 rule_back def token tokens more rest begins kind is =
     absurd (omega (arith, kind, spelled_kind def tokens more token is.0 begins))
+
+-- a token that is none of the first words begins a rule
+no_word_kind : (token : FileToken) → is_word (codes "internal") token ≡ false → is_word (codes "terminator") token ≡ false
+    → is_word (codes "separator") token ≡ false → is_word (codes "coercions") token ≡ false
+    → is_word (codes "entrypoints") token ≡ false → token_kind token ≡ 0
+no_word_kind (Identifier name) a b c d e = rw (a, b, c, d, e) refl
+no_word_kind (Number value) a b c d e = refl
+no_word_kind (Text value) a b c d e = refl
+no_word_kind (Character value) a b c d e = refl
+no_word_kind (SignToken sign) a b c d e = refl
+
+module _ (token : PlacedToken) (tokens : List PlacedToken) (short : HaveShortNames (token ∷ tokens)) where
+  -- the reader of a rule, where no first word of another form stands
+  plain_tells : token_kind token.token ≡ 0
+      → Tells IsNothing DefOf (token ∷ tokens) (next_on to_end ((rule_at >>= (λ rule. pure (Rule rule))) (token ∷ tokens)))
+  plain_tells kind =
+      change_tells IsNothing (Gives Rule RuleOf) DefOf (token ∷ tokens) _
+        (λ def others rest is.
+          let Are : Def → Type 0 = λ d. DefOf d others rest in subst Are (sym is.1) is.2)
+        (λ def others rest follows is. rule_back def token.token others follows.0 rest follows.1 kind is)
+        (to_end_tells (Gives Rule RuleOf) (token ∷ tokens) _
+          (gives_tells IsNothing RuleOf Rule (token ∷ tokens) (rule_at (token ∷ tokens)) (rule_tells (token ∷ tokens) short)))
+
+  -- the reader of a rule behind `internal`
+  internal_tells : Tells IsNothing InternalRest tokens (next_on to_end ((rule_at >>= (λ rule. pure (Internal rule))) tokens))
+  internal_tells =
+      to_end_tells InternalRest tokens _
+        (gives_tells IsNothing RuleOf Internal tokens (rule_at tokens) (rule_tells tokens short.1))
+
+  -- the reader of a macro of lists behind its first word
+  macro_rest_tells : (def_of : Bool → CatName → List ℕ → Def)
+      → Tells IsNothing (MacroRest def_of) tokens (next_on to_end (list_macro_at def_of tokens))
+  macro_rest_tells def_of =
+      then_tells IsNothing (ListMacroOf def_of) AtEnd tokens to_end (one_list_macro def_of) end_some
+        (λ def rest is. end_tells def rest) (list_macro_at def_of tokens) (list_macro_tells def_of tokens short.1)
+
+  -- the reader of coercions behind their first word
+  coercions_rest_tell : Tells IsNothing CoercionsRest tokens (next_on to_end (coercions_at tokens))
+  coercions_rest_tell =
+      then_tells IsNothing CoercionsOf AtEnd tokens to_end one_coercions end_some
+        (λ def rest is. end_tells def rest) (coercions_at tokens) (coercions_tell tokens short.1)
+
+  -- the reader of entry points behind their first word
+  entry_rest_tells : Tells IsNothing EntryRest tokens (next_on to_end ((entries_at >>= (λ cats. pure (Entry cats))) tokens))
+  entry_rest_tells =
+      to_end_tells EntryRest tokens _
+        (gives_tells IsNothing EntriesOf Entry tokens (entries_at tokens) (entries_tell tokens short.1))
+
+  -- the reader of a definition, by its first token
+  first_tells : Tells IsNothing DefOf (token ∷ tokens) (next_on to_end (def_by token tokens))
+  unfolding def_by
+  first_tells = by_internal (is_word (codes "internal") token.token) refl
+    where
+      by_entry : (b : Bool) → is_word (codes "entrypoints") token.token ≡ b → is_word (codes "coercions") token.token ≡ false
+          → is_word (codes "separator") token.token ≡ false → is_word (codes "terminator") token.token ≡ false
+          → is_word (codes "internal") token.token ≡ false
+          → Tells IsNothing DefOf (token ∷ tokens) (next_on to_end
+            (cond b ((entries_at >>= (λ cats. pure (Entry cats))) tokens) ((rule_at >>= (λ rule. pure (Rule rule))) (token ∷ tokens))))
+      by_entry true e d c b a = word_tells (codes "entrypoints") EntryRest token tokens _ e short entry_forth entry_back entry_rest_tells
+      by_entry false e d c b a = plain_tells (no_word_kind token.token a b c d e)
+
+      by_coercions : (b : Bool) → is_word (codes "coercions") token.token ≡ b
+          → is_word (codes "separator") token.token ≡ false → is_word (codes "terminator") token.token ≡ false
+          → is_word (codes "internal") token.token ≡ false
+          → Tells IsNothing DefOf (token ∷ tokens) (next_on to_end
+            (cond b (coercions_at tokens)
+            (cond (is_word (codes "entrypoints") token.token) ((entries_at >>= (λ cats. pure (Entry cats))) tokens)
+            ((rule_at >>= (λ rule. pure (Rule rule))) (token ∷ tokens)))))
+      by_coercions true d c b a = word_tells (codes "coercions") CoercionsRest token tokens _ d short coercions_forth coercions_back coercions_rest_tell
+      by_coercions false d c b a = by_entry (is_word (codes "entrypoints") token.token) refl d c b a
+
+      by_separator : (b : Bool) → is_word (codes "separator") token.token ≡ b → is_word (codes "terminator") token.token ≡ false
+          → is_word (codes "internal") token.token ≡ false
+          → Tells IsNothing DefOf (token ∷ tokens) (next_on to_end
+            (cond b (list_macro_at Separator tokens)
+            (cond (is_word (codes "coercions") token.token) (coercions_at tokens)
+            (cond (is_word (codes "entrypoints") token.token) ((entries_at >>= (λ cats. pure (Entry cats))) tokens)
+            ((rule_at >>= (λ rule. pure (Rule rule))) (token ∷ tokens))))))
+      by_separator true c b a = word_tells (codes "separator") (MacroRest Separator) token tokens _ c short separator_forth separator_back (macro_rest_tells Separator)
+      by_separator false c b a = by_coercions (is_word (codes "coercions") token.token) refl c b a
+
+      by_terminator : (b : Bool) → is_word (codes "terminator") token.token ≡ b → is_word (codes "internal") token.token ≡ false
+          → Tells IsNothing DefOf (token ∷ tokens) (next_on to_end
+            (cond b (list_macro_at Terminator tokens)
+            (cond (is_word (codes "separator") token.token) (list_macro_at Separator tokens)
+            (cond (is_word (codes "coercions") token.token) (coercions_at tokens)
+            (cond (is_word (codes "entrypoints") token.token) ((entries_at >>= (λ cats. pure (Entry cats))) tokens)
+            ((rule_at >>= (λ rule. pure (Rule rule))) (token ∷ tokens)))))))
+      by_terminator true b a = word_tells (codes "terminator") (MacroRest Terminator) token tokens _ b short terminator_forth terminator_back (macro_rest_tells Terminator)
+      by_terminator false b a = by_separator (is_word (codes "separator") token.token) refl b a
+
+      by_internal : (b : Bool) → is_word (codes "internal") token.token ≡ b
+          → Tells IsNothing DefOf (token ∷ tokens) (next_on to_end
+            (cond b ((rule_at >>= (λ rule. pure (Internal rule))) tokens)
+            (cond (is_word (codes "terminator") token.token) (list_macro_at Terminator tokens)
+            (cond (is_word (codes "separator") token.token) (list_macro_at Separator tokens)
+            (cond (is_word (codes "coercions") token.token) (coercions_at tokens)
+            (cond (is_word (codes "entrypoints") token.token) ((entries_at >>= (λ cats. pure (Entry cats))) tokens)
+            ((rule_at >>= (λ rule. pure (Rule rule))) (token ∷ tokens))))))))
+      by_internal true a = word_tells (codes "internal") InternalRest token tokens _ a short internal_forth internal_back internal_tells
+      by_internal false a = by_terminator (is_word (codes "terminator") token.token) refl a
+
+-- the reader of a definition tells of the definition that the tokens are
+pub def_tells : (tokens : List PlacedToken) → HaveShortNames tokens → Tells IsNothing DefOf tokens (def_at tokens)
+unfolding def_at
+def_tells [] short =
+    stuck_here IsNothing DefOf [] nothing_front some_def
+      (λ others def behind follows is.
+        let Spelled : List FileToken → Type 0 = λ ts. SpellsDef def ts in def_some def (subst Spelled follows is.0))
+def_tells (token ∷ tokens) short = first_tells token tokens short
+
+-- tokens are at most one definition
+pub one_def : (a b : Def) (tokens : List FileToken) → SpellsDef a tokens → SpellsDef b tokens → a ≡ b
+one_def (Rule r) (Rule s) tokens is_a is_b = ap Rule (one_rule r s tokens [] [] (is_a, refl) (is_b, refl)).0
+one_def (Internal r) (Internal s) tokens is_a is_b =
+    let same : is_b.0 ≡ is_a.0 = cc (is_a.2, is_b.2) in
+    ap Internal (one_rule r s is_a.0 [] [] (is_a.1, refl) (subst (SpellsRule s) same is_b.1, refl)).0
+one_def (Terminator m c v) (Terminator n d w) tokens is_a is_b =
+    let same : nonempty_tokens m ++ (category_tokens c ++ (Text v ∷ [])) ≡ nonempty_tokens n ++ (category_tokens d ++ (Text w ∷ []))
+        = cc (is_a.1, is_b.1) in
+    (one_list_macro Terminator (Terminator m c v) (Terminator n d w) _ [] []
+      (m, c, v, is_a.0, refl, refl) (n, d, w, is_b.0, refl, same)).0
+one_def (Separator m c v) (Separator n d w) tokens is_a is_b =
+    let same : nonempty_tokens m ++ (category_tokens c ++ (Text v ∷ [])) ≡ nonempty_tokens n ++ (category_tokens d ++ (Text w ∷ []))
+        = cc (is_a.1, is_b.1) in
+    (one_list_macro Separator (Separator m c v) (Separator n d w) _ [] []
+      (m, c, v, is_a.0, refl, refl) (n, d, w, is_b.0, refl, same)).0
+one_def (Coercions a x) (Coercions b y) tokens is_a is_b =
+    let names : a ≡ b = cc (is_a.1, is_b.1) in
+    let levels : x ≡ y = cc (is_a.1, is_b.1) in
+    λ i. Coercions (names i) (levels i)
+one_def (Entry a) (Entry b) tokens is_a is_b =
+    let same : entry_tokens a ≡ entry_tokens b = cc (is_a.2, is_b.2) in
+    ap Entry (one_entries a b (entry_tokens a) [] []
+      (is_a.0, recursion_from_All IsCategory a is_a.1, refl, refl) (is_b.0, recursion_from_All IsCategory b is_b.1, same, refl)).0
+one_def a b tokens is_a is_b = absurd (differ tokens is_a is_b)
+  where
+    differ : (tokens : List FileToken) → SpellsDef a tokens → SpellsDef b tokens → ⊥
+    differ [] is_a is_b = def_some a is_a
+    differ (token ∷ tokens) is_a is_b =
+        omega (arith, spelled_kind a (token ∷ tokens) tokens token is_a refl, spelled_kind b (token ∷ tokens) tokens token is_b refl)
