@@ -15,3 +15,4 @@ pub mod LabelLemmas
 pub mod RuleLemmas
 pub mod FormLemmas
 pub mod DefLemmas
+pub mod PieceLemmas
