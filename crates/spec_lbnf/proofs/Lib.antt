@@ -16,3 +16,4 @@ pub mod RuleLemmas
 pub mod FormLemmas
 pub mod DefLemmas
 pub mod PieceLemmas
+pub mod DefsLemmas
