@@ -87,6 +87,10 @@ begins_not : (n : ℕ) (name : List ℕ) (behind : List FileToken) → BeginsClo
 begins_not zero name behind begins = cc begins.1
 begins_not (suc n) name behind begins = cc begins.1
 
+-- a category does not begin with a close bracket
+pub category_no_close : (cat : CatName) → BeginsClosed (category_tokens cat) → ⊥
+category_no_close cat = begins_not cat.depth cat.name (closing cat.depth)
+
 -- open brackets are a front
 opens_front : (n : ℕ) → IsOpenFront (opening n)
 opens_front n = record { lacks = lacks_without_names (opening n) (no_names n); no_close = λ begins. begins_no n begins.0 begins.1 }
