@@ -15,7 +15,7 @@ use Rattle.spec_lbnf.specs.GrammarFile.{IsCategory, IsUpperName, category_tokens
 use Rattle.spec_lbnf.specs.Faults.{bare, EndsOpen, HasLongCategory}
 use Rattle.spec_lbnf.specs.FileReading.{Read, got, stuck, long, Reader, next_on, pure, take_token, take_or_stick, is_sign, sign_at, upper_name, name_at, open_count, closes_at, bracketed_at, limited, category_at}
 use Rattle.spec_lbnf.proofs.BoundaryLemmas.{IsClosed, IsOpenFront, LacksLong, BeginsClosed, each_same, category_len, bracketed, category_bracketed, bracketed_named, named_behind, is_name, lacks_without_names, nothing_of, ends_cons, nothing_closed}
-use Rattle.spec_lbnf.proofs.SignLemmas.{sign_true, sign_false, upper_some, upper_none}
+use Rattle.spec_lbnf.proofs.TokenTestLemmas.{sign_true, sign_false, upper_some, upper_none}
 use Rattle.spec_lbnf.proofs.ReaderLemmas.{Spelling, IsOne, IsAny, Follows, GoesOn, IsGot, IsStuckAt, IsLongAt, Tells, bare-append}
 
 -- a category stands before the rest

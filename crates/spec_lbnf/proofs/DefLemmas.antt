@@ -20,7 +20,7 @@ use Rattle.spec_lbnf.specs.FirstForm.{starts_upper}
 use Rattle.spec_lbnf.specs.GrammarFile.{IsCategory, IsLabel, IsUpperName, label_tokens, category_tokens, entry_tokens, nonempty_tokens, keyword, macro_tokens, SpellsRule, SpellsDef}
 use Rattle.spec_lbnf.specs.Faults.{bare}
 use Rattle.spec_lbnf.specs.FileReading.{Read, got, stuck, long, Reader, next_on, ◌>>=◌, pure, to_end, is_word, rule_at, list_macro_at, coercions_at, entries_at, def_by, def_at}
-use Rattle.spec_lbnf.proofs.SignLemmas.{word_true, word_false}
+use Rattle.spec_lbnf.proofs.TokenTestLemmas.{word_true, word_false}
 use Rattle.spec_lbnf.proofs.ReaderLemmas.{Spelling, IsOne, IsAny, IsNothing, Follows, GoesOn, IsGot, Tells, Then, Gives, AtEnd, TokenOf, HaveShortNames, nothing_front, stuck_here, change_tells, then_tells, then_got, gives_tells, end_some, end_tells, to_end_tells, one_token}
 use Rattle.spec_lbnf.proofs.RuleLemmas.{RuleOf, one_rule, some_rule, rule_tells}
 use Rattle.spec_lbnf.proofs.FormLemmas.{WordOf, word_got, word_of, ListMacroOf, one_list_macro, list_macro_tells, CoercionsOf, one_coercions, coercions_tell, EntriesOf, one_entries, entries_tell}

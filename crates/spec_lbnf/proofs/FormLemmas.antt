@@ -18,7 +18,7 @@ use Rattle.spec_lbnf.specs.GrammarFile.{IsCategory, IsUpperName, category_tokens
 use Rattle.spec_lbnf.specs.Faults.{bare}
 use Rattle.spec_lbnf.specs.FileReading.{Read, got, stuck, long, Reader, next_on, ◌>>=◌, pure, sign_at, upper_name, name_at, text_value, text_at, number_value, number_at, category_at, is_word, macro_at, list_macro_at, coercions_at, more_entries_at, entries_at}
 use Rattle.spec_lbnf.proofs.BoundaryLemmas.{bracketed, category_bracketed, one_closed, nothing_closed}
-use Rattle.spec_lbnf.proofs.SignLemmas.{upper_some, upper_has, text_some, number_some, word_true, word_false}
+use Rattle.spec_lbnf.proofs.TokenTestLemmas.{upper_some, upper_has, text_some, number_some, word_true, word_false}
 use Rattle.spec_lbnf.proofs.ReaderLemmas.{Spelling, IsOne, IsAny, IsNothing, Follows, GoesOn, IsGot, Tells, Then, Gives, TokenOf, HaveShortNames, nothing_front, stuck_here, change_tells, then_tells, then_got, gives_tells, token_tells, token_some, some_then, some_gives, short_rest, IsBracket, one_token, one_then, one_gives, one_change}
 use Rattle.spec_lbnf.proofs.CategoryLemmas.{Category, one_category, some_category, category_tells}
 use Rattle.spec_lbnf.proofs.RuleLemmas.{category_no_text, category_some, SignOf, sign_value, sign_value_is, sign_tells}

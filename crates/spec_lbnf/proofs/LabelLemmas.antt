@@ -16,7 +16,7 @@ use Rattle.spec_lbnf.specs.GrammarFile.{IsLabel, IsUpperName, label_tokens}
 use Rattle.spec_lbnf.specs.Faults.{bare, EndsOpen}
 use Rattle.spec_lbnf.specs.FileReading.{Read, got, stuck, long, next_on, pure, take_token, take_or_stick, is_sign, sign_at, upper_name, nil_at, one_at, colon_label_at, paren_label_at, sign_label_at, label_by, label_at}
 use Rattle.spec_lbnf.proofs.BoundaryLemmas.{IsClosed, IsOpenFront, BeginsClosed, is_name, lacks_without_names, one_closed, closed_front, nothing_closed}
-use Rattle.spec_lbnf.proofs.SignLemmas.{sign_true, sign_same, sign_false, upper_some, upper_none}
+use Rattle.spec_lbnf.proofs.TokenTestLemmas.{sign_true, sign_same, sign_false, upper_some, upper_none}
 use Rattle.spec_lbnf.proofs.ReaderLemmas.{Spelling, IsOne, IsAny, Follows, GoesOn, IsGot, IsStuckAt, Tells, HaveShortNames, nothing_front, stuck_here}
 use Rattle.spec_lbnf.proofs.CategoryLemmas.{BeginsNot, follows_not}
 

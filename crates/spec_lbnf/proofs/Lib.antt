@@ -9,7 +9,7 @@ pub mod NameLemmas
 pub mod SymbolLemmas
 pub mod BoundaryLemmas
 pub mod ReaderLemmas
-pub mod SignLemmas
+pub mod TokenTestLemmas
 pub mod CategoryLemmas
 pub mod LabelLemmas
 pub mod RuleLemmas

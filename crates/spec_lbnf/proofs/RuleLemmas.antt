@@ -19,7 +19,7 @@ use Rattle.spec_lbnf.specs.GrammarFile.{WrittenItem, category, string, IsWritten
 use Rattle.spec_lbnf.specs.Faults.{bare}
 use Rattle.spec_lbnf.specs.FileReading.{Read, got, stuck, long, Reader, next_on, ◌>>=◌, pure, is_sign, sign_at, text_value, category_at, label_at, item_by, item_at, items_at, side_at, rule_at}
 use Rattle.spec_lbnf.proofs.BoundaryLemmas.{bracketed, category_bracketed, bracketed_some, one_closed, nothing_closed}
-use Rattle.spec_lbnf.proofs.SignLemmas.{sign_true, text_some}
+use Rattle.spec_lbnf.proofs.TokenTestLemmas.{sign_true, text_some}
 use Rattle.spec_lbnf.proofs.ReaderLemmas.{Spelling, IsOne, IsAny, IsNothing, Follows, GoesOn, IsGot, IsStuckAt, Tells, Then, Gives, TokenOf, HaveShortNames, nothing_front, stuck_here, change_tells, then_tells, gives_tells, token_tells, token_some, some_then, some_gives, short_rest, IsBracket, one_token, one_then, one_gives, one_change}
 use Rattle.spec_lbnf.proofs.CategoryLemmas.{Category, one_category, some_category, category_tells}
 use Rattle.spec_lbnf.proofs.LabelLemmas.{LabelOf, one_label, some_label, label_tells}
