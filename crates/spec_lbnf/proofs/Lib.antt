@@ -7,3 +7,4 @@ pub mod CheckLemmas
 pub mod CycleLemmas
 pub mod NameLemmas
 pub mod SymbolLemmas
+pub mod SpaceLemmas
