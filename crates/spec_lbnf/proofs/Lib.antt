@@ -8,3 +8,4 @@ pub mod CycleLemmas
 pub mod NameLemmas
 pub mod SymbolLemmas
 pub mod SpaceLemmas
+pub mod LiteralLemmas
