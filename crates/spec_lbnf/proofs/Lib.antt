@@ -9,3 +9,6 @@ pub mod NameLemmas
 pub mod SymbolLemmas
 pub mod SpaceLemmas
 pub mod LiteralLemmas
+pub mod SignLemmas
+pub mod RunTokenLemmas
+pub mod ScanLemmas

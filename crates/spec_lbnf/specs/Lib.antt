@@ -8,3 +8,4 @@ pub mod GrammarFile
 pub mod Faults
 pub mod FileReading
 pub mod Scanning
+pub mod FileLaws
