@@ -11,9 +11,9 @@ use Rattle.spec_lbnf.specs.declared.token.FileToken.TheVariants.{Identifier, Num
 use Rattle.spec_lbnf.specs.declared.token.FileToken.TheVariants.{Sign as SignToken}
 use Rattle.spec_lbnf.specs.declared.token.PlacedToken.{PlacedToken}
 use Rattle.spec_lbnf.specs.FirstForm.{is_white}
-use Rattle.spec_lbnf.specs.FileTokens.{is_letter, is_digit, Begins, BeginsWith, IsLongestSign, sign_bytes, Separates, Skips, nothing, goes_on, IsStuck, AreTokensTo}
+use Rattle.spec_lbnf.specs.FileTokens.{is_letter, is_digit, Begins, BeginsWith, IsLongestSign, sign_bytes, Separates, Skips, nothing, goes_on, IsStuck, AreTokensTo, IsScan}
 use Rattle.spec_lbnf.specs.FileLaws.{RiseTo}
-use Rattle.spec_lbnf.specs.Scanning.{has_front, behind_space, identifier_at, number_at, byte_sign, longest_of, sign_at, token_at}
+use Rattle.spec_lbnf.specs.Scanning.{has_front, behind_space, identifier_at, number_at, byte_sign, longest_of, sign_at, token_at, tokens_by, tokens_from, scan_of}
 use Rattle.spec_lbnf.proofs.SpaceLemmas.{space_again, space_read}
 use Rattle.spec_lbnf.proofs.LiteralLemmas.{string_again, string_read, character_again, character_read}
 use Rattle.spec_lbnf.proofs.SignLemmas.{sign_again, sign_read}
@@ -274,27 +274,28 @@ module _ (size : ℕ) where
     no_space = λ rest space. none-some _ (sym e ∙ space_again bytes rest space);
   }
 
-  -- a list of tokens, up to some place
-  abbrev SomeTokens : List ℕ → Type 0
-  SomeTokens bytes = (tokens : List PlacedToken) × (stop : ℕ) × AreTokensTo size bytes tokens stop
-
-  -- bytes have a list of tokens
-  pub some_list : (turns : ℕ) (bytes : List ℕ) → length bytes < turns → length bytes ≤ size → SomeTokens bytes
-  some_list zero bytes l fits = absurd (omega arith)
-  some_list (suc turns) bytes l fits =
-      by (λ behind shorter. some_list turns behind (omega arith) (omega arith))
+  -- what is read of bytes are their tokens
+  pub tokens_are : (turns : ℕ) (bytes : List ℕ) → length bytes < turns → length bytes ≤ size
+      → AreTokensTo size bytes (tokens_from turns size bytes).0 (tokens_from turns size bytes).1
+  unfolding tokens_from
+  tokens_are zero bytes l fits = absurd (omega arith)
+  tokens_are (suc turns) bytes l fits =
+      by (tokens_from turns size) (λ behind shorter. tokens_are turns behind (omega arith) (omega arith))
       (behind_space bytes) refl (token_at bytes) refl
     where
-      by : ((behind : List ℕ) → length behind < length bytes → SomeTokens behind)
-          → (space : Option (List ℕ)) → behind_space bytes ≡ space → (read : Option (FileToken × List ℕ))
-          → token_at bytes ≡ read → SomeTokens bytes
-      by others (Some behind) e read f =
+      by : (others : List ℕ → List PlacedToken × ℕ)
+          → ((behind : List ℕ) → length behind < length bytes → AreTokensTo size behind (others behind).0 (others behind).1)
+          → (space : Option (List ℕ)) → behind_space bytes ≡ space
+          → (read : Option (FileToken × List ℕ)) → token_at bytes ≡ read
+          → AreTokensTo size bytes (tokens_by others (size - length bytes) space read).0 (tokens_by others (size - length bytes) space read).1
+      by others are (Some behind) e read f =
           let space = space_read bytes behind e in
-          let more = others behind (space_some bytes behind space) in
-          (more.0, more.1, behind_a_space more.0 bytes behind more.1 space more.2)
-      by others None e None f = ([], size - length bytes, (bytes, nothing bytes bytes refl, nothing_read bytes e f, omega arith))
-      by others None e (Some read) f =
+          behind_a_space (others behind).0 bytes behind (others behind).1 space (are behind (space_some bytes behind space))
+      by others are None e None f = (bytes, nothing bytes bytes refl, nothing_read bytes e f, omega arith)
+      by others are None e (Some read) f =
           let begins = token_read bytes read.0 read.1 f in
-          let more = others read.1 (token_some read.0 bytes read.1 begins) in
-          let token : PlacedToken = record { token = read.0; place = size - length bytes } in
-          (token ∷ more.0, more.1, (bytes, read.1, nothing bytes bytes refl, omega arith, begins, more.2))
+          (bytes, read.1, nothing bytes bytes refl, omega arith, begins, are read.1 (token_some read.0 bytes read.1 begins))
+
+-- what is read of a file is its scan
+pub scanned : (bytes : List ℕ) → IsScan bytes (scan_of bytes).0 (scan_of bytes).1
+scanned bytes = tokens_are (length bytes) (suc (length bytes)) bytes (omega arith) (omega arith)

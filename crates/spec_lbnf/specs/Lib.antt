@@ -9,3 +9,4 @@ pub mod Faults
 pub mod FileReading
 pub mod Scanning
 pub mod FileLaws
+pub mod ScanExamples

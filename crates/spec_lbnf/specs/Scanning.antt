@@ -1,6 +1,6 @@
 -- Scanning a grammar file: a function for each sort of token and of what separates tokens. Serves
 -- the proofs alone: what tokens are is said in FileTokens.
-use Rattle.std.specs.Prelude.{ℕ, List, [], ◌∷◌, ◌++◌, length, take, drop, codes, Bool, true, false}
+use Rattle.std.specs.Prelude.{ℕ, zero, suc, ◌-◌, List, [], ◌∷◌, ◌++◌, length, take, drop, codes, Bool, true, false}
 use Rattle.std.specs.Prelude.{cond, not, ◌&&◌, nat_eq, nat_le, bytes_eq, Option, Some, None, chars}
 use Rattle.std.specs.Prelude.{option_map, option_and_then, slice_index}
 use Rattle.std.specs.Char.{encode_utf8}
@@ -17,6 +17,7 @@ use Rattle.spec_lbnf.specs.declared.token.FileToken.{FileToken}
 use Rattle.spec_lbnf.specs.declared.token.FileToken.TheVariants.{Identifier, Number, Text}
 use Rattle.spec_lbnf.specs.declared.token.FileToken.TheVariants.{Character}
 use Rattle.spec_lbnf.specs.declared.token.FileToken.TheVariants.{Sign as SignToken}
+use Rattle.spec_lbnf.specs.declared.token.PlacedToken.{PlacedToken}
 use Rattle.spec_lbnf.specs.FirstForm.{is_white, is_name_byte}
 use Rattle.spec_lbnf.specs.FileTokens.{is_letter, is_digit, escaped, longer_by}
 
@@ -143,3 +144,26 @@ token_at (byte ∷ bytes) =
     (cond (is_digit byte) (number_at (byte ∷ bytes))
     (cond (nat_eq byte 34) (string_at bytes)
     (cond (nat_eq byte 39) (character_at bytes) (sign_at (byte ∷ bytes)))))
+
+-- the token before the tokens that are read
+abbrev pub token_before : PlacedToken → List PlacedToken × ℕ → List PlacedToken × ℕ
+token_before token read = (token ∷ read.0, read.1)
+
+-- the tokens from a place on, and the place up to which they reach: those behind what separates
+-- tokens, or else a token and those behind it, or none
+abbrev pub tokens_by : (List ℕ → List PlacedToken × ℕ) → ℕ → Option (List ℕ)
+    → Option (FileToken × List ℕ) → List PlacedToken × ℕ
+tokens_by others place (Some behind) read = others behind
+tokens_by others place None (Some read) =
+    token_before (record { token = read.0; place = place }) (others read.1)
+tokens_by others place None None = ([], place)
+
+-- the tokens of the last bytes of a text of so many, where these bytes are fewer than the turns
+unfoldable pub tokens_from : ℕ → ℕ → List ℕ → List PlacedToken × ℕ
+tokens_from zero size bytes = ([], size - length bytes)
+tokens_from (suc turns) size bytes =
+    tokens_by (tokens_from turns size) (size - length bytes) (behind_space bytes) (token_at bytes)
+
+-- the tokens of a file, and the place up to which they reach
+abbrev pub scan_of : List ℕ → List PlacedToken × ℕ
+scan_of bytes = tokens_from (suc (length bytes)) (length bytes) bytes

@@ -1,5 +1,6 @@
 //! Laws of the tokens of a grammar file. Each is the contract of a function with an empty body.
 ghost use Rattle.spec_lbnf.specs.FileLaws.{HasOneScan, HasSomeScan, HasRisingPlaces};
+ghost use Rattle.spec_lbnf.specs.ScanExamples.{SmallScans};
 
 /// A file has at most one list of tokens, up to one place.
 pub fn one_scan()
@@ -15,4 +16,9 @@ pub fn some_scan()
 /// most the file's length.
 pub fn tokens_rise()
     ensures { HasRisingPlaces }
+{}
+
+/// The tokens of small files, by hand.
+pub fn small_scans()
+    ensures { SmallScans }
 {}
