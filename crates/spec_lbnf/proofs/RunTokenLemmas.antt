@@ -1,7 +1,7 @@
 -- Identifiers and numbers: a run of bytes that stands before a rest is read, and what is read stands
 -- there.
-use Rattle.std.proofs.Common.{◌≡◌, ℕ, ◌+◌, ◌<◌, ◌≤◌, List, [], ◌∷◌, ◌++◌, length, take, drop, Bool, true, false, leb, Option, Some, None, All, refl, sym, ap, subst, ◌∙◌, arith, length-take, one-add}
-use Rattle.std.specs.List.{prefix_len, AllByRecursion}
+use Rattle.std.proofs.Common.{◌≡◌, ℕ, ◌<◌, List, ◌∷◌, length, take, drop, true, leb, Some, refl, sym, subst, arith, length-take, one-add}
+use Rattle.std.specs.List.{prefix_len}
 use Rattle.std.specs.Str.Parse.{digits_value}
 use Rattle.std.proofs.lemmas.Bool.{leb-true, le-leb}
 use Rattle.std.proofs.lemmas.Bool.Decides.{nat_tests}
@@ -9,7 +9,7 @@ use Rattle.std.proofs.lemmas.Option.{cond_some}
 use Rattle.std.proofs.lemmas.List.Elements.{All-from_recursion, recursion_from_All}
 use Rattle.spec_lbnf.specs.declared.token.FileToken.{FileToken}
 use Rattle.spec_lbnf.specs.declared.token.FileToken.TheVariants.{Identifier, Number}
-use Rattle.spec_lbnf.specs.FirstForm.{is_name_byte, Stops}
+use Rattle.spec_lbnf.specs.FirstForm.{is_name_byte}
 use Rattle.spec_lbnf.specs.FileTokens.{is_letter, is_digit, Begins, IsIdentifier, IsNumber, BeginsWith}
 use Rattle.spec_lbnf.specs.Scanning.{identifier_at, number_at}
 use Rattle.spec_lbnf.proofs.RunLemmas.{run_len, run_take, run_drop, run_passes, run_stops, run_whole}

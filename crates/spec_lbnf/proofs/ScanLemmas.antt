@@ -1,7 +1,7 @@
 -- Scans: a token that stands before a rest is read, and what is read stands there; so a file has one
 -- scan, whose places rise.
 use Rattle.std.proofs.Common.{◌≡◌, ℕ, zero, suc, ◌+◌, ◌-◌, ◌<◌, ◌≤◌, List, [], ◌∷◌, ◌++◌, length, drop, codes, Bool, true, false, eqb, Option, Some, None, option_and_then, refl, sym, ap, subst, ◌∙◌, inl, inr, arith, length-append}
-use Rattle.std.proofs.lemmas.Bool.{cases_Bool, false≢true, both_ways, eqb-true, ne_eqb, and_left, cond-false}
+use Rattle.std.proofs.lemmas.Bool.{cases_Bool, both_ways, eqb-true, ne_eqb, and_left, cond-false}
 use Rattle.std.proofs.lemmas.Bool.Decides.{nat_tests}
 use Rattle.std.proofs.lemmas.Option.{none-some, same_Some, some_pair_parts}
 use Rattle.spec_lbnf.specs.declared.token.Sign.{Sign}
@@ -11,7 +11,7 @@ use Rattle.spec_lbnf.specs.declared.token.FileToken.TheVariants.{Identifier, Num
 use Rattle.spec_lbnf.specs.declared.token.FileToken.TheVariants.{Sign as SignToken}
 use Rattle.spec_lbnf.specs.declared.token.PlacedToken.{PlacedToken}
 use Rattle.spec_lbnf.specs.FirstForm.{is_white}
-use Rattle.spec_lbnf.specs.FileTokens.{is_letter, is_digit, Begins, BeginsWith, IsLongestSign, sign_bytes, Separates, Skips, nothing, goes_on, IsStuck, AreTokensTo, IsScan}
+use Rattle.spec_lbnf.specs.FileTokens.{is_letter, is_digit, Begins, BeginsWith, sign_bytes, Separates, Skips, nothing, goes_on, IsStuck, AreTokensTo, IsScan}
 use Rattle.spec_lbnf.specs.FileLaws.{RiseTo}
 use Rattle.spec_lbnf.specs.Scanning.{has_front, behind_space, identifier_at, number_at, byte_sign, longest_of, sign_at, token_at, tokens_by, tokens_from, scan_of}
 use Rattle.spec_lbnf.proofs.SpaceLemmas.{space_again, space_read}

@@ -1,7 +1,7 @@
 -- Signs: the longest sign before a rest is read, and what is read stands there.
-use Rattle.std.proofs.Common.{◌≡◌, ℕ, ◌+◌, List, [], ◌∷◌, ◌++◌, length, drop, codes, Bool, true, false, cond, not, eqb, Option, Some, None, option_and_then, IfSome, refl, sym, ap, subst, ◌∙◌, inl, inr}
-use Rattle.std.proofs.lemmas.Bool.{cases_Bool, false≢true, both_ways, not-true, eqb-true}
-use Rattle.std.proofs.lemmas.Option.{cond_some, none-some, same_Some, some_pair_parts, option_and_then_some}
+use Rattle.std.proofs.Common.{◌≡◌, ℕ, List, [], ◌∷◌, ◌++◌, drop, codes, false, cond, not, eqb, Option, Some, None, IfSome, refl, sym, ap, subst, ◌∙◌, inl, inr}
+use Rattle.std.proofs.lemmas.Bool.{cases_Bool, not-true, eqb-true}
+use Rattle.std.proofs.lemmas.Option.{cond_some, none-some, same_Some, option_and_then_some}
 use Rattle.spec_lbnf.specs.declared.token.Sign.{Sign}
 use Rattle.spec_lbnf.specs.declared.token.Sign.TheVariants.{Dot, Semicolon, Gives, Colon, OpenBracket, CloseBracket, OpenParen, CloseParen, OpenBrace, CloseBrace, Comma, Bar, Star, Plus, Question, Minus, Underscore}
 use Rattle.spec_lbnf.specs.declared.token.FileToken.{FileToken}

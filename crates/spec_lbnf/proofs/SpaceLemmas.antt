@@ -1,16 +1,15 @@
 -- What separates tokens: what stands before a rest is read, and what is read stands there.
-use Rattle.std.proofs.Common.{◌≡◌, ℕ, ◌+◌, ◌<◌, List, [], ◌∷◌, ◌++◌, length, take, drop, codes, Bool, true, false, cond, not, eqb, Option, Some, None, All, refl, sym, ap, subst, ◌∙◌, inl, inr, arith, append_assoc, take-append-drop, length-append}
+use Rattle.std.proofs.Common.{◌≡◌, ℕ, List, [], ◌∷◌, ◌++◌, length, take, drop, codes, true, false, eqb, Some, refl, sym, ap, subst, ◌∙◌, inl, inr, arith, take-append-drop, length-append}
 use Rattle.std.specs.List.{prefix_len, AllByRecursion}
-use Rattle.std.specs.Str.{bytes_eq}
-use Rattle.std.proofs.lemmas.Bool.{cases_Bool, false≢true, both_ways, not-true, not_from_false, false_from_ne_true}
+use Rattle.std.proofs.lemmas.Bool.{cases_Bool, both_ways, not-true, not_from_false, false_from_ne_true}
 use Rattle.std.proofs.lemmas.Bool.Decides.{nat_tests}
 use Rattle.std.proofs.lemmas.Option.{cond_some, none-some, same_Some}
 use Rattle.std.proofs.lemmas.Slice.Eq.{bytes_eq-Decides}
-use Rattle.std.proofs.lemmas.List.{take_at, drop_at}
+use Rattle.std.proofs.lemmas.List.{take_at}
 use Rattle.std.proofs.lemmas.List.Elements.{All-from_recursion, recursion_from_All}
-use Rattle.spec_lbnf.specs.FirstForm.{is_white, Stops}
+use Rattle.spec_lbnf.specs.FirstForm.{is_white}
 use Rattle.spec_lbnf.specs.FileTokens.{BeginsAs, EndsFirst, IsWhiteBefore, IsLineComment, IsBlockComment, Separates}
-use Rattle.spec_lbnf.specs.Scanning.{only_if, has_front, is_in_line, behind_line, behind_closing, behind_white, behind_space}
+use Rattle.spec_lbnf.specs.Scanning.{has_front, is_in_line, behind_line, behind_closing, behind_white, behind_space}
 use Rattle.spec_lbnf.proofs.RunLemmas.{run_passes, run_stops, run_whole, run_drop}
 
 -- what the test finds stands at the front

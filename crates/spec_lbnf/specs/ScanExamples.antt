@@ -1,5 +1,5 @@
 -- The tokens of small files, by hand.
-use Rattle.std.specs.Prelude.{ℕ, List, [], ◌∷◌, codes, replicate}
+use Rattle.std.specs.Prelude.{ℕ, [], ◌∷◌, codes, replicate}
 use Rattle.spec_lbnf.specs.declared.token.Sign.TheVariants.{Gives, Colon, CloseBrace, Minus}
 use Rattle.spec_lbnf.specs.declared.token.Sign.TheVariants.{Underscore}
 use Rattle.spec_lbnf.specs.declared.token.FileToken.{FileToken}
