@@ -1,3 +1,5 @@
 pub mod AsciiLemmas
 pub mod PieceLemmas
 pub mod ItemLemmas
+pub mod CommentLemmas
+pub mod PartLemmas

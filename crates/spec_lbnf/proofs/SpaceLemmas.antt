@@ -88,7 +88,7 @@ not_at_front byte (next ∷ inside) rest ends begins =
     absurd (omega (arith, simp length-append at (ap length ended)))
 
 -- behind a block is what is behind the first closing text
-closing_again : (inside rest : List ℕ) → EndsFirst (inside ++ codes "-}") (codes "-}")
+pub closing_again : (inside rest : List ℕ) → EndsFirst (inside ++ codes "-}") (codes "-}")
     → behind_closing ((inside ++ codes "-}") ++ rest) ≡ Some rest
 unfolding behind_closing
 closing_again [] rest ends = refl
