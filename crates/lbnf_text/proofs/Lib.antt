@@ -3,3 +3,5 @@ pub mod PieceLemmas
 pub mod ItemLemmas
 pub mod CommentLemmas
 pub mod PartLemmas
+pub mod RunTextLemmas
+pub mod LiteralLemmas

@@ -204,19 +204,19 @@ string_read bytes token rest e = of (literal_from 34 false bytes) refl e
         subst (λ r. BeginsWith token (34 ∷ bytes) r) parts.1 (subst (λ t. BeginsWith t (34 ∷ bytes) read.1) parts.0 reads)
 
 -- the bytes of a scalar are told to be its
-is_encoded_again : (scalar : ℕ) → IsScalar scalar → is_encoded scalar (encode_utf8 scalar) ≡ true
+pub is_encoded_again : (scalar : ℕ) → IsScalar scalar → is_encoded scalar (encode_utf8 scalar) ≡ true
 is_encoded_again scalar is =
     and_from (all_scalars (scalar ∷ [])) _ (and_from _ true is refl) ((bytes_eq-Decides (encode_utf8 scalar) (encode_utf8 scalar)).1 refl)
 
 -- what is told to be the bytes of a scalar is
-is_encoded_read : (scalar : ℕ) (bytes : List ℕ) → is_encoded scalar bytes ≡ true
+pub is_encoded_read : (scalar : ℕ) (bytes : List ℕ) → is_encoded scalar bytes ≡ true
     → IsScalar scalar × (encode_utf8 scalar ≡ bytes)
 is_encoded_read scalar bytes h =
     let parts = and_parts (all_scalars (scalar ∷ [])) (bytes_eq (encode_utf8 scalar) bytes) h in
     ((and_parts _ true parts.0).0, (bytes_eq-Decides (encode_utf8 scalar) bytes).0 parts.1)
 
 -- the scalar of a scalar's bytes is this one
-first_scalar : (scalar : ℕ) → IsScalar scalar → get_or (chars (encode_utf8 scalar)) 0 0 ≡ scalar
+pub first_scalar : (scalar : ℕ) → IsScalar scalar → get_or (chars (encode_utf8 scalar)) 0 0 ≡ scalar
 first_scalar scalar is =
     let whole : chars (encode_utf8 scalar ++ []) ≡ scalar ∷ [] = chars-encodes (scalar ∷ []) (and_from _ true is refl) in
     rw append-nil at (ap (λ l. get_or l 0 0) whole)
