@@ -17,3 +17,8 @@ pub mod FormLemmas
 pub mod DefLemmas
 pub mod PieceLemmas
 pub mod DefsLemmas
+pub mod SpaceLemmas
+pub mod LiteralLemmas
+pub mod SignLemmas
+pub mod RunTokenLemmas
+pub mod ScanLemmas
