@@ -91,6 +91,11 @@ begins_not (suc n) name behind begins = cc begins.1
 pub category_no_close : (cat : CatName) → BeginsClosed (category_tokens cat) → ⊥
 category_no_close cat = begins_not cat.depth cat.name (closing cat.depth)
 
+-- nor does a category with others behind it
+pub category_begins : (cat : CatName) (more : List FileToken) → BeginsClosed (category_tokens cat ++ more) → ⊥
+category_begins cat more begins =
+    begins_not cat.depth cat.name _ (subst BeginsClosed (category_bracketed cat more) begins)
+
 -- open brackets are a front
 opens_front : (n : ℕ) → IsOpenFront (opening n)
 opens_front n = record { lacks = lacks_without_names (opening n) (no_names n); no_close = λ begins. begins_no n begins.0 begins.1 }

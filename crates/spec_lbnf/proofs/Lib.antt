@@ -22,3 +22,4 @@ pub mod LiteralLemmas
 pub mod SignLemmas
 pub mod RunTokenLemmas
 pub mod ScanLemmas
+pub mod FaultLemmas
