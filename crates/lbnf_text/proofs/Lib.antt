@@ -1,3 +1,7 @@
 pub mod AsciiLemmas
 pub mod PieceLemmas
 pub mod ItemLemmas
+pub mod CommentLemmas
+pub mod PartLemmas
+pub mod RunTextLemmas
+pub mod LiteralLemmas

@@ -7,6 +7,7 @@ mod fault;
 mod pieces;
 mod reading;
 mod rule;
+mod scanner;
 mod tokens;
 
 pub use defs::Defs;

@@ -9,3 +9,8 @@ pub mod GrammarFile
 pub mod Faults
 pub mod FileReading
 pub mod Limits
+pub mod FileDefinitions
+pub mod Scanning
+pub mod FileLaws
+pub mod ScanExamples
+pub mod ReadingLaws
