@@ -1,67 +1,60 @@
 -- A command has one reply: a grammar is accepted in one way or refused by one line, and so on.
-use Rattle.std.proofs.Common.{◌≡◌, ℕ, inl, inr, List, [], ◌∷◌, ◌++◌, length, drop, get_or, sym, ◌∙◌, ap, arith, length-append}
+use Rattle.std.proofs.Common.{◌≡◌, ℕ, ◌≤◌, inl, inr, List, [], ◌∷◌, ◌++◌, length, drop, get_or, sym, subst, ◌∙◌, ap, arith, length-append}
 use Rattle.spec_lexing.specs.declared.token.Token.{Token}
 use Rattle.spec_lexing.specs.Kinds.{Matches, token_kind, lex_kinds}
 use Rattle.spec_lexing.specs.Tokens.{AreTokensOf}
 use Rattle.spec_lexing.proofs.TokensLemmas.{one_list}
-use Rattle.spec_lbnf.specs.Expansion.{Expansion, expansion_of}
+use Rattle.spec_lbnf.specs.Expansion.{Expansion, expansion_of, symbol_count}
 use Rattle.spec_lbnf.specs.declared.definition.Def.{Def}
-use Rattle.spec_lbnf.proofs.FileLemmas.{spelled_or_unbuilt, one_spelling, one_unbuilt}
-use Rattle.spec_lbnf.proofs.CheckLemmas.{fit_or_unknown, one_unknown}
-use Rattle.spec_lbnf.proofs.CycleLemmas.{acyclic_or_cyclic, one_cyclic}
+use Rattle.spec_lbnf.specs.Checks.{IsUnfit}
+use Rattle.spec_lbnf.proofs.FaultLemmas.{one_file_of_defs, one_first_fault, spelled_or_faulty}
+use Rattle.spec_lbnf.proofs.CheckLemmas.{fit_or_unfit, one_unfitness}
 use Rattle.spec_session.specs.Script.{Constituent, Command, header, grammar, opens, has}
-use Rattle.spec_session.specs.Replies.{IsAccepted, IsRefused, unbuilt, unfit, AreFit, AreUnfit, unknown, cyclic, crowded, unbuilt_line, unknown_line, cyclic_line, version_reply, HasCategory, IsWithin, IsOutside, IsDerived, IsAnswer, refused_category, refused_span, yes, no, IsCurrent, IsReply}
+use Rattle.spec_session.specs.Replies.{IsAccepted, IsRefused, IsRefusedFor, faulty, unfit, crowded, fault_reason, unfit_reason, symbols_reason, refusal_line, version_reply, HasCategory, IsWithin, IsOutside, IsDerived, IsAnswer, refused_category, refused_span, yes, no, IsCurrent, IsReply}
 
 -- a block is accepted as one grammar
 pub one_grammar : (block : List ℕ) (g other : Expansion) → IsAccepted block g → IsAccepted block other →
     g ≡ other
-one_grammar block g other h k = h.3 ∙ ap expansion_of (one_spelling block h.0 k.0 h.1 k.1) ∙ sym k.3
-
--- definitions that are fit are not refused
-fit_or_unfit : (defs : List Def) (line : List ℕ) → AreFit defs → AreUnfit defs line → ⊥
-fit_or_unfit defs line fit (unknown name number first e) = fit_or_unknown defs name number fit.known first
-fit_or_unfit defs line fit (cyclic name known first e) =
-    acyclic_or_cyclic (expansion_of defs) name fit.acyclic first
-fit_or_unfit defs line fit (crowded known acyclic many e) = omega (arith, fit.few, many)
+one_grammar block g other h k = h.3 ∙ ap expansion_of (one_file_of_defs block h.0 k.0 h.1 k.1) ∙ sym k.3
 
 -- a block that is accepted is not refused
 pub accepted_or_refused : (block line : List ℕ) (g : Expansion) → IsAccepted block g → IsRefused block line → ⊥
-accepted_or_refused block line g h (unbuilt number first e) = spelled_or_unbuilt block h.0 number h.1 first
-accepted_or_refused block line g h (unfit defs spells why) =
-    fit_or_unfit h.0 line h.2 (rw (one_spelling block h.0 defs h.1 spells) why)
+accepted_or_refused block line g h (reason, faulty fault first e, is) = spelled_or_faulty block h.0 fault h.1 first
+accepted_or_refused block line g h (reason, unfit defs why spells unfit_so e, is) =
+    fit_or_unfit h.0 why h.2.fit (rw (one_file_of_defs block h.0 defs h.1 spells) unfit_so)
+accepted_or_refused block line g h (reason, crowded defs spells fit many e, is) =
+    let same : h.0 ≡ defs = one_file_of_defs block h.0 defs h.1 spells in
+    let few : symbol_count (expansion_of defs) ≤ 2048
+    = subst (λ (d : List Def). symbol_count (expansion_of d) ≤ 2048) same h.2.few in
+    omega (arith, few, many)
 
--- definitions are refused by one line
-one_unfit : (defs : List Def) (line other : List ℕ) → AreUnfit defs line → AreUnfit defs other → line ≡ other
-one_unfit defs line other (unknown name n first e) (unknown name' n' first' e') =
-    let same = one_unknown defs name name' n n' first first' in
-    e ∙ ap (λ bytes. unknown_line bytes n) same.0 ∙ ap (unknown_line name') same.1 ∙ sym e'
-one_unfit defs line other (unknown name n first e) (cyclic name' known first' e') =
-    absurd (fit_or_unknown defs name n known first)
-one_unfit defs line other (unknown name n first e) (crowded known acyclic many e') =
-    absurd (fit_or_unknown defs name n known first)
-one_unfit defs line other (cyclic name known first e) (unknown name' n first' e') =
-    absurd (fit_or_unknown defs name' n known first')
-one_unfit defs line other (cyclic name known first e) (cyclic name' known' first' e') =
-    e ∙ ap cyclic_line (one_cyclic (expansion_of defs) name name' first first') ∙ sym e'
-one_unfit defs line other (cyclic name known first e) (crowded known' acyclic many e') =
-    absurd (acyclic_or_cyclic (expansion_of defs) name acyclic first)
-one_unfit defs line other (crowded known acyclic many e) (unknown name n first e') =
-    absurd (fit_or_unknown defs name n known first)
-one_unfit defs line other (crowded known acyclic many e) (cyclic name known' first e') =
-    absurd (acyclic_or_cyclic (expansion_of defs) name acyclic first)
-one_unfit defs line other (crowded known acyclic many e) (crowded known' acyclic' many' e') = e ∙ sym e'
+-- a block is refused for one reason
+one_reason : (block reason other : List ℕ) → IsRefusedFor block reason → IsRefusedFor block other → reason ≡ other
+one_reason block reason other (faulty fault first e) (faulty fault' first' e') =
+    e ∙ ap fault_reason (one_first_fault block fault fault' first first') ∙ sym e'
+one_reason block reason other (faulty fault first e) (unfit defs why spells unfit_so e') =
+    absurd (spelled_or_faulty block defs fault spells first)
+one_reason block reason other (faulty fault first e) (crowded defs spells fit many e') =
+    absurd (spelled_or_faulty block defs fault spells first)
+one_reason block reason other (unfit defs why spells unfit_so e') (faulty fault first e) =
+    absurd (spelled_or_faulty block defs fault spells first)
+one_reason block reason other (unfit defs why spells unfit_so e) (unfit defs' why' spells' unfit_too e') =
+    let again : IsUnfit defs why' = rw (one_file_of_defs block defs defs' spells spells') unfit_too in
+    e ∙ ap unfit_reason (one_unfitness defs why why' unfit_so again) ∙ sym e'
+one_reason block reason other (unfit defs why spells unfit_so e) (crowded defs' spells' fit many e') =
+    absurd (fit_or_unfit defs why (rw (one_file_of_defs block defs defs' spells spells') fit) unfit_so)
+one_reason block reason other (crowded defs spells fit many e) (faulty fault first e') =
+    absurd (spelled_or_faulty block defs fault spells first)
+one_reason block reason other (crowded defs spells fit many e) (unfit defs' why spells' unfit_so e') =
+    absurd (fit_or_unfit defs why fit (rw (one_file_of_defs block defs defs' spells spells') unfit_so))
+one_reason block reason other (crowded defs spells fit many e) (crowded defs' spells' fit' many' e') =
+    let same : defs ≡ defs' = one_file_of_defs block defs defs' spells spells' in
+    e ∙ ap (λ (d : List Def). symbols_reason (symbol_count (expansion_of d))) same ∙ sym e'
 
--- a block is refused by one line
+-- so it is refused by one line
 pub one_refusal : (block line other : List ℕ) → IsRefused block line → IsRefused block other → line ≡ other
-one_refusal block line other (unbuilt number first e) (unbuilt number' first' e') =
-    e ∙ ap unbuilt_line (one_unbuilt block number number' first first') ∙ sym e'
-one_refusal block line other (unbuilt number first e) (unfit defs spells why) =
-    absurd (spelled_or_unbuilt block defs number spells first)
-one_refusal block line other (unfit defs spells why) (unbuilt number first e) =
-    absurd (spelled_or_unbuilt block defs number spells first)
-one_refusal block line other (unfit defs spells why) (unfit defs' spells' why') =
-    let again : AreUnfit defs other = rw (one_spelling block defs defs' spells spells') why' in
-    one_unfit defs line other why again
+one_refusal block line other (reason, why, is) (reason', why', is') =
+    is ∙ ap refusal_line (one_reason block reason reason' why why') ∙ sym is'
 
 -- a span that is the text's is not refused
 within_or_outside : (size : ℕ) (constituent : Constituent) →

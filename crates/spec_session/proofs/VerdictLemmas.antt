@@ -1,152 +1,91 @@
 -- A block is accepted as a grammar or refused: that one of the two is so cannot be denied.
-use Rattle.std.proofs.Common.{◌≡◌, ℕ, zero, suc, ◌<◌, ◌⊎◌, inl, inr, List, [], ◌∷◌, length, Some, slice_get, refl, ◌∙◌, ap, subst, append-nil, arith}
-use Rattle.std.specs.List.{AllByRecursion}
+use Rattle.std.proofs.Common.{◌≡◌, ℕ, zero, suc, ◌<◌, ◌⊎◌, inl, inr, List, ◌∷◌, ◌++◌, length, Some, slice_get, refl, subst, arith}
+use Rattle.std.specs.Prelude.{All, flat_map}
 use Rattle.std.proofs.lemmas.Bool.{cases_lt}
 use Rattle.std.proofs.lemmas.List.Elements.{All-from_recursion}
-use Rattle.std.proofs.lemmas.Option.{same_Some, slice_get_within}
 use Rattle.spec_lbnf.specs.declared.definition.Def.{Def}
-use Rattle.spec_lbnf.specs.declared.definition.Def.TheVariants.{Rule as RuleDef}
-use Rattle.spec_lbnf.specs.FirstForm.{pieces_of, SpellsDef, Spells, IsFirstUnbuilt}
-use Rattle.spec_lbnf.specs.Expansion.{Expansion, HasOwnSymbols, expansion_of, item_categories, symbol_count}
-use Rattle.spec_lbnf.specs.Checks.{IsKnown, NamesKnown, AreAllKnown, IsFirstUnknown, IsFirstCyclic}
+use Rattle.spec_lbnf.specs.Faults.{Spells, FileFault, IsFirstFault}
+use Rattle.spec_lbnf.specs.Expansion.{Expansion, HasOwnSymbols, expansion_of, rules_of, symbol_count}
+use Rattle.spec_lbnf.specs.Checks.{IsKnown, IsUnknown, NamesKnown, AreAllKnown, IsFirstUnknown, IsFirstCyclic, named_categories, IsPredefined, IsFree, IsFirstRepeated, HasOwnNames, own_categories}
+use Rattle.spec_lbnf.specs.Checks.{IsBadCoercion, IsBadList, IsWellLabelled, IsFirstBad, HasFewRules, AreFit, IsUnfit, Unfitness, AtLabels, bad_coercion, bad_list, too_many_rules, repeated_token, unknown_fault, cyclic_category}
 use Rattle.spec_lbnf.proofs.FileLemmas.{item_at}
 use Rattle.spec_lbnf.proofs.SymbolLemmas.{own_symbols}
+use Rattle.spec_lbnf.proofs.FaultLemmas.{defs_or_fault}
 use Rattle.spec_grammar.specs.Cycles.{IsCyclic, IsAcyclic}
-use Rattle.spec_session.specs.Replies.{IsAccepted, IsRefused, unbuilt, unfit, AreFit, AreUnfit, unknown, cyclic, crowded, unbuilt_line, unknown_line, cyclic_line, symbols_line}
-use Rattle.spec_session.proofs.DenialLemmas.{IsUndeniable, decided, FirstWithout, AllOrFirst, all_or_first, at_each_place, first_place, holds_earlier}
-
--- the piece spells some definition
-abbrev IsBuilt : List ℕ → Type 0
-IsBuilt piece = (def : Def) × SpellsDef piece def
-
--- each piece spells the definition at its place
-abbrev SpellEach : List (List ℕ) → List Def → Type 0
-SpellEach pieces defs =
-    (k : ℕ) (piece : List ℕ) (def : Def) →
-    slice_get pieces k ≡ Some piece → slice_get defs k ≡ Some def → SpellsDef piece def
-
--- one more piece in front spells one more definition
-one_more : (piece : List ℕ) (def : Def) (pieces : List (List ℕ)) (defs : List Def) →
-    SpellsDef piece def → SpellEach pieces defs → SpellEach (piece ∷ pieces) (def ∷ defs)
-one_more piece def pieces defs here each zero other found at_piece at_def =
-    let same : SpellsDef other def =
-    subst (λ p. SpellsDef p def) (same_Some piece other at_piece) here in
-    subst (SpellsDef other) (same_Some def found at_def) same
-one_more piece def pieces defs here each (suc k) other found at_piece at_def =
-    each k other found at_piece at_def
-
--- pieces that each spell some definition spell a list of them
-some_defs : (pieces : List (List ℕ)) → AllByRecursion IsBuilt pieces →
-    (defs : List Def) × (length defs ≡ length pieces) × SpellEach pieces defs
-some_defs [] built = ([], refl, none)
-  where
-    none : SpellEach [] []
-    none k piece def at_piece at_def = absurd (omega (arith, slice_get_within [] k piece at_piece))
-some_defs (piece ∷ pieces) built =
-    let first : IsBuilt piece = built.0 in
-    let others = some_defs pieces built.1 in
-    (first.0 ∷ others.0, ap suc others.1, one_more piece first.0 pieces others.0 first.1 others.2)
-
-module _ (bytes : List ℕ) where
-  -- each piece before this place spells some definition
-  abbrev AreBuiltBefore : ℕ → Type 0
-  AreBuiltBefore number =
-      (k : ℕ) (piece : List ℕ) →
-      k < number → slice_get (pieces_of bytes) k ≡ Some piece → IsBuilt piece
-
-  -- a piece behind 1,024 others is one too many
-  too_many : 1024 < length (pieces_of bytes) → AreBuiltBefore 1024 → IsFirstUnbuilt bytes 1024
-  too_many lt built =
-      let last = item_at (pieces_of bytes) 1024 lt in
-      record {
-        piece = last.0;
-        is_piece = last.1;
-        unbuilt = inr refl;
-        least = omega arith;
-        earlier = built;
-      }
-
-  -- the file spells definitions, or has a first piece that is not built
-  abbrev IsReadOrNot : Type 0
-  IsReadOrNot =
-      ((defs : List Def) × Spells bytes defs) ⊎ ((number : ℕ) × IsFirstUnbuilt bytes number)
-
-  -- a file whose pieces each spell some definition spells definitions, or it has too many
-  all_built : AllByRecursion IsBuilt (pieces_of bytes) → IsReadOrNot
-  all_built built = elim (cases_lt 1024 (length (pieces_of bytes))) [
-    | inl lt ↦ inr (
-      1024,
-      too_many lt (λ k piece before at.
-          let there = ap (λ pieces. slice_get pieces k) (append-nil (pieces_of bytes)) ∙ at in
-          at_each_place IsBuilt (pieces_of bytes) [] built k piece (omega arith) there),
-    )
-    | inr few ↦
-        let spelled = some_defs (pieces_of bytes) built in
-        inl (
-          spelled.0,
-          record {
-            few = omega (arith, spelled.1);
-            count = spelled.1;
-            each = spelled.2;
-          },
-        )
-  ]
-
-  -- a file with a piece that spells no definition has a first piece that is not built
-  some_unbuilt :
-      FirstWithout IsBuilt (pieces_of bytes) → (number : ℕ) × IsFirstUnbuilt bytes number
-  some_unbuilt first =
-      let number : ℕ = length first.before in
-      let is_piece : slice_get (pieces_of bytes) number ≡ Some first.item =
-      first_place IsBuilt (pieces_of bytes) first in
-      let earlier : AreBuiltBefore number = holds_earlier IsBuilt (pieces_of bytes) first in
-      elim (cases_lt 1024 number) [
-        | inl lt ↦
-            let within : number < length (pieces_of bytes) =
-            slice_get_within (pieces_of bytes) number first.item is_piece in
-            (1024, too_many (omega arith) (λ k piece before at. earlier k piece (omega arith) at))
-        | inr le ↦ (
-          number,
-          record {
-            piece = first.item;
-            is_piece = is_piece;
-            unbuilt = inl (λ def spelled. first.without (def, spelled));
-            least = le;
-            earlier = earlier;
-          },
-        )
-      ]
-
-  -- that one of the two is so cannot be denied
-  read_or_not : IsUndeniable IsReadOrNot
-  read_or_not denied =
-      all_or_first IsBuilt (pieces_of bytes)
-      (λ (split : AllOrFirst IsBuilt (pieces_of bytes)). elim split [
-        | inl built ↦ denied (all_built built)
-        | inr first ↦ denied (inr (some_unbuilt first))
-      ])
+use Rattle.spec_session.specs.Replies.{IsAccepted, AreAccepted, IsRefused, IsRefusedFor, faulty, unfit, crowded, fault_reason, unfit_reason, symbols_reason, refusal_line}
+use Rattle.spec_session.proofs.DenialLemmas.{IsUndeniable, decided, FirstWithout, AllOrFirst, all_or_first, first_place, holds_earlier}
 
 module _ (defs : List Def) where
-  -- the first definition that names an unknown category has a first unknown one among its items
+  -- a first definition that is not well labelled is a bad coercion or a bad list
+  bad_so : (first : FirstWithout IsWellLabelled defs) → IsUndeniable ((fault : Unfitness) × AtLabels defs fault)
+  bad_so first denied =
+      let number : ℕ = length first.before in
+      let is_def : slice_get defs number ≡ Some first.item = first_place IsWellLabelled defs first in
+      let earlier : (k : ℕ) (other : Def) → k < number → slice_get defs k ≡ Some other → IsWellLabelled other
+      = holds_earlier IsWellLabelled defs first in
+      first.without (
+        (λ coercion. denied (bad_coercion number, (number, inl (record { def = first.item; is_def = is_def; bad = coercion; earlier = earlier }, refl)))),
+        (λ list. denied (bad_list number, (number, inr (record { def = first.item; is_def = is_def; bad = list; earlier = earlier }, refl)))),
+      )
+
+  -- all definitions are well labelled, or there is a fault of labels
+  abbrev AreLabelledOrNot : Type 0
+  AreLabelledOrNot = All IsWellLabelled defs ⊎ ((fault : Unfitness) × AtLabels defs fault)
+
+  -- that one of the two is so cannot be denied
+  labelled_or_not : IsUndeniable AreLabelledOrNot
+  labelled_or_not denied =
+      all_or_first IsWellLabelled defs
+      (λ (split : AllOrFirst IsWellLabelled defs). elim split [
+        | inl all ↦ denied (inl (All-from_recursion IsWellLabelled defs all))
+        | inr first ↦ bad_so first (λ (found : (fault : Unfitness) × AtLabels defs fault). denied (inr found))
+      ])
+
+  -- no rules are given for predefined names, or there is a first one
+  abbrev AreFreeOrNot : Type 0
+  AreFreeOrNot = HasOwnNames defs ⊎ ((name : List ℕ) × IsFirstRepeated defs name)
+
+  -- that one of the two is so cannot be denied
+  free_or_not : IsUndeniable AreFreeOrNot
+  free_or_not denied =
+      let names : List (List ℕ) = flat_map own_categories defs in
+      all_or_first IsFree names
+      (λ (split : AllOrFirst IsFree names). elim split [
+        | inl all ↦ denied (inl (All-from_recursion IsFree names all))
+        | inr first ↦ first.without (λ is. denied (inr (
+          first.item,
+          record {
+            before = first.before;
+            behind = first.behind;
+            is_name = first.is_item;
+            bad = is;
+            good = All-from_recursion IsFree first.before first.earlier;
+          },
+        )))
+      ])
+
+  -- the first definition that names an unknown category has a first unknown one among those it names
   unknown_in : (number : ℕ) (def : Def) →
       slice_get defs number ≡ Some def → (NamesKnown defs def → ⊥) →
       ((k : ℕ) (other : Def) → k < number → slice_get defs k ≡ Some other → NamesKnown defs other) →
       IsUndeniable ((name : List ℕ) × IsFirstUnknown defs name number)
-  unknown_in number (RuleDef rule) is_def names_unknown earlier denied =
-      let names : List (List ℕ) = item_categories rule.items in
+  unknown_in number def is_def names_unknown earlier denied =
+      let names : List (List ℕ) = named_categories def in
       all_or_first (IsKnown defs) names
       (λ (split : AllOrFirst (IsKnown defs) names). elim split [
         | inl known ↦ names_unknown (All-from_recursion (IsKnown defs) names known)
         | inr first ↦ denied (
           first.item,
           record {
-            rule = rule;
+            def = def;
             is_def = is_def;
-            before = first.before;
-            behind = first.behind;
-            is_item = first.is_item;
-            unknown = first.without;
-            known_before = All-from_recursion (IsKnown defs) first.before first.earlier;
+            first = record {
+              before = first.before;
+              behind = first.behind;
+              is_name = first.is_item;
+              bad = first.without;
+              good = All-from_recursion (IsKnown defs) first.before first.earlier;
+            };
             earlier = earlier;
           },
         )
@@ -225,50 +164,82 @@ module _ (g : Expansion) where
       let name = item_at g.categories c lt in
       (name.0, record { category = c; is_category = name.1; cyclic = least.0; earlier = least.1 })
 
+-- the definitions are fit or unfit
+abbrev AreFitOrNot : List Def → Type 0
+AreFitOrNot defs = AreFit defs ⊎ ((why : Unfitness) × IsUnfit defs why)
+
+-- that one of the two is so cannot be denied
+fit_or_not : (defs : List Def) → IsUndeniable (AreFitOrNot defs)
+fit_or_not defs denied =
+    labelled_or_not defs (λ (split : AreLabelledOrNot defs). elim split [
+      | inl labelled ↦ by_count labelled
+      | inr at ↦ denied (inr (at.0, inl at.1))
+    ])
+  where
+    by_cycles : All IsWellLabelled defs → HasFewRules defs → HasOwnNames defs → AreAllKnown defs → ⊥
+    by_cycles labelled few own_names known =
+        let g : Expansion = expansion_of defs in
+        let own : HasOwnSymbols g = own_symbols defs in
+        acyclic_or_not g (length g.categories)
+        (λ (split : AreAcyclicOrNot g (length g.categories)). elim split [
+          | inl below ↦ denied (inl (record {
+              labelled = labelled;
+              few = few;
+              own_names = own_names;
+              known = known;
+              acyclic = all_acyclic g own below;
+            }))
+          | inr least ↦
+              let first = first_cyclic g least.0 least.1 least.2 in
+              denied (inr (cyclic_category first.0, inr (labelled, inr (few, inr (own_names, inr (known, (first.0, first.1, refl)))))))
+        ])
+
+    by_categories : All IsWellLabelled defs → HasFewRules defs → HasOwnNames defs → ⊥
+    by_categories labelled few own_names =
+        known_or_not defs (λ (split : AreKnownOrNot defs). elim split [
+          | inl known ↦ by_cycles labelled few own_names known
+          | inr first ↦ denied (inr (unknown_fault first.0 first.1, inr (labelled, inr (few, inr (own_names, inl (first.0, first.1, first.2, refl))))))
+        ])
+
+    by_names : All IsWellLabelled defs → HasFewRules defs → ⊥
+    by_names labelled few =
+        free_or_not defs (λ (split : AreFreeOrNot defs). elim split [
+          | inl own_names ↦ by_categories labelled few own_names
+          | inr first ↦ denied (inr (repeated_token first.0, inr (labelled, inr (few, inl (first.0, first.1, refl)))))
+        ])
+
+    by_count : All IsWellLabelled defs → ⊥
+    by_count labelled = elim (cases_lt 1024 (length (rules_of defs))) [
+      | inl many ↦ denied (inr (too_many_rules (length (rules_of defs)), inr (labelled, inl (many, refl))))
+      | inr few ↦ by_names labelled few
+    ]
+
 -- the block is accepted as a grammar or refused by a line
 abbrev pub HasVerdict : List ℕ → Type 0
 HasVerdict block =
     ((g : Expansion) × IsAccepted block g) ⊎ ((line : List ℕ) × IsRefused block line)
 
+-- a block that is refused for a reason has a verdict
+refused : (block reason : List ℕ) → IsRefusedFor block reason → HasVerdict block
+refused block reason why = inr (refusal_line reason, (reason, why, refl))
+
+-- a block of definitions that are fit has a verdict, by the count of symbols
+fit_verdict : (block : List ℕ) (defs : List Def) → Spells block defs → AreFit defs → HasVerdict block
+fit_verdict block defs spelled fit =
+    let count : ℕ = symbol_count (expansion_of defs) in
+    elim (cases_lt 2048 count) [
+      | inl many ↦ refused block (symbols_reason count) (crowded defs spelled fit many refl)
+      | inr few ↦
+          let accepted : AreAccepted defs = record { fit = fit; few = few } in
+          inl (expansion_of defs, (defs, spelled, accepted, refl))
+    ]
+
 -- that a block has a verdict cannot be denied
 pub some_verdict : (block : List ℕ) → IsUndeniable (HasVerdict block)
-some_verdict block denied =
-    read_or_not block (λ (split : IsReadOrNot block). elim split [
-      | inl spelled ↦ by_categories spelled.0 spelled.1
-      | inr first ↦ denied (inr (unbuilt_line first.0, unbuilt first.0 first.1 refl))
-    ])
-  where
-    by_count : (defs : List Def) → Spells block defs → AreAllKnown defs
-        → IsAcyclic (expansion_of defs).rules → ⊥
-    by_count defs spelled known acyclic =
-        let count : ℕ = symbol_count (expansion_of defs) in
-        elim (cases_lt 2048 count) [
-          | inl many ↦
-              denied (inr (symbols_line count, unfit defs spelled (crowded known acyclic many refl)))
-          | inr few ↦
-              let fit : AreFit defs = record { known = known; acyclic = acyclic; few = few } in
-              denied (inl (expansion_of defs, (defs, spelled, fit, refl)))
-        ]
-
-    by_cycles : (defs : List Def) → Spells block defs → AreAllKnown defs → ⊥
-    by_cycles defs spelled known =
-        let g : Expansion = expansion_of defs in
-        let own : HasOwnSymbols g = own_symbols defs in
-        acyclic_or_not g (length g.categories)
-        (λ (split : AreAcyclicOrNot g (length g.categories)). elim split [
-          | inl below ↦ by_count defs spelled known (all_acyclic g own below)
-          | inr least ↦
-              let first = first_cyclic g least.0 least.1 least.2 in
-              let why : AreUnfit defs (cyclic_line first.0) = cyclic first.0 known first.1 refl in
-              denied (inr (cyclic_line first.0, unfit defs spelled why))
-        ])
-
-    by_categories : (defs : List Def) → Spells block defs → ⊥
-    by_categories defs spelled =
-        known_or_not defs (λ (split : AreKnownOrNot defs). elim split [
-          | inl known ↦ by_cycles defs spelled known
-          | inr first ↦
-              let line : List ℕ = unknown_line first.0 first.1 in
-              let why : AreUnfit defs line = unknown first.0 first.1 first.2 refl in
-              denied (inr (line, unfit defs spelled why))
-        ])
+some_verdict block denied = elim (defs_or_fault block) [
+  | inl spelled ↦ fit_or_not spelled.0 (λ (split : AreFitOrNot spelled.0). elim split [
+    | inl fit ↦ denied (fit_verdict block spelled.0 spelled.1 fit)
+    | inr why ↦ denied (refused block (unfit_reason why.0) (unfit spelled.0 why.0 spelled.1 why.1 refl))
+  ])
+  | inr first ↦ denied (refused block (fault_reason first.0) (faulty first.0 first.1 refl))
+]

@@ -1,16 +1,17 @@
 -- The reply to each command, as one line with its LF.
 use Rattle.std.specs.Prelude.{◌≡◌, ℕ, ◌<◌, ◌≤◌, ◌⊎◌, List, [], ◌∷◌, ◌++◌, length, codes, decimal}
 use Rattle.std.specs.Prelude.{slice_get, Some}
-use Rattle.spec_grammar.specs.declared.rule.Rule.{Rule}
 use Rattle.spec_grammar.specs.declared.rule.Symbol.TheVariants.{Category}
 use Rattle.spec_grammar.specs.Derivation.{Derives}
-use Rattle.spec_grammar.specs.Cycles.{IsAcyclic}
 use Rattle.spec_lexing.specs.declared.token.Token.{Token}
 use Rattle.spec_lexing.specs.Tokens.{AreTokensOf, kinds_of}
 use Rattle.spec_lbnf.specs.declared.definition.Def.{Def}
-use Rattle.spec_lbnf.specs.FirstForm.{Spells, IsFirstUnbuilt}
+use Rattle.spec_lbnf.specs.Faults.{Spells, IsFirstFault, FileFault, too_large, not_utf8, syntax}
+use Rattle.spec_lbnf.specs.Faults.{unsupported, unbuilt}
 use Rattle.spec_lbnf.specs.Expansion.{Expansion, expansion_of, symbol_count}
-use Rattle.spec_lbnf.specs.Checks.{AreAllKnown, IsFirstUnknown, IsFirstCyclic}
+use Rattle.spec_lbnf.specs.Checks.{AreFit, IsUnfit, Unfitness, bad_coercion, bad_list}
+use Rattle.spec_lbnf.specs.Checks.{too_many_rules, repeated_token, unknown_category, unbuilt_name}
+use Rattle.spec_lbnf.specs.Checks.{cyclic_category}
 use Rattle.spec_session.specs.Script.{Constituent, entry_whole, category_whole, category_span}
 use Rattle.spec_session.specs.Script.{Command, header, grammar, opens, has}
 
@@ -18,16 +19,15 @@ use Rattle.spec_session.specs.Script.{Command, header, grammar, opens, has}
 abbrev pub as_line : List ℕ → List ℕ
 as_line bytes = bytes ++ 10 ∷ []
 
--- the definitions are fit for a grammar: each category that they name has a rule, none reaches itself, and there are
--- at most 2,048 symbols
-pub record AreFit (defs : List Def) : Type 0 where
-  pub known : AreAllKnown defs
-  pub acyclic : IsAcyclic (expansion_of defs).rules
+-- the definitions are accepted: they pass all checks, and have at most 2,048 symbols
+pub record AreAccepted (defs : List Def) : Type 0 where
+  pub fit : AreFit defs
   pub few : symbol_count (expansion_of defs) ≤ 2048
 
 -- the block is accepted as this grammar
 abbrev pub IsAccepted : List ℕ → Expansion → Type 0
-IsAccepted block g = (defs : List Def) × Spells block defs × AreFit defs × (g ≡ expansion_of defs)
+IsAccepted block g =
+    (defs : List Def) × Spells block defs × AreAccepted defs × (g ≡ expansion_of defs)
 
 -- the reply to a grammar that is accepted: how many rules, categories and kinds it has
 abbrev pub grammar_reply : Expansion → List ℕ
@@ -36,50 +36,65 @@ grammar_reply g =
     ++ (codes " categories " ++ (decimal (length g.categories)
     ++ (codes " kinds " ++ as_line (decimal (length g.kinds))))))
 
--- the line that refuses a grammar for a definition that is not built
-abbrev pub unbuilt_line : ℕ → List ℕ
-unbuilt_line number = codes "grammar refused unbuilt " ++ as_line (decimal number)
+-- the line that refuses a grammar for this reason
+abbrev pub refusal_line : List ℕ → List ℕ
+refusal_line reason = codes "grammar refused " ++ as_line reason
 
--- the line that refuses a grammar for an unknown category
-abbrev pub unknown_line : List ℕ → ℕ → List ℕ
-unknown_line name number =
-    codes "grammar refused category " ++ (name ++ (codes " " ++ as_line (decimal number)))
+-- the word and the number behind a space
+abbrev pub with_number : List ℕ → ℕ → List ℕ
+with_number word number = word ++ (codes " " ++ decimal number)
 
--- the line that refuses a grammar for a category that reaches itself
-abbrev pub cyclic_line : List ℕ → List ℕ
-cyclic_line name = codes "grammar refused cyclic " ++ as_line name
+-- the word and the name behind a space
+abbrev pub with_name : List ℕ → List ℕ → List ℕ
+with_name word name = word ++ (codes " " ++ name)
 
--- the line that refuses a grammar for its count of symbols
-abbrev pub symbols_line : ℕ → List ℕ
-symbols_line count = codes "grammar refused symbols " ++ as_line (decimal count)
+-- the reason of a fault of a grammar file
+abbrev pub fault_reason : FileFault → List ℕ
+fault_reason (too_large count) = with_number (codes "large") count
+fault_reason (not_utf8 at) = with_number (codes "utf8") at
+fault_reason (syntax at) = with_number (codes "syntax") at
+fault_reason (unsupported word at) = with_number (with_name (codes "unsupported") word) at
+fault_reason (unbuilt number) = with_number (codes "unbuilt") number
 
--- the definitions are refused with this line, for their first unknown category, or else for the first that reaches
--- itself, or else for too many symbols
-pub data AreUnfit (defs : List Def) (line : List ℕ) : Type 0 where
-  unknown : (name : List ℕ) (number : ℕ) → IsFirstUnknown defs name number
-      → line ≡ unknown_line name number → AreUnfit defs line
-  cyclic : (name : List ℕ) → AreAllKnown defs → IsFirstCyclic (expansion_of defs) name
-      → line ≡ cyclic_line name → AreUnfit defs line
-  crowded : AreAllKnown defs → IsAcyclic (expansion_of defs).rules
+-- the reason why definitions are unfit
+abbrev pub unfit_reason : Unfitness → List ℕ
+unfit_reason (bad_coercion number) = with_number (codes "coercion") number
+unfit_reason (bad_list number) = with_number (codes "list") number
+unfit_reason (too_many_rules count) = with_number (codes "rules") count
+unfit_reason (repeated_token name) = with_name (codes "token") name
+unfit_reason (unknown_category name number) =
+    with_number (with_name (codes "category") name) number
+unfit_reason (unbuilt_name number) = with_number (codes "unbuilt") number
+unfit_reason (cyclic_category name) = with_name (codes "cyclic") name
+
+-- the reason where there are too many symbols, so many
+abbrev pub symbols_reason : ℕ → List ℕ
+symbols_reason count = with_number (codes "symbols") count
+
+-- the block is refused for this reason: for the first fault of the file; or else since its
+-- definitions are unfit; or else for too many symbols
+pub data IsRefusedFor (block reason : List ℕ) : Type 0 where
+  faulty : (fault : FileFault) → IsFirstFault block fault → reason ≡ fault_reason fault
+      → IsRefusedFor block reason
+  unfit : (defs : List Def) (why : Unfitness) → Spells block defs → IsUnfit defs why
+      → reason ≡ unfit_reason why → IsRefusedFor block reason
+  crowded : (defs : List Def) → Spells block defs → AreFit defs
       → 2048 < symbol_count (expansion_of defs)
-      → line ≡ symbols_line (symbol_count (expansion_of defs)) → AreUnfit defs line
+      → reason ≡ symbols_reason (symbol_count (expansion_of defs)) → IsRefusedFor block reason
 
--- the block is refused with this line, for its first definition that is not built, or else since its definitions are
--- unfit
-pub data IsRefused (block line : List ℕ) : Type 0 where
-  unbuilt : (number : ℕ) → IsFirstUnbuilt block number → line ≡ unbuilt_line number
-      → IsRefused block line
-  unfit : (defs : List Def) → Spells block defs → AreUnfit defs line → IsRefused block line
+-- the block is refused with this line
+abbrev pub IsRefused : List ℕ → List ℕ → Type 0
+IsRefused block line =
+    (reason : List ℕ) × IsRefusedFor block reason × (line ≡ refusal_line reason)
 
 -- the reply to a text: its version's number and how many tokens it has
 abbrev pub version_reply : ℕ → ℕ → List ℕ
 version_reply number tokens =
     codes "version " ++ (decimal number ++ (codes " tokens " ++ as_line (decimal tokens)))
 
--- the grammar's entry is this category: the category of its first rule
+-- the grammar's entry is this category
 abbrev pub IsEntry : Expansion → ℕ → Type 0
-IsEntry g category =
-    (rule : Rule) × (slice_get g.rules 0 ≡ Some rule) × (rule.category ≡ category)
+IsEntry g category = g.entry ≡ Some (Category category)
 
 -- the constituent is of this category of the grammar: of its entry, or of one with the name
 abbrev pub IsOfCategory : Expansion → Constituent → ℕ → Type 0

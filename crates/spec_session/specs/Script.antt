@@ -57,7 +57,7 @@ IsNameable (category_span category first end) =
 -- a constituent that can be named, and a line of 256 bytes
 abbrev pub IsWithinLimits : Command → Type 0
 IsWithinLimits header = Unit {0}
-IsWithinLimits (grammar block) = length block ≤ 65536
+IsWithinLimits (grammar block) = length block < 10 ^ 9
 IsWithinLimits (opens text) = (length text ≤ 4096) × IsAscii text
 IsWithinLimits (has constituent) =
     IsNameable constituent × (length (line_of (has constituent)) ≤ 256)
