@@ -42,16 +42,12 @@ MakesLanguage g (Err (TooManySymbols count)) = (count ≡ symbol_count g) × (20
 -- the grammar that the block spells, or why it is refused; want of memory is free
 abbrev pub ReadsLanguage : List ℕ → Result Language LanguageFault → Type 0
 ReadsLanguage block (Ok language) = IsAccepted block language.grammar × IsFit language.grammar
-ReadsLanguage block (Err (Text TextMemory)) = Unit {0}
-ReadsLanguage block (Err (Text (Unbuilt number))) = IsFirstUnbuilt block number
-ReadsLanguage block (Err (Grammar GrammarMemory)) = Unit {0}
-ReadsLanguage block (Err (Grammar (UnknownCategory name number))) =
-    (defs : List Def) × Spells block defs × IsFirstUnknown defs name number
-ReadsLanguage block (Err (Grammar (Cyclic name))) =
-    (defs : List Def) × Spells block defs × AreAllKnown defs × IsFirstCyclic (expansion_of defs) name
+ReadsLanguage block (Err (Text fault)) = ReadsDefs block (Err fault)
+ReadsLanguage block (Err (Grammar fault)) =
+    (defs : List Def) × Spells block defs × Expands defs (Err fault)
 ReadsLanguage block (Err (Binary BinaryMemory)) = Unit {0}
 ReadsLanguage block (Err (Binary (TooManySymbols count))) =
-    (defs : List Def) × Spells block defs × AreAllKnown defs × IsAcyclic (expansion_of defs).rules
+    (defs : List Def) × Spells block defs × AreFit defs
     × (count ≡ symbol_count (expansion_of defs)) × (2048 < count)
 
 -- the chart is that of the text's tokens under the grammar
@@ -61,15 +57,25 @@ pub record IsOpened (g : Expansion) (chart : ChartValue) (text : List ℕ)
   pub are_tokens : AreTokensOf g.kinds text tokens
   pub is_chart : IsChartOf g (kinds_of tokens) chart
 
+-- the reason that is told of a fault of a grammar file, and None for want of memory
+abbrev pub text_reason_of : TextFault → Option (List ℕ)
+text_reason_of fault = option_map fault_reason (file_fault_of fault)
+
+-- the reason that is told of definitions that are unfit, and None for want of memory
+abbrev pub grammar_reason_of : GrammarFault → Option (List ℕ)
+grammar_reason_of fault = option_map unfit_reason (unfitness_of fault)
+
+-- the reason that is told of a fault, and None for want of memory
+abbrev pub reason_of : LanguageFault → Option (List ℕ)
+reason_of (Text fault) = text_reason_of fault
+reason_of (Grammar fault) = grammar_reason_of fault
+reason_of (Binary BinaryMemory) = None
+reason_of (Binary (TooManySymbols count)) = Some (symbols_reason count)
+
 -- the line that refuses a grammar for this fault; there is none for want of memory
 abbrev pub IsRefusal : LanguageFault → List ℕ → Type 0
-IsRefusal (Text TextMemory) line = ⊥
-IsRefusal (Text (Unbuilt number)) line = line ≡ unbuilt_line number
-IsRefusal (Grammar GrammarMemory) line = ⊥
-IsRefusal (Grammar (UnknownCategory name number)) line = line ≡ unknown_line name number
-IsRefusal (Grammar (Cyclic name)) line = line ≡ cyclic_line name
-IsRefusal (Binary BinaryMemory) line = ⊥
-IsRefusal (Binary (TooManySymbols count)) line = line ≡ symbols_line count
+IsRefusal fault line =
+    (reason : List ℕ) × (reason_of fault ≡ Some reason) × (line ≡ refusal_line reason)
 
 -- the reply to the block's grammar: accepted, or refused
 abbrev pub IsGrammarLine : List ℕ → List ℕ → Type 0

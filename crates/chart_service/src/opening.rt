@@ -57,29 +57,68 @@ fn read_language(alloc: Global, block: &[u8]) -> Result<Language, LanguageFault>
     }
 }
 
+/// Why a grammar file is not read, as the line says it. There is none for want of memory.
+fn text_reason(alloc: Global, fault: &TextFault) -> Result<String, AllocError>
+    ensures { IfOk result (λ text. text_reason_of fault.now ≡ Some (string_bytes text)) }
+{
+    match fault {
+        TextFault::Memory => Err(AllocError),
+        TextFault::TooLarge { count } => format!(in alloc; "large {count}"),
+        TextFault::NotUtf8 { at } => format!(in alloc; "utf8 {at}"),
+        TextFault::Syntax { at } => format!(in alloc; "syntax {at}"),
+        TextFault::Unsupported { word, at } => {
+            let word = word.as_str();
+            format!(in alloc; "unsupported {word} {at}")
+        }
+        TextFault::Unbuilt { def } => format!(in alloc; "unbuilt {def}"),
+    }
+}
+
+/// Why definitions are no grammar, as the line says it. There is none for want of memory.
+fn grammar_reason(alloc: Global, fault: &GrammarFault) -> Result<String, AllocError>
+    ensures { IfOk result (λ text. grammar_reason_of fault.now ≡ Some (string_bytes text)) }
+{
+    match fault {
+        GrammarFault::Memory => Err(AllocError),
+        GrammarFault::BadCoercion { def } => format!(in alloc; "coercion {def}"),
+        GrammarFault::BadList { def } => format!(in alloc; "list {def}"),
+        GrammarFault::TooManyRules { count } => format!(in alloc; "rules {count}"),
+        GrammarFault::RepeatedToken { name } => {
+            let name = name.as_str();
+            format!(in alloc; "token {name}")
+        }
+        GrammarFault::UnknownCategory { name, def } => {
+            let name = name.as_str();
+            format!(in alloc; "category {name} {def}")
+        }
+        GrammarFault::Unbuilt { def } => format!(in alloc; "unbuilt {def}"),
+        GrammarFault::Cyclic { name } => {
+            let name = name.as_str();
+            format!(in alloc; "cyclic {name}")
+        }
+    }
+}
+
+/// Why a grammar is refused, as the line says it. There is none for want of memory.
+fn reason(alloc: Global, fault: &LanguageFault) -> Result<String, AllocError>
+    ensures { IfOk result (λ text. reason_of fault.now ≡ Some (string_bytes text)) }
+{
+    match fault {
+        LanguageFault::Text(fault) => text_reason(alloc, fault),
+        LanguageFault::Grammar(fault) => grammar_reason(alloc, fault),
+        LanguageFault::Binary(BinaryFault::TooManySymbols { count }) => {
+            format!(in alloc; "symbols {count}")
+        }
+        LanguageFault::Binary(BinaryFault::Memory) => Err(AllocError),
+    }
+}
+
 /// The line that refuses a grammar. There is none for want of memory.
 fn refusal_line(alloc: Global, fault: &LanguageFault) -> Result<String, AllocError>
     ensures { IfOk result (λ text. IsRefusal fault.now (string_bytes text)) }
 {
-    match fault {
-        LanguageFault::Text(TextFault::Unbuilt { def }) => {
-            format!(in alloc; "grammar refused unbuilt {def}\n")
-        }
-        LanguageFault::Grammar(GrammarFault::UnknownCategory { name, def }) => {
-            let name = name.as_str();
-            format!(in alloc; "grammar refused category {name} {def}\n")
-        }
-        LanguageFault::Grammar(GrammarFault::Cyclic { name }) => {
-            let name = name.as_str();
-            format!(in alloc; "grammar refused cyclic {name}\n")
-        }
-        LanguageFault::Binary(BinaryFault::TooManySymbols { count }) => {
-            format!(in alloc; "grammar refused symbols {count}\n")
-        }
-        LanguageFault::Text(TextFault::Memory) => Err(AllocError),
-        LanguageFault::Grammar(GrammarFault::Memory) => Err(AllocError),
-        LanguageFault::Binary(BinaryFault::Memory) => Err(AllocError),
-    }
+    let reason = reason(alloc, fault)?;
+    format!(in alloc; "grammar refused {reason}\n")
 }
 
 /// Refuses the grammar.

@@ -48,12 +48,16 @@ with_number word number = word ++ (codes " " ++ decimal number)
 abbrev pub with_name : List ℕ → List ℕ → List ℕ
 with_name word name = word ++ (codes " " ++ name)
 
+-- the word, the name behind a space, and the number behind a space
+abbrev pub with_both : List ℕ → List ℕ → ℕ → List ℕ
+with_both word name number = word ++ (codes " " ++ with_number name number)
+
 -- the reason of a fault of a grammar file
 abbrev pub fault_reason : FileFault → List ℕ
 fault_reason (too_large count) = with_number (codes "large") count
 fault_reason (not_utf8 at) = with_number (codes "utf8") at
 fault_reason (syntax at) = with_number (codes "syntax") at
-fault_reason (unsupported word at) = with_number (with_name (codes "unsupported") word) at
+fault_reason (unsupported word at) = with_both (codes "unsupported") word at
 fault_reason (unbuilt number) = with_number (codes "unbuilt") number
 
 -- the reason why definitions are unfit
@@ -62,8 +66,7 @@ unfit_reason (bad_coercion number) = with_number (codes "coercion") number
 unfit_reason (bad_list number) = with_number (codes "list") number
 unfit_reason (too_many_rules count) = with_number (codes "rules") count
 unfit_reason (repeated_token name) = with_name (codes "token") name
-unfit_reason (unknown_category name number) =
-    with_number (with_name (codes "category") name) number
+unfit_reason (unknown_category name number) = with_both (codes "category") name number
 unfit_reason (unbuilt_name number) = with_number (codes "unbuilt") number
 unfit_reason (cyclic_category name) = with_name (codes "cyclic") name
 
