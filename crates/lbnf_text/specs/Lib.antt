@@ -2,3 +2,4 @@ pub mod Reading
 pub mod PieceReading
 pub mod ByteSorts
 pub mod ItemReading
+pub mod Parsing

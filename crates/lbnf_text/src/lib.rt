@@ -4,6 +4,7 @@
 mod bytes;
 mod defs;
 mod fault;
+mod parser;
 mod pieces;
 mod reading;
 mod rule;
