@@ -2,8 +2,10 @@
 #![tactic(auto)]
 
 mod bytes;
+mod categories;
 mod defs;
 mod fault;
+mod labels;
 mod parser;
 mod pieces;
 mod reading;

@@ -1,8 +1,9 @@
 //! The tokens of one definition, read from left to right.
-ghost use Rattle.std.specs.Prelude.{◌≡◌, [], ◌∷◌, IfOk, MatchOption};
+ghost use Rattle.std.specs.Prelude.{◌≡◌, ◌↔◌, [], IfOk, IsTrue};
 ghost use Rattle.std.specs.Option.{option_copied};
 ghost use Rattle.spec_lbnf.specs.FileTokens.{sign_bytes};
-ghost use Rattle.spec_lbnf.specs.FileReading.{is_sign, upper_name, sign_at, name_at};
+ghost use Rattle.spec_lbnf.specs.FileReading.{is_sign, is_word, upper_name, text_value, number_value};
+ghost use Rattle.spec_lbnf.specs.FileReading.{sign_at, name_at, text_at, number_at};
 ghost use Rattle.lbnf_text.specs.Parsing.{Gives, Splits};
 
 use crate::bytes::starts_upper;
@@ -63,8 +64,8 @@ impl<'a> Parser<'a> {
         self.rest
     }
 
-    /// The next token, and the tokens behind it.
-    fn split(&self) -> Result<(&'a PlacedToken, &'a [PlacedToken]), Stop>
+    /// The next token, and the tokens behind it; `Stuck` where none is left.
+    pub fn split(&self) -> Result<(&'a PlacedToken, &'a [PlacedToken]), Stop>
         ensures { Splits self.now result }
     {
         self.rest.split_first().ok_or(Stop::Stuck)
@@ -93,6 +94,43 @@ impl<'a> Parser<'a> {
         let name = copy_name(alloc, name)?;
         self.rest = behind;
         Ok(name)
+    }
+
+    /// Reads a string.
+    #[tactic(auto, unfolding(spec_lbnf::specs::FileReading::text_at, spec_lbnf::specs::FileReading::take_token))]
+    pub fn text(&mut self, alloc: Global) -> Result<Name, Stop>
+        ensures { Gives (text_at self.old) result self.new }
+    {
+        let (first, behind) = self.split()?;
+        let text = text_value(&first.token).ok_or(Stop::Stuck)?;
+        let text = copy_name(alloc, text)?;
+        self.rest = behind;
+        Ok(text)
+    }
+
+    /// Reads a number.
+    #[tactic(auto, unfolding(spec_lbnf::specs::FileReading::number_at, spec_lbnf::specs::FileReading::take_token))]
+    pub fn number(&mut self) -> Result<u16, Stop>
+        ensures { Gives (number_at self.old) result self.new }
+    {
+        let (first, behind) = self.split()?;
+        let number = number_value(&first.token).ok_or(Stop::Stuck)?;
+        self.rest = behind;
+        Ok(number)
+    }
+
+    /// Goes on at these tokens, which are a part of the same definition.
+    pub fn go_to(&mut self, tokens: &'a [PlacedToken])
+        ensures { self.new ≡ tokens.now }
+    {
+        self.rest = tokens;
+    }
+
+    /// Whether no token is left.
+    pub fn is_at_end(&self) -> bool
+        ensures { IsTrue result ↔ (self.now ≡ []) }
+    {
+        self.rest.is_empty()
     }
 }
 
@@ -148,9 +186,48 @@ pub fn upper_name(token: &FileToken) -> Option<&Name>
 }
 
 /// The name of the same bytes.
-fn copy_name(alloc: Global, name: &Name) -> Result<Name, AllocError>
+pub fn copy_name(alloc: Global, name: &Name) -> Result<Name, AllocError>
     ensures { IfOk result (λ copy. copy ≡ name.now) }
 {
     let bytes = Vec::from_slice(alloc, name.as_slice())?;
     Ok(Name::of(bytes))
+}
+
+/// The text that the token is.
+pub fn text_value(token: &FileToken) -> Option<&Name>
+    ensures { option_copied result ≡ text_value token.now }
+{
+    match token {
+        FileToken::Text(text) => Some(text),
+        FileToken::Identifier(_) => None,
+        FileToken::Number(_) => None,
+        FileToken::Character(_) => None,
+        FileToken::Sign(_) => None,
+    }
+}
+
+/// The number that the token is.
+fn number_value(token: &FileToken) -> Option<u16>
+    ensures { result ≡ number_value token.now }
+{
+    match token {
+        FileToken::Number(number) => Some(*number),
+        FileToken::Identifier(_) => None,
+        FileToken::Text(_) => None,
+        FileToken::Character(_) => None,
+        FileToken::Sign(_) => None,
+    }
+}
+
+/// Whether the token is this word.
+pub fn is_word(word: &[u8], token: &FileToken) -> bool
+    ensures { result ≡ is_word word.now token.now }
+{
+    match token {
+        FileToken::Identifier(name) => name.as_slice() == word,
+        FileToken::Number(_) => false,
+        FileToken::Text(_) => false,
+        FileToken::Character(_) => false,
+        FileToken::Sign(_) => false,
+    }
 }
