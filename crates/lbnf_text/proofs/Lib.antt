@@ -2,3 +2,4 @@ pub mod AsciiLemmas
 pub mod PieceLemmas
 pub mod ItemLemmas
 pub mod ParsingLemmas
+pub mod WordLemmas

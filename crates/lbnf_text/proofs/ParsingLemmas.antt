@@ -1,9 +1,11 @@
 -- Steps of the parser's loops.
-use Rattle.std.proofs.Common.{◌≡◌, ℕ, zero, suc, ◌+◌, ◌<◌, List, [], ◌∷◌, length, get_or, refl, arith, true}
+use Rattle.std.proofs.Common.{◌≡◌, ℕ, zero, suc, ◌+◌, ◌<◌, ◌≤◌, List, [], ◌∷◌, ◌++◌, length, get_or, refl, sym, ap, ◌∙◌, arith, append_assoc, append-nil, true, false, IsTrue}
 use Rattle.std.specs.List.{prefix_len}
 use Rattle.spec_lbnf.specs.declared.token.PlacedToken.{PlacedToken}
 use Rattle.spec_lbnf.specs.declared.token.Sign.TheVariants.{OpenBracket, CloseBracket}
-use Rattle.spec_lbnf.specs.FileReading.{Read, got, next_on, is_sign, sign_at, open_count, closes_at}
+use Rattle.spec_lbnf.specs.FileReading.{Read, got, stuck, long, next_on, is_sign, sign_at, open_count, closes_at}
+use Rattle.spec_lbnf.specs.FileReading.{◌>>=◌, pure, item_at, items_at, side_at}
+use Rattle.spec_lbnf.specs.declared.definition.RawItem.{RawItem}
 use Rattle.lbnf_text.specs.declared.parser.Stop.{Stop}
 use Rattle.lbnf_text.specs.declared.parser.Stop.TheVariants.{Memory, Stuck, Long}
 use Rattle.lbnf_text.specs.Parsing.{stopped}
@@ -73,3 +75,70 @@ module _ (count done : ℕ) (tokens rest : List PlacedToken) (closed : AreClosed
   not_closed more stop behind read =
       let next = next_closed more in
       rw (next.2, read, next_stopped) refl
+
+-- what a reader of items gives, behind these
+abbrev pub with_front : List RawItem → Read (List RawItem) → Read (List RawItem)
+with_front front read = next_on (λ others. pure (front ++ others)) read
+
+-- the tokens are these items, and then those that the rest is
+pub record AreReadItems (tokens : List PlacedToken) (items : List RawItem) (rest : List PlacedToken) : Type 0 where
+  pub turns : ℕ
+  pub enough : length rest ≤ turns
+  pub whole : side_at tokens ≡ with_front items (items_at turns rest)
+
+-- tokens are left where there are not none
+pub some_left : (tokens : List PlacedToken) → (tokens ≡ [] → IsTrue false) → 0 < length tokens
+some_left [] some = absurd (cc (some refl))
+some_left (token ∷ rest) some = omega arith
+
+-- at first no item is read
+pub no_items : (tokens : List PlacedToken) → AreReadItems tokens [] tokens
+unfolding side_at next_on
+no_items tokens = record { turns = length tokens; enough = omega arith; whole = same (items_at (length tokens) tokens) }
+  where
+    same : (read : Read (List RawItem)) → read ≡ with_front [] read
+    same (got items rest) = refl
+    same (stuck rest) = refl
+    same (long rest) = refl
+
+-- where nothing is left, the items are all
+pub all_items : (tokens : List PlacedToken) (items : List RawItem) (rest : List PlacedToken) → AreReadItems tokens items rest → rest ≡ [] → side_at tokens ≡ got items rest
+unfolding items_at next_on
+all_items tokens items [] read none = read.whole ∙ ap (λ all. got all []) (append-nil items)
+all_items tokens items (token ∷ rest) read none = absurd (cc)
+
+module _ (tokens : List PlacedToken) (items : List RawItem) (rest : List PlacedToken) (read : AreReadItems tokens items rest) (left : 0 < length rest) where
+  -- an item is read next
+  next_item : (less : ℕ) × (read.turns ≡ suc less)
+      × (items_at read.turns rest ≡ next_on (λ more. items_at less >>= (λ others. pure (more ++ others))) (item_at rest))
+  unfolding items_at
+  next_item = by read.turns rest read.enough left
+    where
+      by : (turns : ℕ) (rest : List PlacedToken) → length rest ≤ turns → 0 < length rest → (less : ℕ) × (turns ≡ suc less)
+          × (items_at turns rest ≡ next_on (λ more. items_at less >>= (λ others. pure (more ++ others))) (item_at rest))
+      by turns [] enough left = absurd (omega arith)
+      by zero (token ∷ rest) enough left = absurd (omega arith)
+      by (suc less) (token ∷ rest) enough left = (less, refl, refl)
+
+  -- where what comes next is no item, the tokens are no right side
+  pub no_side : (stop : Stop) (behind : List PlacedToken) → item_at rest ≡ stopped stop behind → side_at tokens ≡ stopped stop behind
+  no_side stop behind none =
+      let next = next_item in
+      rw (read.whole, next.2, none, next_stopped, next_stopped) refl
+
+  -- the items of the next one are read
+  pub more_items : (more : List RawItem) (behind : List PlacedToken) → item_at rest ≡ got more behind → length behind < length rest
+      → AreReadItems tokens (items ++ more) behind
+  unfolding next_on
+  more_items more behind some shorter =
+      let next = next_item in
+      record {
+        turns = next.0;
+        enough = omega (arith, next.1, read.enough);
+        whole = read.whole ∙ ap (with_front items) (next.2 ∙ rw some refl) ∙ joined (items_at next.0 behind);
+      }
+    where
+      joined : (others : Read (List RawItem)) → with_front items (next_on (λ others. pure (more ++ others)) others) ≡ with_front (items ++ more) others
+      joined (got others rest) = ap (λ all. got all rest) (sym (append_assoc items more others))
+      joined (stuck rest) = refl
+      joined (long rest) = refl

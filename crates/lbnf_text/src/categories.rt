@@ -1,5 +1,5 @@
 //! Reading categories.
-ghost use Rattle.std.specs.Prelude.{◌≡◌, ◌+◌, ◌≤◌, length, drop, nat_le};
+ghost use Rattle.std.specs.Prelude.{◌≡◌, ◌+◌, ◌<◌, ◌≤◌, length, drop, nat_le, OnOk};
 ghost use Rattle.spec_lbnf.specs.FileReading.{open_count, closes_at, category_at};
 ghost use Rattle.lbnf_text.specs.Parsing.{Gives};
 
@@ -45,7 +45,8 @@ impl<'a> Parser<'a> {
 
     /// Reads so many close brackets.
     fn closes(&mut self, count: usize) -> Result<(), Stop>
-        ensures { Gives (closes_at count self.old) result self.new }
+        ensures read { Gives (closes_at count self.old) result self.new }
+        ensures within { OnOk result (length self.new ≤ length self.old) }
     {
         for turn in 0..count {
             self.sign(Sign::CloseBracket)?;
@@ -56,7 +57,8 @@ impl<'a> Parser<'a> {
     /// Reads a category of at most 128 bytes; where it is longer, the parser stays before it.
     #[tactic(auto, unfolding(spec_lbnf::specs::FileReading::category_at, spec_lbnf::specs::FileReading::bracketed_at, spec_lbnf::specs::FileReading::next_on))]
     pub fn category(&mut self, alloc: Global) -> Result<CatName, Stop>
-        ensures { Gives (category_at self.old) result self.new }
+        ensures read { Gives (category_at self.old) result self.new }
+        ensures shorter { OnOk result (length self.new < length self.old) }
     {
         let start = self.rest();
         let depth = self.opens();

@@ -5,6 +5,7 @@ mod bytes;
 mod categories;
 mod defs;
 mod fault;
+mod items;
 mod labels;
 mod parser;
 mod pieces;

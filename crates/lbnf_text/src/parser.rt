@@ -1,5 +1,5 @@
 //! The tokens of one definition, read from left to right.
-ghost use Rattle.std.specs.Prelude.{◌≡◌, ◌↔◌, [], IfOk, IsTrue};
+ghost use Rattle.std.specs.Prelude.{◌≡◌, ◌<◌, ◌↔◌, [], length, IfOk, OnOk, IsTrue};
 ghost use Rattle.std.specs.Option.{option_copied};
 ghost use Rattle.spec_lbnf.specs.FileTokens.{sign_bytes};
 ghost use Rattle.spec_lbnf.specs.FileReading.{is_sign, is_word, upper_name, text_value, number_value};
@@ -74,7 +74,8 @@ impl<'a> Parser<'a> {
     /// Reads this sign.
     #[tactic(auto, unfolding(spec_lbnf::specs::FileReading::sign_at, spec_lbnf::specs::FileReading::take_token))]
     pub fn sign(&mut self, sign: Sign) -> Result<(), Stop>
-        ensures { Gives (sign_at sign self.old) result self.new }
+        ensures read { Gives (sign_at sign self.old) result self.new }
+        ensures shorter { OnOk result (length self.new < length self.old) }
     {
         let (first, behind) = self.split()?;
         if !is_sign(sign, &first.token) {
@@ -87,7 +88,8 @@ impl<'a> Parser<'a> {
     /// Reads an upper-case name.
     #[tactic(auto, unfolding(spec_lbnf::specs::FileReading::name_at, spec_lbnf::specs::FileReading::take_token))]
     pub fn name(&mut self, alloc: Global) -> Result<Name, Stop>
-        ensures { Gives (name_at self.old) result self.new }
+        ensures read { Gives (name_at self.old) result self.new }
+        ensures shorter { OnOk result (length self.new < length self.old) }
     {
         let (first, behind) = self.split()?;
         let name = upper_name(&first.token).ok_or(Stop::Stuck)?;
