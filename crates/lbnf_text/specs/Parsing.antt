@@ -1,8 +1,13 @@
 -- What a parser of tokens answers. Serves the proofs alone.
-use Rattle.std.specs.Prelude.{◌≡◌, ◌≢◌, List, [], ◌∷◌, Result, Ok, Err}
+use Rattle.std.specs.Prelude.{◌≡◌, ◌≢◌, ℕ, List, [], ◌∷◌, Bool, Result, Ok, Err}
 use Rattle.std.specs.Borrow.{Bor}
 use Rattle.spec_lbnf.specs.declared.token.PlacedToken.{PlacedToken}
 use Rattle.spec_lbnf.specs.FileReading.{Read, got, stuck, long}
+use Rattle.spec_lbnf.specs.declared.definition.CatName.{CatName}
+use Rattle.spec_lbnf.specs.declared.definition.Def.{Def}
+use Rattle.spec_lbnf.specs.declared.definition.Def.TheVariants as def
+use Rattle.lbnf_text.specs.declared.definition.ListMacro.{ListMacro}
+use Rattle.lbnf_text.specs.declared.definition.ListMacro.TheVariants.{Terminator, Separator}
 use Rattle.lbnf_text.specs.declared.parser.Stop.{Stop}
 use Rattle.lbnf_text.specs.declared.parser.Stop.TheVariants.{Memory, Stuck, Long}
 
@@ -21,3 +26,8 @@ Gives read (Err stop) rest = stop ≢ Memory → read ≡ stopped stop rest
 abbrev pub Splits : List PlacedToken → Result (Bor PlacedToken × Bor (List PlacedToken)) Stop → Type 0
 Splits tokens (Ok parts) = tokens ≡ parts.0.now ∷ parts.1.now
 Splits tokens (Err stop) = (tokens ≡ []) × (stop ≡ Stuck)
+
+-- the definition that a macro for lists makes of its parts
+abbrev pub list_def : ListMacro → Bool → CatName → List ℕ → Def
+list_def Terminator nonempty cat word = def.Terminator nonempty cat word
+list_def Separator nonempty cat word = def.Separator nonempty cat word

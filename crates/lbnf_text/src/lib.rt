@@ -3,6 +3,7 @@
 
 mod bytes;
 mod categories;
+mod definition;
 mod defs;
 mod fault;
 mod items;

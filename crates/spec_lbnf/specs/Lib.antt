@@ -7,3 +7,4 @@ pub mod FileTokens
 pub mod GrammarFile
 pub mod Faults
 pub mod FileReading
+pub mod FileDefinitions
