@@ -3,3 +3,4 @@ pub mod PieceReading
 pub mod ByteSorts
 pub mod ItemReading
 pub mod Parsing
+pub mod Faulting

@@ -6,6 +6,7 @@ mod categories;
 mod definition;
 mod defs;
 mod fault;
+mod faults;
 mod items;
 mod labels;
 mod parser;

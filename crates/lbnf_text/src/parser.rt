@@ -1,5 +1,6 @@
 //! The tokens of one definition, read from left to right.
-ghost use Rattle.std.specs.Prelude.{◌≡◌, ◌<◌, ◌↔◌, [], length, IfOk, OnOk, IsTrue};
+ghost use Rattle.std.specs.Prelude.{◌≡◌, ◌<◌, ◌↔◌, [], ◌∷◌, length, IfOk, OnOk, IsTrue};
+ghost use Rattle.std.specs.Prelude.{MatchOption};
 ghost use Rattle.std.specs.Option.{option_copied};
 ghost use Rattle.spec_lbnf.specs.FileTokens.{sign_bytes};
 ghost use Rattle.spec_lbnf.specs.FileReading.{is_sign, is_word, upper_name, text_value, number_value};
@@ -68,7 +69,7 @@ impl<'a> Parser<'a> {
     pub fn split(&self) -> Result<(&'a PlacedToken, &'a [PlacedToken]), Stop>
         ensures { Splits self.now result }
     {
-        self.rest.split_first().ok_or(Stop::Stuck)
+        first_of(self.rest).ok_or(Stop::Stuck)
     }
 
     /// Reads this sign.
@@ -134,6 +135,13 @@ impl<'a> Parser<'a> {
     {
         self.rest.is_empty()
     }
+}
+
+/// The first of the tokens, and the tokens behind it.
+pub fn first_of(tokens: &[PlacedToken]) -> Option<(&PlacedToken, &[PlacedToken])>
+    ensures { MatchOption result (tokens.now ≡ []) (λ parts. tokens.now ≡ parts.0.now ∷ parts.1.now) }
+{
+    tokens.split_first()
 }
 
 /// The bytes of a sign.
