@@ -3,3 +3,4 @@ pub mod PieceLemmas
 pub mod ItemLemmas
 pub mod ParsingLemmas
 pub mod WordLemmas
+pub mod DefinitionsLemmas

@@ -4,6 +4,7 @@
 mod bytes;
 mod categories;
 mod definition;
+mod definitions;
 mod defs;
 mod fault;
 mod faults;
