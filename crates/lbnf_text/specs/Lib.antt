@@ -4,3 +4,4 @@ pub mod ByteSorts
 pub mod ItemReading
 pub mod Parsing
 pub mod Faulting
+pub mod LiteralParts

@@ -14,6 +14,7 @@ mod parser;
 mod pieces;
 mod reading;
 mod rule;
+mod scanner;
 mod tokens;
 
 pub use defs::Defs;

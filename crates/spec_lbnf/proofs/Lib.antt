@@ -7,3 +7,8 @@ pub mod CheckLemmas
 pub mod CycleLemmas
 pub mod NameLemmas
 pub mod SymbolLemmas
+pub mod SpaceLemmas
+pub mod LiteralLemmas
+pub mod SignLemmas
+pub mod RunTokenLemmas
+pub mod ScanLemmas

@@ -8,3 +8,6 @@ pub mod GrammarFile
 pub mod Faults
 pub mod FileReading
 pub mod FileDefinitions
+pub mod Scanning
+pub mod FileLaws
+pub mod ScanExamples

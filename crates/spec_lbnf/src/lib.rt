@@ -2,10 +2,12 @@
 #![tactic(auto)]
 
 mod definition;
+mod file_laws;
 mod laws;
 mod token;
 
 pub use definition::{CatName, Def, RawItem, RawRule};
+pub use file_laws::{one_scan, small_scans, some_scan, tokens_rise};
 pub use laws::{
     acyclic_or_cyclic, distinct_names, fit_or_unknown, numbers_name_back, one_spelling,
     own_symbols, spelled_or_unbuilt, two_bytes_each,

@@ -1,0 +1,24 @@
+//! Laws of the tokens of a grammar file. Each is the contract of a function with an empty body.
+ghost use Rattle.spec_lbnf.specs.FileLaws.{HasOneScan, HasSomeScan, HasRisingPlaces};
+ghost use Rattle.spec_lbnf.specs.ScanExamples.{SmallScans};
+
+/// A file has at most one list of tokens, up to one place.
+pub fn one_scan()
+    ensures { HasOneScan }
+{}
+
+/// A file has tokens, up to some place, whether or not it is UTF-8.
+pub fn some_scan()
+    ensures { HasSomeScan }
+{}
+
+/// The places of a file's tokens rise and lie before the place up to which they reach, which is at
+/// most the file's length.
+pub fn tokens_rise()
+    ensures { HasRisingPlaces }
+{}
+
+/// The tokens of small files, by hand.
+pub fn small_scans()
+    ensures { SmallScans }
+{}
