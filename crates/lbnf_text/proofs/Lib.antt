@@ -1,7 +1,12 @@
 pub mod AsciiLemmas
 pub mod PieceLemmas
 pub mod ItemLemmas
+pub mod ParsingLemmas
+pub mod WordLemmas
+pub mod DefinitionsLemmas
 pub mod CommentLemmas
 pub mod PartLemmas
 pub mod RunTextLemmas
 pub mod LiteralLemmas
+pub mod SignTextLemmas
+pub mod ScanTextLemmas

@@ -8,7 +8,7 @@ use Rattle.spec_lbnf.specs.FirstForm.{pieces_of, size_of, SpellsDef, Spells, IsU
 use Rattle.spec_lbnf.proofs.FileLemmas.{item_at}
 use Rattle.spec_lbnf.proofs.SizeLemmas.{two_bytes_each}
 use Rattle.lbnf_text.specs.declared.fault.TextFault.{TextFault}
-use Rattle.lbnf_text.specs.declared.fault.TextFault.TheVariants.{Memory, Unbuilt}
+use Rattle.lbnf_text.specs.declared.fault.TextFault.TheVariants.{Memory, TooLarge, NotUtf8, Syntax, Unsupported, Unbuilt}
 use Rattle.lbnf_text.specs.Reading.{ReadsDefs}
 use Rattle.lbnf_text.specs.PieceReading.{ReadsPiece}
 
@@ -77,6 +77,10 @@ pub fails : (bytes : List ℕ) (number : ℕ) (defs : List Def) (piece : List �
     → AreReadUpTo (pieces_of bytes) number defs → slice_get (pieces_of bytes) number ≡ Some piece
     → (fault : TextFault) → ReadsPiece number piece (Err fault) → ReadsDefs bytes (Err fault)
 fails bytes number defs piece read at Memory h = tt
+fails bytes number defs piece read at (TooLarge count) h = absurd h
+fails bytes number defs piece read at (NotUtf8 place) h = absurd h
+fails bytes number defs piece read at (Syntax place) h = absurd h
+fails bytes number defs piece read at (Unsupported word place) h = absurd h
 fails bytes number defs piece read at (Unbuilt told) h = subst (IsFirstUnbuilt bytes) (sym h.0) (first_unbuilt bytes number defs piece read at h.1)
 
 -- the piece at a place of the slices is the slice at that place

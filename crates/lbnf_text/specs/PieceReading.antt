@@ -10,3 +10,4 @@ abbrev pub ReadsPiece : ℕ → List ℕ → Result Def TextFault → Type 0
 ReadsPiece number piece (Ok def) = (number < 1024) × SpellsDef piece def
 ReadsPiece number piece (Err Memory) = Unit {0}
 ReadsPiece number piece (Err (Unbuilt told)) = (told ≡ number) × (IsUnbuilt piece ⊎ (number ≡ 1024))
+ReadsPiece number piece (Err other) = ⊥

@@ -10,3 +10,4 @@ abbrev pub ReadsDefs : List ℕ → Result (List Def) TextFault → Type 0
 ReadsDefs bytes (Ok defs) = Spells bytes defs
 ReadsDefs bytes (Err Memory) = Unit {0}
 ReadsDefs bytes (Err (Unbuilt number)) = IsFirstUnbuilt bytes number
+ReadsDefs bytes (Err other) = ⊥

@@ -2,8 +2,15 @@
 #![tactic(auto)]
 
 mod bytes;
+mod categories;
+mod definition;
+mod definitions;
 mod defs;
 mod fault;
+mod faults;
+mod items;
+mod labels;
+mod parser;
 mod pieces;
 mod reading;
 mod rule;

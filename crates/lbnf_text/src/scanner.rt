@@ -285,3 +285,58 @@ fn sign(text: &str) -> Option<(FileToken, &str)>
         Some((FileToken::Sign(sign), rest))
     }
 }
+
+/// The token at the front, by its first byte, and what is behind it.
+#[tactic(auto, unfolding(spec_lbnf::specs::Scanning::token_at))]
+fn token(alloc: Global, text: &str) -> Result<Option<(FileToken, &str)>, AllocError>
+    ensures { IfOk result (λ read. option_map (λ x. (x.0, x.1.now)) read ≡ token_at text.now) }
+{
+    let [byte, ..] = text.as_bytes() else {
+        return Ok(None);
+    };
+    if byte.is_ascii_alphabetic() {
+        identifier(alloc, text)
+    } else if byte.is_ascii_digit() {
+        Ok(number(text))
+    } else if *byte == b'"' {
+        string(alloc, &text[1..])
+    } else if *byte == b'\'' {
+        Ok(character(&text[1..]))
+    } else {
+        Ok(sign(text))
+    }
+}
+
+/// What is behind all white bytes and comments at the front.
+fn skip_spaces(text: &str) -> &str
+    ensures skips { Skips text.now result.now }
+    ensures free { behind_space result.now ≡ None }
+{
+    let mut rest = text;
+    while let Some(behind) = behind_space(rest) {
+        rest = behind;
+    }
+    rest
+}
+
+/// The tokens of a file, up to its end or the first byte at which no token begins. It looks at
+/// each byte a few times, and the memory that it takes is in proportion to the tokens.
+pub(crate) fn scan_file(alloc: Global, text: &str) -> Result<Scan, AllocError>
+    requires { length text.now ≤ 65536 }
+    ensures { IfOk result (λ scan. IsScan text.now scan.tokens.items scan.stop) }
+{
+    let mut tokens = Vec::new(alloc);
+    let mut rest = text;
+    loop {
+        let here = skip_spaces(rest);
+        let place = (text.len() - here.len()) as u32;
+        let Some((token, behind)) = token(alloc, here)? else {
+            return Ok(Scan {
+                tokens,
+                stop: place,
+            });
+        };
+        tokens.push(PlacedToken { token, place })?;
+        rest = behind;
+    }
+}

@@ -159,7 +159,7 @@ token_or_space token bytes rest behind begins space =
     none-some (token, rest) (sym (no_token_in_space bytes behind space) ∙ token_again token bytes rest begins)
 
 -- what separates tokens is not empty
-space_some : (bytes rest : List ℕ) → Separates bytes rest → length rest < length bytes
+pub space_some : (bytes rest : List ℕ) → Separates bytes rest → length rest < length bytes
 space_some bytes rest (inl (byte, white, e)) = omega (arith, ap length e)
 space_some bytes rest (inr (inl is)) = omega (arith, simp length-append at (ap length is.whole))
 space_some bytes rest (inr (inr is)) = omega (arith, simp length-append at (ap length is.whole))
@@ -216,7 +216,7 @@ one_skip bytes here there (goes_on _ behind _ space skips) (goes_on _ other _ sp
     one_skip behind here there skips (rw same skips') free free'
 
 -- what is skipped leaves no more bytes
-skip_shorter : (bytes here : List ℕ) → Skips bytes here → length here ≤ length bytes
+pub skip_shorter : (bytes here : List ℕ) → Skips bytes here → length here ≤ length bytes
 skip_shorter bytes here (nothing _ _ e) = omega (arith, ap length e)
 skip_shorter bytes here (goes_on _ behind _ space skips) =
     omega (arith, space_some bytes behind space, skip_shorter behind here skips)

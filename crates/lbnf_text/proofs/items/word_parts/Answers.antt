@@ -1,0 +1,13 @@
+use Rattle.std.proofs.Common.{rules, not, nat_eq}
+use Rattle.std.proofs.lemmas.Iterator.Consumers.{map_from_collect, YieldsList-from_filter}
+use Rattle.std.proofs.lemmas.Iterator.Splits.{YieldsList-from_slice_split}
+use borrow.Author.Tests.{tests}
+use Rattle.spec_lbnf.specs.Words.{is_empty}
+use Rattle.lbnf_text.proofs.items.word_parts.Goals as goal
+
+pub returns : goal.returns
+returns c =
+    map_from_collect _ c.collect.ensures.ran
+    (YieldsList-from_filter _ (λ word. not (is_empty word))
+    (YieldsList-from_slice_split _ (λ byte. nat_eq byte 32) c.args.text.now (cc) (cc) (cc) (λ x b q k. search (rules, tests)))
+    c.filter.ensures.closure (λ x b q k. search (rules, tests)))

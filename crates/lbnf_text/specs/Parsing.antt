@@ -1,0 +1,33 @@
+-- What a parser of tokens answers. Serves the proofs alone.
+use Rattle.std.specs.Prelude.{◌≡◌, ◌≢◌, ℕ, List, [], ◌∷◌, Bool, Result, Ok, Err}
+use Rattle.std.specs.Borrow.{Bor}
+use Rattle.spec_lbnf.specs.declared.token.PlacedToken.{PlacedToken}
+use Rattle.spec_lbnf.specs.FileReading.{Read, got, stuck, long}
+use Rattle.spec_lbnf.specs.declared.definition.CatName.{CatName}
+use Rattle.spec_lbnf.specs.declared.definition.Def.{Def}
+use Rattle.spec_lbnf.specs.declared.definition.Def.TheVariants as def
+use Rattle.lbnf_text.specs.declared.definition.ListMacro.{ListMacro}
+use Rattle.lbnf_text.specs.declared.definition.ListMacro.TheVariants.{Terminator, Separator}
+use Rattle.lbnf_text.specs.declared.parser.Stop.{Stop}
+use Rattle.lbnf_text.specs.declared.parser.Stop.TheVariants.{Memory, Stuck, Long}
+
+-- what a reader gives that stops so, with these tokens left
+abbrev pub stopped : {A : Type 0} → Stop → List PlacedToken → Read A
+stopped Memory rest = stuck rest
+stopped Stuck rest = stuck rest
+stopped Long rest = long rest
+
+-- the answer, with these tokens left, is what a reader gives; want of memory is free
+abbrev pub Gives : {A : Type 0} → Read A → Result A Stop → List PlacedToken → Type 0
+Gives read (Ok value) rest = read ≡ got value rest
+Gives read (Err stop) rest = stop ≢ Memory → read ≡ stopped stop rest
+
+-- the answer is the next token and those behind it, or that none is left
+abbrev pub Splits : List PlacedToken → Result (Bor PlacedToken × Bor (List PlacedToken)) Stop → Type 0
+Splits tokens (Ok parts) = tokens ≡ parts.0.now ∷ parts.1.now
+Splits tokens (Err stop) = (tokens ≡ []) × (stop ≡ Stuck)
+
+-- the definition that a macro for lists makes of its parts
+abbrev pub list_def : ListMacro → Bool → CatName → List ℕ → Def
+list_def Terminator nonempty cat word = def.Terminator nonempty cat word
+list_def Separator nonempty cat word = def.Separator nonempty cat word

@@ -1,0 +1,166 @@
+//! Reading one definition.
+ghost use Rattle.std.specs.Prelude.{◌≡◌, ◌∷◌, ◌<◌, length, OnOk};
+ghost use Rattle.spec_lbnf.specs.declared.token.Sign.TheVariants.{Comma};
+ghost use Rattle.spec_lbnf.specs.FileReading.{next_on, sign_at, category_at};
+ghost use Rattle.spec_lbnf.specs.FileReading.{rule_at, macro_at, list_macro_at, coercions_at};
+ghost use Rattle.spec_lbnf.specs.FileReading.{entries_at, to_end, def_by, def_at};
+ghost use Rattle.lbnf_text.specs.Parsing.{Gives, list_def};
+
+use crate::parser::{Parser, Stop, is_word};
+use spec_lbnf::{CatName, Def, PlacedToken, RawRule, Sign};
+use spec_text::Name;
+use sqlite_items::Items;
+use std::alloc::Global;
+
+/// A macro for lists.
+#[derive(Clone, Copy, Debug, PartialEq, Eq)]
+pub enum ListMacro {
+    Terminator,
+    Separator,
+}
+
+impl ListMacro {
+    /// The definition that the macro makes of its parts.
+    fn def(self, nonempty: bool, cat: CatName, word: Name) -> Def
+        ensures { result ≡ list_def self nonempty cat word }
+    {
+        match self {
+            ListMacro::Terminator => Def::Terminator {
+                nonempty,
+                cat,
+                word,
+            },
+            ListMacro::Separator => Def::Separator {
+                nonempty,
+                cat,
+                word,
+            },
+        }
+    }
+}
+
+impl<'a> Parser<'a> {
+    /// Reads a rule, to the end of the tokens.
+    #[tactic(auto, unfolding(spec_lbnf::specs::FileReading::rule_at, spec_lbnf::specs::FileReading::next_on))]
+    fn rule(&mut self, alloc: Global) -> Result<RawRule, Stop>
+        ensures { Gives (rule_at self.old) result self.new }
+    {
+        let label = self.label(alloc)?;
+        self.sign(Sign::Dot)?;
+        let cat = self.category(alloc)?;
+        self.sign(Sign::Gives)?;
+        let items = self.side(alloc)?;
+        Ok(RawRule { label, cat, items })
+    }
+
+    /// Reads the category and the string of a macro.
+    #[tactic(auto, unfolding(spec_lbnf::specs::FileReading::macro_at, spec_lbnf::specs::FileReading::next_on))]
+    fn macro_parts(&mut self, alloc: Global, list: ListMacro, nonempty: bool) -> Result<Def, Stop>
+        ensures { Gives (macro_at (list_def list nonempty) self.old) result self.new }
+    {
+        let cat = self.category(alloc)?;
+        let word = self.text(alloc)?;
+        Ok(list.def(nonempty, cat, word))
+    }
+
+    /// Reads a macro behind its first word.
+    #[tactic(auto, unfolding(spec_lbnf::specs::FileReading::list_macro_at))]
+    fn list_macro(&mut self, alloc: Global, list: ListMacro) -> Result<Def, Stop>
+        ensures { Gives (list_macro_at (list_def list) self.old) result self.new }
+    {
+        let (first, behind) = self.split()?;
+        let nonempty = is_word(b"nonempty".as_slice(), &first.token);
+        if nonempty {
+            self.go_to(behind);
+        }
+        self.macro_parts(alloc, list, nonempty)
+    }
+
+    /// Reads the name and the number of coercions.
+    #[tactic(auto, unfolding(spec_lbnf::specs::FileReading::coercions_at, spec_lbnf::specs::FileReading::next_on))]
+    fn coercions(&mut self, alloc: Global) -> Result<Def, Stop>
+        ensures { Gives (coercions_at self.old) result self.new }
+    {
+        let name = self.name(alloc)?;
+        let levels = self.number()?;
+        Ok(Def::Coercions { name, levels })
+    }
+
+    /// Reads a comma and a category.
+    #[tactic(auto, unfolding(spec_lbnf::specs::FileReading::next_on))]
+    fn next_entry(&mut self, alloc: Global) -> Result<CatName, Stop>
+        ensures read { Gives (next_on (λ comma. category_at) (sign_at Comma self.old)) result self.new }
+        ensures shorter { OnOk result (length self.new < length self.old) }
+    {
+        self.sign(Sign::Comma)?;
+        self.category(alloc)
+    }
+
+    /// Reads one category or more, to the end of the tokens.
+    fn entries(&mut self, alloc: Global) -> Result<Items<CatName>, Stop>
+        ensures { Gives (entries_at self.old) result self.new }
+    {
+        let mut cats = Items::new(alloc);
+        cats.push(self.category(alloc)?)?;
+        'entries: while !self.is_at_end() {
+            cats.push(self.next_entry(alloc)?)?;
+        }
+        Ok(cats)
+    }
+
+    /// Sees that no token is left.
+    #[tactic(auto, unfolding(spec_lbnf::specs::FileReading::to_end))]
+    fn end(&mut self, def: Def) -> Result<Def, Stop>
+        ensures { Gives (to_end def self.old) result self.new }
+    {
+        if self.is_at_end() {
+            Ok(def)
+        } else {
+            Err(Stop::Stuck)
+        }
+    }
+
+    /// Reads a definition by its first word; this and the tokens behind it come next.
+    #[tactic(auto, unfolding(spec_lbnf::specs::FileReading::def_by, spec_lbnf::specs::FileReading::next_on))]
+    fn def_by(
+        &mut self,
+        alloc: Global,
+        first: &PlacedToken,
+        behind: &'a [PlacedToken],
+    ) -> Result<Def, Stop>
+        requires { self.old ≡ first.now ∷ behind.now }
+        ensures { Gives (def_by first.now behind.now) result self.new }
+    {
+        if is_word(b"internal".as_slice(), &first.token) {
+            self.go_to(behind);
+            return Ok(Def::Internal(self.rule(alloc)?));
+        }
+        if is_word(b"terminator".as_slice(), &first.token) {
+            self.go_to(behind);
+            return self.list_macro(alloc, ListMacro::Terminator);
+        }
+        if is_word(b"separator".as_slice(), &first.token) {
+            self.go_to(behind);
+            return self.list_macro(alloc, ListMacro::Separator);
+        }
+        if is_word(b"coercions".as_slice(), &first.token) {
+            self.go_to(behind);
+            return self.coercions(alloc);
+        }
+        if is_word(b"entrypoints".as_slice(), &first.token) {
+            self.go_to(behind);
+            return Ok(Def::Entry(self.entries(alloc)?));
+        }
+        Ok(Def::Rule(self.rule(alloc)?))
+    }
+
+    /// Reads a definition that all of the tokens are.
+    #[tactic(auto, unfolding(spec_lbnf::specs::FileReading::def_at, spec_lbnf::specs::FileReading::next_on))]
+    pub fn definition(&mut self, alloc: Global) -> Result<Def, Stop>
+        ensures { Gives (def_at self.old) result self.new }
+    {
+        let (first, behind) = self.split()?;
+        let def = self.def_by(alloc, first, behind)?;
+        self.end(def)
+    }
+}

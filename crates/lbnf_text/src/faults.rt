@@ -1,0 +1,227 @@
+//! The fault of a definition that cannot go on.
+ghost use Rattle.std.specs.Prelude.{◌≡◌, ◌∷◌, [], codes, None, bytes_eq, IfOk};
+ghost use Rattle.std.specs.List.{list_any};
+ghost use Rattle.std.specs.Option.{option_copied};
+ghost use Rattle.spec_lbnf.specs.declared.token.FileToken.TheVariants.{Identifier};
+ghost use Rattle.spec_lbnf.specs.Faults.{bare, unbuilt_words, word_fault, piece_fault, unsupported};
+ghost use Rattle.spec_lbnf.specs.FileDefinitions.{place_of, stuck_fault};
+ghost use Rattle.lbnf_text.specs.Faulting.{identifier, IsFault, IsStart};
+
+use crate::bytes::starts_upper;
+use crate::fault::TextFault;
+use crate::parser::{copy_name, first_of, is_sign};
+use spec_lbnf::{FileToken, PlacedToken, Sign};
+use spec_text::Name;
+use std::alloc::{AllocError, Global};
+
+/// What a definition has begun with, as far as its fault asks.
+#[derive(Clone, Copy)]
+enum Start<'a> {
+    /// No token.
+    Nothing,
+    /// One identifier.
+    Word(&'a Name),
+    /// Two identifiers.
+    TwoWords(&'a Name, &'a Name),
+    /// Other tokens.
+    Other,
+}
+
+fn identifier(token: &FileToken) -> Option<&Name>
+    ensures { option_copied result ≡ identifier token.now }
+{
+    match token {
+        FileToken::Identifier(name) => Some(name),
+        FileToken::Number(_) => None,
+        FileToken::Text(_) => None,
+        FileToken::Character(_) => None,
+        FileToken::Sign(_) => None,
+    }
+}
+
+/// What the tokens at the beginning of a definition are.
+fn start_of(front: &[PlacedToken]) -> Start<'_>
+    ensures { IsStart (bare front.now) result }
+{
+    let Some((first, behind)) = first_of(front) else {
+        return Start::Nothing;
+    };
+    let Some(word) = identifier(&first.token) else {
+        return Start::Other;
+    };
+    let Some((second, behind)) = first_of(behind) else {
+        return Start::Word(word);
+    };
+    let Some(other) = identifier(&second.token) else {
+        return Start::Other;
+    };
+    if first_of(behind).is_some() {
+        return Start::Other;
+    }
+    Start::TwoWords(word, other)
+}
+
+/// Whether a definition that begins with the word has a form that is not built.
+fn is_unbuilt(word: &[u8]) -> bool
+    ensures { result ≡ list_any (bytes_eq word.now) unbuilt_words }
+{
+    word == b"token".as_slice() || word == b"position".as_slice() || word == b"comment".as_slice()
+}
+
+/// That the word is not supported.
+fn unsupported(alloc: Global, word: &Name, at: u32) -> TextFault
+    ensures { IsFault (unsupported word.now at) result }
+{
+    match copy_name(alloc, word) {
+        Ok(word) => TextFault::Unsupported { word, at },
+        Err(_) => TextFault::Memory,
+    }
+}
+
+/// The name `(`.
+fn open_paren(alloc: Global) -> Result<Name, AllocError>
+    ensures { IfOk result (λ word. word ≡ codes "(") }
+{
+    let bytes = Vec::from_slice(alloc, b"(".as_slice())?;
+    Ok(Name::of(bytes))
+}
+
+/// That an open parenthesis is not supported.
+fn unsupported_paren(alloc: Global, at: u32) -> TextFault
+    ensures { IsFault (unsupported (codes "(") at) result }
+{
+    match open_paren(alloc) {
+        Ok(word) => TextFault::Unsupported { word, at },
+        Err(_) => TextFault::Memory,
+    }
+}
+
+/// The fault of a lower-case word that begins no definition.
+fn word_fault(alloc: Global, number: u32, word: &Name, at: u32) -> TextFault
+    ensures { IsFault (word_fault number word.now at) result }
+{
+    if is_unbuilt(word.as_slice()) {
+        TextFault::Unbuilt { def: number }
+    } else {
+        unsupported(alloc, word, at)
+    }
+}
+
+/// The fault of a token that begins no definition.
+fn first_fault(alloc: Global, number: u32, token: &FileToken, at: u32) -> TextFault
+    ensures { IsFault (piece_fault number [] token.now at) result }
+{
+    let Some(word) = identifier(token) else {
+        return TextFault::Syntax { at };
+    };
+    if starts_upper(word.as_slice()) {
+        TextFault::Syntax { at }
+    } else {
+        word_fault(alloc, number, word, at)
+    }
+}
+
+/// The fault of a word behind a first word.
+fn second_word(alloc: Global, number: u32, first: &Name, word: &Name, at: u32) -> TextFault
+    ensures { IsFault (piece_fault number (Identifier first.now ∷ []) (Identifier word.now) at) result }
+{
+    if first.as_slice() != b"internal".as_slice() {
+        return TextFault::Syntax { at };
+    }
+    if starts_upper(word.as_slice()) {
+        return TextFault::Syntax { at };
+    }
+    unsupported(alloc, word, at)
+}
+
+/// The fault of a token that is no word behind a first word.
+fn second_sign(alloc: Global, number: u32, first: &Name, token: &FileToken, at: u32) -> TextFault
+    requires { identifier token.now ≡ None }
+    ensures { IsFault (piece_fault number (Identifier first.now ∷ []) token.now at) result }
+{
+    if !is_sign(Sign::OpenParen, token) {
+        return TextFault::Syntax { at };
+    }
+    if !starts_upper(first.as_slice()) {
+        return TextFault::Syntax { at };
+    }
+    unsupported_paren(alloc, at)
+}
+
+/// The fault of a token behind a first word.
+fn second_fault(alloc: Global, number: u32, first: &Name, token: &FileToken, at: u32) -> TextFault
+    ensures { IsFault (piece_fault number (Identifier first.now ∷ []) token.now at) result }
+{
+    match token {
+        FileToken::Identifier(word) => second_word(alloc, number, first, word, at),
+        FileToken::Number(_) => second_sign(alloc, number, first, token, at),
+        FileToken::Text(_) => second_sign(alloc, number, first, token, at),
+        FileToken::Character(_) => second_sign(alloc, number, first, token, at),
+        FileToken::Sign(_) => second_sign(alloc, number, first, token, at),
+    }
+}
+
+/// The fault of a token behind two words.
+fn third_fault(
+    alloc: Global,
+    number: u32,
+    first: &Name,
+    second: &Name,
+    token: &FileToken,
+    at: u32,
+) -> TextFault
+    ensures { IsFault
+        (piece_fault number (Identifier first.now ∷ Identifier second.now ∷ []) token.now at)
+        result }
+{
+    if !is_sign(Sign::OpenParen, token) {
+        return TextFault::Syntax { at };
+    }
+    if first.as_slice() != b"internal".as_slice() {
+        return TextFault::Syntax { at };
+    }
+    unsupported_paren(alloc, at)
+}
+
+/// The fault of a token at which a definition that has begun with these cannot go on.
+fn token_fault(alloc: Global, number: u32, front: &[PlacedToken], token: &PlacedToken) -> TextFault
+    ensures { IsFault (piece_fault number (bare front.now) token.now.token token.now.place) result }
+{
+    let at = token.place;
+    match start_of(front) {
+        Start::Nothing => first_fault(alloc, number, &token.token, at),
+        Start::Word(word) => second_fault(alloc, number, word, &token.token, at),
+        Start::TwoWords(word, other) => {
+            third_fault(alloc, number, word, other, &token.token, at)
+        }
+        Start::Other => TextFault::Syntax { at },
+    }
+}
+
+/// The fault of a piece that cannot go on with its last tokens, these; the stop is the place of
+/// what stands behind the piece.
+pub fn stuck_fault(
+    alloc: Global,
+    number: u32,
+    piece: &[PlacedToken],
+    rest: &[PlacedToken],
+    stop: u32,
+) -> TextFault
+    ensures { IsFault (stuck_fault number piece.now rest.now stop) result }
+{
+    let Some((token, _)) = first_of(rest) else {
+        return TextFault::Syntax { at: stop };
+    };
+    let read = piece.len().saturating_sub(rest.len());
+    token_fault(alloc, number, &piece[..read], token)
+}
+
+/// Where the first of the tokens begins, or else this place.
+pub fn place_of(tokens: &[PlacedToken], stop: u32) -> u32
+    ensures { result ≡ place_of tokens.now stop }
+{
+    match first_of(tokens) {
+        Some((token, _)) => token.place,
+        None => stop,
+    }
+}

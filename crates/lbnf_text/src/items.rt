@@ -1,0 +1,85 @@
+//! Reading the items of a right side.
+ghost use Rattle.std.specs.Prelude.{◌≡◌, ◌<◌, [], ◌∷◌, length, map, IfOk, OnOk};
+ghost use Rattle.spec_lbnf.specs.declared.definition.RawItem.TheVariants.{Cat, Word};
+ghost use Rattle.spec_lbnf.specs.Words.{is_empty, words_in};
+ghost use Rattle.spec_lbnf.specs.FileReading.{next_on, pure, category_at, item_at, side_at};
+ghost use Rattle.lbnf_text.specs.Parsing.{Gives};
+
+use crate::parser::{Parser, Stop, text_value};
+use spec_lbnf::RawItem;
+use spec_text::Name;
+use sqlite_items::Items;
+use std::alloc::{AllocError, Global};
+
+fn is_empty(word: &[u8]) -> bool
+    ensures { result ≡ is_empty word.now }
+{
+    match word {
+        [] => true,
+        [_, ..] => false,
+    }
+}
+
+/// The parts of a string between its spaces, without empty ones.
+fn word_parts(alloc: Global, text: &[u8]) -> Result<Vec<&[u8]>, AllocError>
+    ensures { IfOk result (λ parts. map (λ p. p.now) parts.items ≡ words_in text.now) }
+{
+    text.split(|byte| *byte == b' ')
+        .filter(|word| !is_empty(word))
+        .collect(alloc)
+}
+
+/// The words of a string, as items.
+fn words(alloc: Global, text: &Name) -> Result<Items<RawItem>, AllocError>
+    ensures { IfOk result (λ items. items ≡ map Word (words_in text.now)) }
+{
+    let parts = word_parts(alloc, text.as_slice())?;
+    let mut items = Items::new(alloc);
+    for part in parts.iter() {
+        let word = Vec::from_slice(alloc, part)?;
+        items.push(RawItem::Word(Name::of(word)))?;
+    }
+    Ok(items)
+}
+
+impl<'a> Parser<'a> {
+    /// Reads a category, as the items that it gives.
+    #[tactic(auto, unfolding(spec_lbnf::specs::FileReading::next_on))]
+    fn category_item(&mut self, alloc: Global) -> Result<Items<RawItem>, Stop>
+        ensures read { Gives (next_on (λ cat. pure (Cat cat ∷ [])) (category_at self.old)) result self.new }
+        ensures shorter { OnOk result (length self.new < length self.old) }
+    {
+        let cat = self.category(alloc)?;
+        let mut items = Items::new(alloc);
+        items.push(RawItem::Cat(cat))?;
+        Ok(items)
+    }
+
+    /// Reads the items that one category or string gives.
+    #[tactic(auto, unfolding(spec_lbnf::specs::FileReading::item_at))]
+    fn item(&mut self, alloc: Global) -> Result<Items<RawItem>, Stop>
+        ensures read { Gives (item_at self.old) result self.new }
+        ensures shorter { OnOk result (length self.new < length self.old) }
+    {
+        let (first, behind) = self.split()?;
+        match text_value(&first.token) {
+            Some(text) => {
+                let items = words(alloc, text)?;
+                self.go_to(behind);
+                Ok(items)
+            }
+            None => self.category_item(alloc),
+        }
+    }
+
+    /// Reads the items of all tokens that are left.
+    pub fn side(&mut self, alloc: Global) -> Result<Items<RawItem>, Stop>
+        ensures { Gives (side_at self.old) result self.new }
+    {
+        let mut items = Items::new(alloc);
+        'items: while !self.is_at_end() {
+            items.append(self.item(alloc)?)?;
+        }
+        Ok(items)
+    }
+}

@@ -1,0 +1,243 @@
+//! The tokens of one definition, read from left to right.
+ghost use Rattle.std.specs.Prelude.{◌≡◌, ◌<◌, ◌↔◌, [], ◌∷◌, length, IfOk, OnOk, IsTrue};
+ghost use Rattle.std.specs.Prelude.{MatchOption};
+ghost use Rattle.std.specs.Option.{option_copied};
+ghost use Rattle.spec_lbnf.specs.FileTokens.{sign_bytes};
+ghost use Rattle.spec_lbnf.specs.FileReading.{is_sign, is_word, upper_name, text_value, number_value};
+ghost use Rattle.spec_lbnf.specs.FileReading.{sign_at, name_at, text_at, number_at};
+ghost use Rattle.lbnf_text.specs.Parsing.{Gives, Splits};
+
+use crate::bytes::starts_upper;
+use spec_lbnf::{FileToken, PlacedToken, Sign};
+use spec_text::Name;
+use std::alloc::{AllocError, Global};
+use std::marker::Model;
+
+/// Why a parser stops.
+#[derive(Clone, Copy, Debug, PartialEq, Eq)]
+pub enum Stop {
+    /// Memory ran out. It may come at any token.
+    Memory,
+    /// What is left cannot go on.
+    Stuck,
+    /// What is left begins with a category of more than 128 bytes.
+    Long,
+}
+
+impl From<AllocError> for Stop {
+    ghost use Rattle.std.specs.Prelude.{◌≡◌};
+    ghost use Rattle.lbnf_text.specs.declared.parser.Stop.TheVariants.{Memory};
+
+    ghost from_gives = { λ _ stop. stop ≡ Memory };
+
+    fn from(_: AllocError) -> Stop {
+        Stop::Memory
+    }
+}
+
+/// The tokens that are left of a definition, seen as their list.
+#[derive(Drop)]
+pub struct Parser<'a> {
+    rest: &'a [PlacedToken],
+}
+
+impl<'a> Model for Parser<'a> {
+    ghost use Rattle.std.specs.Prelude.{List};
+    ghost use Rattle.spec_lbnf.specs.declared.token.PlacedToken.{PlacedToken};
+
+    ghost Value = { List PlacedToken };
+
+    ghost view = { λ parser. parser.rest.now };
+}
+
+impl<'a> Parser<'a> {
+    /// A parser at the first of the tokens.
+    pub fn new(tokens: &'a [PlacedToken]) -> Parser<'a>
+        ensures { result ≡ tokens.now }
+    {
+        Parser { rest: tokens }
+    }
+
+    /// The tokens that are left.
+    pub fn rest(&self) -> &'a [PlacedToken]
+        ensures { result.now ≡ self.now }
+    {
+        self.rest
+    }
+
+    /// The next token, and the tokens behind it; `Stuck` where none is left.
+    pub fn split(&self) -> Result<(&'a PlacedToken, &'a [PlacedToken]), Stop>
+        ensures { Splits self.now result }
+    {
+        first_of(self.rest).ok_or(Stop::Stuck)
+    }
+
+    /// Reads this sign.
+    #[tactic(auto, unfolding(spec_lbnf::specs::FileReading::sign_at, spec_lbnf::specs::FileReading::take_token))]
+    pub fn sign(&mut self, sign: Sign) -> Result<(), Stop>
+        ensures read { Gives (sign_at sign self.old) result self.new }
+        ensures shorter { OnOk result (length self.new < length self.old) }
+    {
+        let (first, behind) = self.split()?;
+        if !is_sign(sign, &first.token) {
+            return Err(Stop::Stuck);
+        }
+        self.rest = behind;
+        Ok(())
+    }
+
+    /// Reads an upper-case name.
+    #[tactic(auto, unfolding(spec_lbnf::specs::FileReading::name_at, spec_lbnf::specs::FileReading::take_token))]
+    pub fn name(&mut self, alloc: Global) -> Result<Name, Stop>
+        ensures read { Gives (name_at self.old) result self.new }
+        ensures shorter { OnOk result (length self.new < length self.old) }
+    {
+        let (first, behind) = self.split()?;
+        let name = upper_name(&first.token).ok_or(Stop::Stuck)?;
+        let name = copy_name(alloc, name)?;
+        self.rest = behind;
+        Ok(name)
+    }
+
+    /// Reads a string.
+    #[tactic(auto, unfolding(spec_lbnf::specs::FileReading::text_at, spec_lbnf::specs::FileReading::take_token))]
+    pub fn text(&mut self, alloc: Global) -> Result<Name, Stop>
+        ensures { Gives (text_at self.old) result self.new }
+    {
+        let (first, behind) = self.split()?;
+        let text = text_value(&first.token).ok_or(Stop::Stuck)?;
+        let text = copy_name(alloc, text)?;
+        self.rest = behind;
+        Ok(text)
+    }
+
+    /// Reads a number.
+    #[tactic(auto, unfolding(spec_lbnf::specs::FileReading::number_at, spec_lbnf::specs::FileReading::take_token))]
+    pub fn number(&mut self) -> Result<u16, Stop>
+        ensures { Gives (number_at self.old) result self.new }
+    {
+        let (first, behind) = self.split()?;
+        let number = number_value(&first.token).ok_or(Stop::Stuck)?;
+        self.rest = behind;
+        Ok(number)
+    }
+
+    /// Goes on at these tokens, which are a part of the same definition.
+    pub fn go_to(&mut self, tokens: &'a [PlacedToken])
+        ensures { self.new ≡ tokens.now }
+    {
+        self.rest = tokens;
+    }
+
+    /// Whether no token is left.
+    pub fn is_at_end(&self) -> bool
+        ensures { IsTrue result ↔ (self.now ≡ []) }
+    {
+        self.rest.is_empty()
+    }
+}
+
+/// The first of the tokens, and the tokens behind it.
+pub fn first_of(tokens: &[PlacedToken]) -> Option<(&PlacedToken, &[PlacedToken])>
+    ensures { MatchOption result (tokens.now ≡ []) (λ parts. tokens.now ≡ parts.0.now ∷ parts.1.now) }
+{
+    tokens.split_first()
+}
+
+/// The bytes of a sign.
+fn sign_bytes(sign: Sign) -> &'static [u8]
+    ensures { result.now ≡ sign_bytes sign }
+{
+    match sign {
+        Sign::Dot => b".".as_slice(),
+        Sign::Semicolon => b";".as_slice(),
+        Sign::Gives => b"::=".as_slice(),
+        Sign::Colon => b":".as_slice(),
+        Sign::OpenBracket => b"[".as_slice(),
+        Sign::CloseBracket => b"]".as_slice(),
+        Sign::OpenParen => b"(".as_slice(),
+        Sign::CloseParen => b")".as_slice(),
+        Sign::OpenBrace => b"{".as_slice(),
+        Sign::CloseBrace => b"}".as_slice(),
+        Sign::Comma => b",".as_slice(),
+        Sign::Bar => b"|".as_slice(),
+        Sign::Star => b"*".as_slice(),
+        Sign::Plus => b"+".as_slice(),
+        Sign::Question => b"?".as_slice(),
+        Sign::Minus => b"-".as_slice(),
+        Sign::Underscore => b"_".as_slice(),
+    }
+}
+
+/// Whether the token is this sign.
+pub fn is_sign(sign: Sign, token: &FileToken) -> bool
+    ensures { result ≡ is_sign sign token.now }
+{
+    match token {
+        FileToken::Sign(other) => sign_bytes(sign) == sign_bytes(*other),
+        FileToken::Identifier(_) => false,
+        FileToken::Number(_) => false,
+        FileToken::Text(_) => false,
+        FileToken::Character(_) => false,
+    }
+}
+
+/// The upper-case name that the token is.
+pub fn upper_name(token: &FileToken) -> Option<&Name>
+    ensures { option_copied result ≡ upper_name token.now }
+{
+    match token {
+        FileToken::Identifier(name) => starts_upper(name.as_slice()).then_some(name),
+        FileToken::Number(_) => None,
+        FileToken::Text(_) => None,
+        FileToken::Character(_) => None,
+        FileToken::Sign(_) => None,
+    }
+}
+
+/// The name of the same bytes.
+pub fn copy_name(alloc: Global, name: &Name) -> Result<Name, AllocError>
+    ensures { IfOk result (λ copy. copy ≡ name.now) }
+{
+    let bytes = Vec::from_slice(alloc, name.as_slice())?;
+    Ok(Name::of(bytes))
+}
+
+/// The text that the token is.
+pub fn text_value(token: &FileToken) -> Option<&Name>
+    ensures { option_copied result ≡ text_value token.now }
+{
+    match token {
+        FileToken::Text(text) => Some(text),
+        FileToken::Identifier(_) => None,
+        FileToken::Number(_) => None,
+        FileToken::Character(_) => None,
+        FileToken::Sign(_) => None,
+    }
+}
+
+/// The number that the token is.
+fn number_value(token: &FileToken) -> Option<u16>
+    ensures { result ≡ number_value token.now }
+{
+    match token {
+        FileToken::Number(number) => Some(*number),
+        FileToken::Identifier(_) => None,
+        FileToken::Text(_) => None,
+        FileToken::Character(_) => None,
+        FileToken::Sign(_) => None,
+    }
+}
+
+/// Whether the token is this word.
+pub fn is_word(word: &[u8], token: &FileToken) -> bool
+    ensures { result ≡ is_word word.now token.now }
+{
+    match token {
+        FileToken::Identifier(name) => name.as_slice() == word,
+        FileToken::Number(_) => false,
+        FileToken::Text(_) => false,
+        FileToken::Character(_) => false,
+        FileToken::Sign(_) => false,
+    }
+}
