@@ -23,3 +23,4 @@ pub mod SignLemmas
 pub mod RunTokenLemmas
 pub mod ScanLemmas
 pub mod FaultLemmas
+pub mod LeastLemmas

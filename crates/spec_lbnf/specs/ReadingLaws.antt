@@ -1,8 +1,10 @@
 -- What is true of what a grammar file spells and of its first fault, for every file.
-use Rattle.std.specs.Prelude.{◌≡◌, ℕ, ◌⊎◌, List}
+use Rattle.std.specs.Prelude.{◌≡◌, ℕ, ◌+◌, ◌*◌, ◌≤◌, ◌⊎◌, List, length, sum_by}
 use Rattle.spec_lbnf.specs.declared.definition.Def.{Def}
+use Rattle.spec_lbnf.specs.declared.definition.Def.TheVariants.{Rule, Internal, Terminator}
+use Rattle.spec_lbnf.specs.declared.definition.Def.TheVariants.{Separator, Coercions, Entry}
 use Rattle.spec_lbnf.specs.declared.token.FileToken.{FileToken}
-use Rattle.spec_lbnf.specs.GrammarFile.{SpellsDefs}
+use Rattle.spec_lbnf.specs.GrammarFile.{SpellsDefs, words_in}
 use Rattle.spec_lbnf.specs.Faults.{FileFault, Spells, IsFirstFault}
 
 -- tokens spell at most one list of definitions
@@ -30,3 +32,23 @@ abbrev pub DefsOrFault : Type 0
 DefsOrFault =
     (bytes : List ℕ)
     → ((defs : List Def) × Spells bytes defs) ⊎ ((fault : FileFault) × IsFirstFault bytes fault)
+
+-- how many parts a definition has: itself, its items, its entry categories, and the words of its
+-- string
+abbrev pub def_size : Def → ℕ
+def_size (Rule rule) = 1 + length rule.items
+def_size (Internal rule) = 1 + length rule.items
+def_size (Terminator nonempty cat word) = 1 + length (words_in word)
+def_size (Separator nonempty cat word) = 1 + length (words_in word)
+def_size (Coercions name levels) = 1
+def_size (Entry cats) = 1 + length cats
+
+-- the definitions, their items, entry categories and words of terminators and separators, counted
+-- together
+abbrev pub size_of : List Def → ℕ
+size_of defs = sum_by def_size defs
+
+-- a file has at least two bytes for each of these
+abbrev pub TwoBytesForEach : Type 0
+TwoBytesForEach =
+    (bytes : List ℕ) (defs : List Def) → Spells bytes defs → 2 * size_of defs ≤ length bytes
