@@ -24,3 +24,4 @@ pub mod RunTokenLemmas
 pub mod ScanLemmas
 pub mod FaultLemmas
 pub mod LeastLemmas
+pub mod DefSizeLemmas
