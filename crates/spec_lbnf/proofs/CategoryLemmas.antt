@@ -141,6 +141,10 @@ ends_not n k name ends = by n ends.0 ends.1
         some (suc n) e = cc
     by (suc n) (x ∷ before) e = by n before (cc e)
 
+-- a category does not end with an open bracket
+pub category_no_open : (cat : CatName) → EndsOpen (category_tokens cat) → ⊥
+category_no_open cat = ends_not cat.depth cat.depth cat.name
+
 -- a category of at most 128 bytes is closed
 pub category_closed : (cat : CatName) → length (category_text cat) ≤ 128 → IsClosed (category_tokens cat)
 category_closed cat short = record {

@@ -1,5 +1,5 @@
 -- A file has two bytes for each part of its definitions.
-use Rattle.std.proofs.Common.{◌≡◌, ℕ, zero, suc, ◌+◌, ◌*◌, ◌≤◌, ◌<◌, List, [], ◌∷◌, ◌++◌, length, map, filter, not, nat_eq, Bool, true, false, cond, codes, inl, inr, refl, sym, ap, subst, ◌∙◌, arith, length-append}
+use Rattle.std.proofs.Common.{◌≡◌, ℕ, zero, suc, ◌+◌, ◌*◌, ◌≤◌, ◌<◌, List, [], ◌∷◌, ◌++◌, length, map, filter, not, nat_eq, Bool, true, false, cond, refl, ap, ◌∙◌, arith, length-append}
 use Rattle.std.specs.Prelude.{replicate}
 use Rattle.std.specs.List.{flat_map, slice_split, onto_first, sum_by}
 use Rattle.std.proofs.lemmas.Bool.{false≢true}
@@ -11,16 +11,15 @@ use Rattle.spec_lbnf.specs.declared.definition.RawRule.{RawRule}
 use Rattle.spec_lbnf.specs.declared.definition.RawItem.TheVariants.{Word}
 use Rattle.spec_lbnf.specs.declared.definition.Def.{Def}
 use Rattle.spec_lbnf.specs.declared.definition.Def.TheVariants.{Rule, Internal, Terminator, Separator, Coercions, Entry}
-use Rattle.spec_lbnf.specs.declared.token.Sign.TheVariants.{OpenBracket, CloseBracket, Dot, Gives, Comma}
+use Rattle.spec_lbnf.specs.declared.token.Sign.TheVariants.{CloseBracket, Dot, Gives, Comma}
 use Rattle.spec_lbnf.specs.declared.token.FileToken.{FileToken}
 use Rattle.spec_lbnf.specs.declared.token.FileToken.TheVariants.{Identifier, Number, Text, Character}
 use Rattle.spec_lbnf.specs.declared.token.FileToken.TheVariants.{Sign as SignToken}
-use Rattle.spec_lbnf.specs.FirstForm.{starts_upper}
-use Rattle.spec_lbnf.specs.GrammarFile.{is_empty, words_in, IsUpperName, IsCategory, IsLabel, category_tokens, label_tokens, WrittenItem, category, string, IsWritten, written_tokens, written_items, SpellsItems, SpellsRule, entry_tokens, nonempty_tokens, SpellsDef, is_semicolon, pieces_of, AreSpelledBy, SpellsDefs}
-use Rattle.spec_lbnf.specs.Faults.{bare, Spells}
+use Rattle.spec_lbnf.specs.GrammarFile.{is_empty, words_in, IsUpperName, IsCategory, IsLabel, category_tokens, label_tokens, WrittenItem, category, string, IsWritten, written_tokens, written_items, SpellsRule, entry_tokens, nonempty_tokens, SpellsDef, is_semicolon, pieces_of, AreSpelledBy}
+use Rattle.spec_lbnf.specs.Faults.{bare}
 use Rattle.spec_lbnf.specs.ReadingLaws.{def_size, size_of, TwoBytesForEach}
 use Rattle.spec_lbnf.proofs.BoundaryLemmas.{is_name, bracketed, category_bracketed}
-use Rattle.spec_lbnf.proofs.LeastLemmas.{gap, token_least, least, tokens_take}
+use Rattle.spec_lbnf.proofs.LeastLemmas.{least, tokens_take}
 use Rattle.std.specs.List.{AllByRecursion}
 use Rattle.std.proofs.lemmas.List.Elements.{recursion_from_All}
 use Rattle.std.proofs.lemmas.List.Sums.{sum_by-cons}
@@ -65,8 +64,10 @@ least_category : (cat : CatName) (behind_name : Bool) (tokens : List FileToken) 
 least_category cat behind_name tokens upper =
     let closes : List FileToken = replicate cat.depth (SignToken CloseBracket) ++ tokens in
     omega (
-      arith, ap (least behind_name) (category_bracketed cat tokens),
-      least_bracketed cat.depth cat.name behind_name closes (upper_some cat.name upper), least_closes cat.depth true tokens,
+      arith,
+      ap (least behind_name) (category_bracketed cat tokens),
+      least_bracketed cat.depth cat.name behind_name closes (upper_some cat.name upper),
+      least_closes cat.depth true tokens,
     )
 
 -- an item of a category takes two bytes, or one less, which only a name before it takes back
@@ -82,21 +83,27 @@ least_item cat tokens count upper few behind = by cat.depth refl
         → (2 + count ≤ least false (category_tokens cat ++ tokens) + 1) × (2 + count ≤ least true (category_tokens cat ++ tokens))
     by zero e =
         let tokens_are : category_tokens cat ++ tokens ≡ Identifier cat.name ∷ tokens
-            = category_bracketed cat tokens ∙ ap (λ d. bracketed d cat.name (replicate d (SignToken CloseBracket) ++ tokens)) e in (
+        = category_bracketed cat tokens ∙ ap (λ d. bracketed d cat.name (replicate d (SignToken CloseBracket) ++ tokens)) e in (
           omega (arith, ap (least false) tokens_are, some, behind),
           omega (arith, ap (least true) tokens_are, some, behind),
         )
     by (suc depth) e =
         let closes : List FileToken = replicate (suc depth) (SignToken CloseBracket) ++ tokens in
         let tokens_are : category_tokens cat ++ tokens ≡ bracketed (suc depth) cat.name closes
-            = category_bracketed cat tokens ∙ ap (λ d. bracketed d cat.name (replicate d (SignToken CloseBracket) ++ tokens)) e in (
+        = category_bracketed cat tokens ∙ ap (λ d. bracketed d cat.name (replicate d (SignToken CloseBracket) ++ tokens)) e in (
           omega (
-            arith, ap (least false) tokens_are, least_bracketed (suc depth) cat.name false closes some,
-            least_closes (suc depth) true tokens, few,
+            arith,
+            ap (least false) tokens_are,
+            least_bracketed (suc depth) cat.name false closes some,
+            least_closes (suc depth) true tokens,
+            few,
           ),
           omega (
-            arith, ap (least true) tokens_are, least_bracketed (suc depth) cat.name true closes some,
-            least_closes (suc depth) true tokens, few,
+            arith,
+            ap (least true) tokens_are,
+            least_bracketed (suc depth) cat.name true closes some,
+            least_closes (suc depth) true tokens,
+            few,
           ),
         )
 
@@ -143,7 +150,7 @@ items_least (string text ∷ written) each =
     let behind = items_least written each.1 in
     let words : List (List ℕ) = words_in text in
     let count : length (map Word words ++ flat_map written_items written) ≡ length words + length (flat_map written_items written)
-        = length-append (map Word words) (flat_map written_items written) ∙ ap (λ n. n + length (flat_map written_items written)) (length-map words Word) in
+    = length-append (map Word words) (flat_map written_items written) ∙ ap (λ n. n + length (flat_map written_items written)) (length-map words Word) in
     (omega (arith, behind.0, words_few text, count), omega (arith, behind.0, words_few text, count))
 
 -- a label takes a byte at least
@@ -163,7 +170,11 @@ least_rule rule tokens is =
     let items = (items_least is.items.written (recursion_from_All IsWritten is.items.written is.items.each)).0 in
     let few : 2 * length rule.items ≤ least false side + 1 = rw (is.items.gives, is.items.whole) items in
     omega (
-      arith, ap (least false) is.whole, least_label rule.label dot is.is_label, least_category rule.cat false gives is.is_cat, few,
+      arith,
+      ap (least false) is.whole,
+      least_label rule.label dot is.is_label,
+      least_category rule.cat false gives is.is_cat,
+      few,
     )
 
 -- `nonempty` takes no less than nothing
@@ -178,7 +189,9 @@ least_macro : (nonempty : Bool) (cat : CatName) (word : List ℕ) → IsCategory
     → 3 + length word ≤ least true (nonempty_tokens nonempty ++ (category_tokens cat ++ (Text word ∷ [])))
 least_macro nonempty cat word upper =
     omega (
-      arith, least_nonempty nonempty true (category_tokens cat ++ (Text word ∷ [])), least_category cat false (Text word ∷ []) upper,
+      arith,
+      least_nonempty nonempty true (category_tokens cat ++ (Text word ∷ [])),
+      least_category cat false (Text word ∷ []) upper,
     )
 
 -- categories with commas between them take two bytes each, but for one
@@ -186,11 +199,15 @@ least_entries : (cats : List CatName) (behind_name : Bool) → AllByRecursion Is
 least_entries [] behind_name each = omega arith
 least_entries (cat ∷ []) behind_name each =
     omega (
-      arith, least_category cat behind_name [] each.0, ap (least behind_name) (append-nil (category_tokens cat)),
+      arith,
+      least_category cat behind_name [] each.0,
+      ap (least behind_name) (append-nil (category_tokens cat)),
     )
 least_entries (cat ∷ next ∷ cats) behind_name each =
     omega (
-      arith, least_category cat behind_name (SignToken Comma ∷ entry_tokens (next ∷ cats)) each.0, least_entries (next ∷ cats) false each.1,
+      arith,
+      least_category cat behind_name (SignToken Comma ∷ entry_tokens (next ∷ cats)) each.0,
+      least_entries (next ∷ cats) false each.1,
     )
 
 -- a definition has two bytes for each of its parts
@@ -253,6 +270,10 @@ two_bytes_for_each bytes defs spelled =
     let tokens : List FileToken = bare spelled.tokens in
     let parts : List (List FileToken) = slice_split is_semicolon tokens in
     omega (
-      arith, defs_least defs (pieces_of tokens) spelled.spelled, pieces_least parts, parts_sum parts, split_least tokens false,
+      arith,
+      defs_least defs (pieces_of tokens) spelled.spelled,
+      pieces_least parts,
+      parts_sum parts,
+      split_least tokens false,
       tokens_take (length bytes) bytes spelled.tokens (length bytes) false spelled.scan (λ e. absurd (false≢true e)),
     )

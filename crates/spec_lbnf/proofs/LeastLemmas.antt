@@ -1,19 +1,16 @@
 -- How many bytes the tokens of a file take at least.
-use Rattle.std.proofs.Common.{◌≡◌, ℕ, zero, suc, ◌+◌, ◌≤◌, ◌<◌, List, [], ◌∷◌, ◌++◌, length, map, Bool, true, false, cond, codes, inl, inr, refl, sym, ap, subst, ◌∙◌, arith, length-append, All}
-use Rattle.std.specs.List.{flat_map, slice_split, onto_first, sum_by}
-use Rattle.std.proofs.lemmas.Bool.{false≢true, both_ways}
+use Rattle.std.proofs.Common.{◌≡◌, ℕ, ◌+◌, ◌≤◌, ◌<◌, List, [], ◌∷◌, ◌++◌, length, Bool, true, false, inl, inr, refl, sym, ap, subst, ◌∙◌, arith, length-append}
+use Rattle.std.specs.List.{flat_map}
+use Rattle.std.proofs.lemmas.Bool.{false≢true}
 use Rattle.std.proofs.lemmas.Bool.Decides.{nat_tests}
 use Rattle.std.proofs.lemmas.List.{length-map}
-use Rattle.std.proofs.lemmas.List.Elements.{All-head}
-use Rattle.spec_lbnf.specs.declared.token.Sign.{Sign}
 use Rattle.spec_lbnf.specs.declared.token.FileToken.{FileToken}
 use Rattle.spec_lbnf.specs.declared.token.FileToken.TheVariants.{Identifier, Number, Text, Character}
 use Rattle.spec_lbnf.specs.declared.token.FileToken.TheVariants.{Sign as SignToken}
 use Rattle.spec_lbnf.specs.declared.token.PlacedToken.{PlacedToken}
 use Rattle.spec_lbnf.specs.FirstForm.{is_name_byte, Stops}
-use Rattle.spec_lbnf.specs.FileTokens.{is_letter, Begins, Separates, IsWhiteBefore, IsLineComment, IsBlockComment, Skips, nothing, goes_on, IsIdentifier, IsNumber, LiteralPart, plain, escape, part_bytes, part_value, IsLiteral, sign_bytes, BeginsWith, AreTokensTo}
+use Rattle.spec_lbnf.specs.FileTokens.{is_letter, Begins, Separates, Skips, nothing, goes_on, LiteralPart, plain, escape, part_bytes, part_value, IsLiteral, sign_bytes, BeginsWith, AreTokensTo}
 use Rattle.spec_lbnf.specs.Faults.{bare}
-use Rattle.spec_lbnf.specs.GrammarFile.{is_semicolon}
 use Rattle.spec_lbnf.proofs.BoundaryLemmas.{is_name}
 
 -- how many bytes a token takes at least
@@ -76,7 +73,11 @@ literal_least : (quote : ℕ) (value bytes rest : List ℕ) → IsLiteral quote 
 literal_least quote value bytes rest is =
     let parts : List ℕ = flat_map part_bytes is.parts in
     omega (
-      arith, ap length is.whole, length-append parts (quote ∷ rest), parts_least is.parts, ap length is.means,
+      arith,
+      ap length is.whole,
+      length-append parts (quote ∷ rest),
+      parts_least is.parts,
+      ap length is.means,
       length-map is.parts part_value,
     )
 
@@ -122,6 +123,8 @@ tokens_take size bytes (token ∷ tokens) stop behind_name scan stops =
     let here : List ℕ = scan.0 in
     let rest : List ℕ = scan.1 in
     omega (
-      arith, gap_takes behind_name token.token bytes here rest stops scan.2 scan.4, token_takes token.token here rest scan.4,
+      arith,
+      gap_takes behind_name token.token bytes here rest stops scan.2 scan.4,
+      token_takes token.token here rest scan.4,
       tokens_take size rest tokens stop (is_name token.token) scan.5 (token_stops token.token here rest scan.4),
     )

@@ -25,3 +25,4 @@ pub mod ScanLemmas
 pub mod FaultLemmas
 pub mod LeastLemmas
 pub mod DefSizeLemmas
+pub mod SmallLemmas

@@ -87,11 +87,11 @@ within_def (Coercions name levels) tokens is = subst AreWithin (sym is.1) (refl,
 within_def (Entry cats) tokens is = subst AreWithin (sym is.2) (refl, within_entries cats)
 
 -- tokens are cut into a first piece and others
-abbrev IsCut : List FileToken → Type 0
+abbrev pub IsCut : List FileToken → Type 0
 IsCut tokens = (first : List FileToken) × (others : List (List FileToken)) × (slice_split is_semicolon tokens ≡ first ∷ others)
 
 -- all tokens are
-cut_of : (tokens : List FileToken) → IsCut tokens
+pub cut_of : (tokens : List FileToken) → IsCut tokens
 cut_of [] = ([], [], refl)
 cut_of (token ∷ tokens) = by (is_semicolon token) (cut_of tokens)
   where

@@ -1,5 +1,8 @@
 -- What is true of what a grammar file spells and of its first fault, for every file.
-use Rattle.std.specs.Prelude.{◌≡◌, ℕ, ◌+◌, ◌*◌, ◌≤◌, ◌⊎◌, List, length, sum_by}
+use Rattle.std.specs.Prelude.{◌≡◌, ℕ, ◌+◌, ◌*◌, ◌<◌, ◌≤◌, ◌⊎◌, List, length, sum_by, All}
+use Rattle.spec_lbnf.specs.declared.definition.CatName.{CatName}
+use Rattle.spec_lbnf.specs.declared.definition.RawItem.{RawItem}
+use Rattle.spec_lbnf.specs.declared.definition.RawItem.TheVariants.{Cat, Word}
 use Rattle.spec_lbnf.specs.declared.definition.Def.{Def}
 use Rattle.spec_lbnf.specs.declared.definition.Def.TheVariants.{Rule, Internal, Terminator}
 use Rattle.spec_lbnf.specs.declared.definition.Def.TheVariants.{Separator, Coercions, Entry}
@@ -52,3 +55,25 @@ size_of defs = sum_by def_size defs
 abbrev pub TwoBytesForEach : Type 0
 TwoBytesForEach =
     (bytes : List ℕ) (defs : List Def) → Spells bytes defs → 2 * size_of defs ≤ length bytes
+
+-- the category has at most 63 brackets on each side
+abbrev pub IsShallow : CatName → Type 0
+IsShallow cat = cat.depth ≤ 63
+
+-- a category among items is shallow, and a word has a byte
+abbrev pub IsSmallItem : RawItem → Type 0
+IsSmallItem (Cat cat) = IsShallow cat
+IsSmallItem (Word word) = 0 < length word
+
+-- the categories of the definition are shallow, and no word of its items is empty
+abbrev pub IsSmall : Def → Type 0
+IsSmall (Rule rule) = IsShallow rule.cat × All IsSmallItem rule.items
+IsSmall (Internal rule) = IsShallow rule.cat × All IsSmallItem rule.items
+IsSmall (Terminator nonempty cat word) = IsShallow cat
+IsSmall (Separator nonempty cat word) = IsShallow cat
+IsSmall (Coercions name levels) = Unit {0}
+IsSmall (Entry cats) = All IsShallow cats
+
+-- what a file spells is small
+abbrev pub SmallDefs : Type 0
+SmallDefs = (bytes : List ℕ) (defs : List Def) → Spells bytes defs → All IsSmall defs
