@@ -112,16 +112,19 @@ spelled_kind (Coercions name levels) tokens more token is e =
 spelled_kind (Entry cats) tokens more token is e =
     let same : token ≡ keyword (codes "entrypoints") = cc (is.2, e) in ap token_kind same
 
--- what stands behind the first word of each form
+-- behind `internal`: a rule
 abbrev InternalRest : Spelling Def
 InternalRest = Gives Internal RuleOf
 
+-- behind the first word of a macro: a macro of lists, and nothing more
 abbrev MacroRest : (Bool → CatName → List ℕ → Def) → Spelling Def
 MacroRest def_of = Then (ListMacroOf def_of) AtEnd
 
+-- behind `coercions`: a name and a number, and nothing more
 abbrev CoercionsRest : Spelling Def
 CoercionsRest = Then CoercionsOf AtEnd
 
+-- behind `entrypoints`: categories
 abbrev EntryRest : Spelling Def
 EntryRest = Gives Entry EntriesOf
 
@@ -164,6 +167,7 @@ internal_forth def more rest is =
     let Are : Def → Type 0 = λ d. DefOf d (keyword (codes "internal") ∷ more) rest in
     subst Are (sym is.1) ((more, is.2.0, refl), is.2.1)
 
+-- nothing else is an internal rule
 internal_back : HasBehind (codes "internal") InternalRest
 internal_back (Internal rule) more rest is =
     let same : is.0.0 ≡ more = cc is.0.2 in
@@ -190,6 +194,7 @@ terminator_forth def more rest is =
     let whole = macro_whole Terminator def more rest is in
     subst Are (sym (is.3.0 ∙ is.2.4)) ((is.2.3, ap (λ zs. keyword (codes "terminator") ∷ zs) whole), is.3.2)
 
+-- nothing else is a terminator
 terminator_back : HasBehind (codes "terminator") (MacroRest Terminator)
 terminator_back (Terminator nonempty cat word) more rest is =
     macro_parts Terminator nonempty cat word more rest is.0.0 (cc is.0.1) is.1
@@ -202,6 +207,7 @@ separator_forth def more rest is =
     let whole = macro_whole Separator def more rest is in
     subst Are (sym (is.3.0 ∙ is.2.4)) ((is.2.3, ap (λ zs. keyword (codes "separator") ∷ zs) whole), is.3.2)
 
+-- nothing else is a separator
 separator_back : HasBehind (codes "separator") (MacroRest Separator)
 separator_back (Separator nonempty cat word) more rest is =
     macro_parts Separator nonempty cat word more rest is.0.0 (cc is.0.1) is.1
@@ -214,6 +220,7 @@ coercions_forth def more rest is =
     let whole : more ≡ Identifier is.2.0 ∷ Number is.2.1 ∷ [] = is.2.4 ∙ ap (λ zs. Identifier is.2.0 ∷ Number is.2.1 ∷ zs) is.3.1 in
     subst Are (sym (is.3.0 ∙ is.2.3)) ((is.2.2, ap (λ zs. keyword (codes "coercions") ∷ zs) whole), is.3.2)
 
+-- nothing else is a definition of coercions
 coercions_back : HasBehind (codes "coercions") CoercionsRest
 coercions_back (Coercions name levels) more rest is =
     (Coercions name levels, [], (name, levels, is.0.0, refl, cc is.0.1), (refl, refl, is.1))
@@ -226,6 +233,7 @@ entry_forth def more rest is =
     let each = All-from_recursion IsCategory is.0 is.2.1 in
     subst Are (sym is.1) ((is.2.0, each, ap (λ zs. keyword (codes "entrypoints") ∷ zs) is.2.2), is.2.3)
 
+-- nothing else is one of entry points
 entry_back : HasBehind (codes "entrypoints") EntryRest
 entry_back (Entry cats) more rest is =
     (cats, refl, (is.0.0, recursion_from_All IsCategory cats is.0.1, cc is.0.2, is.1))

@@ -120,7 +120,7 @@ module _ (def_of : CatName → List ℕ → Def) where
       (text_tells rest (short_rest IsAny Category cat tokens rest is short)))
       (category_at tokens) (category_tells tokens))
 
--- a category begins with no word of the notation
+-- a bracketed name begins with no word of the notation
 bracketed_no_word : (opens : ℕ) (name word : List ℕ) (behind other : List FileToken) → IsUpperName name → starts_upper word ≡ false
     → bracketed opens name behind ≡ Identifier word ∷ other → ⊥
 bracketed_no_word zero name word behind other upper lower e =
@@ -128,6 +128,7 @@ bracketed_no_word zero name word behind other upper lower e =
     false≢true (sym lower ∙ ap starts_upper (sym same) ∙ upper)
 bracketed_no_word (suc opens) name word behind other upper lower e = cc e
 
+-- neither does a category
 pub category_no_word : (cat : CatName) (word : List ℕ) (behind other : List FileToken) → IsCategory cat → starts_upper word ≡ false
     → category_tokens cat ++ behind ≡ Identifier word ∷ other → ⊥
 category_no_word cat word behind other upper lower e =
@@ -290,13 +291,15 @@ entry_more cat (next ∷ cats) = ap (λ zs. category_tokens cat ++ (SignToken Co
 abbrev MoreOf : Spelling (List CatName)
 MoreOf cats tokens rest = AllByRecursion IsCategory cats × (tokens ≡ more_tokens cats) × (rest ≡ [])
 
--- the category behind a comma, and more of them
+-- behind the category that stands behind a comma: more of them
 abbrev BehindCommaCategory : CatName → Spelling (List CatName)
 BehindCommaCategory cat = Gives (λ cats. cat ∷ cats) MoreOf
 
+-- a category behind a comma, and more behind it
 abbrev BehindComma : Spelling (List CatName)
 BehindComma = Then Category BehindCommaCategory
 
+-- a comma, and what is behind it
 abbrev MoreParts : Spelling (List CatName)
 MoreParts = Then (SignOf Comma) (λ done. BehindComma)
 
@@ -326,6 +329,7 @@ some_more = ([], [], λ others none. (tt, none, none))
 some_behind_category : (cat : CatName) → GoesOn IsNothing (BehindCommaCategory cat) []
 some_behind_category cat = some_gives IsNothing (λ cats. cat ∷ cats) MoreOf some_more
 
+-- something can be read behind a comma
 some_behind_comma : GoesOn IsNothing BehindComma []
 some_behind_comma = some_then IsNothing Category BehindCommaCategory some_behind_category some_category
 

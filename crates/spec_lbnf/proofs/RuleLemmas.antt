@@ -241,32 +241,39 @@ RuleOf rule tokens rest = SpellsRule rule tokens × (rest ≡ [])
 abbrev rule_of : Label → CatName → List RawItem → RawRule
 rule_of label cat items = record { label = label; cat = cat; items = items }
 
--- what is behind the parts of a rule, one after the other
+-- behind the sign `::=` of a rule with this label and category: the items
 abbrev BehindGives : Label → CatName → Spelling RawRule
 BehindGives label cat = Gives (rule_of label cat) ItemsOf
 
+-- behind the category: the sign `::=` and the items
 abbrev BehindCategory : Label → CatName → Spelling RawRule
 BehindCategory label cat = Then (SignOf GivesSign) (λ done. BehindGives label cat)
 
+-- behind the dot: the category and what is behind it
 abbrev BehindDot : Label → Spelling RawRule
 BehindDot label = Then Category (BehindCategory label)
 
+-- behind the label: a dot and what is behind it
 abbrev BehindLabel : Label → Spelling RawRule
 BehindLabel label = Then (SignOf Dot) (λ done. BehindDot label)
 
+-- the parts of a rule
 abbrev RuleParts : Spelling RawRule
 RuleParts = Then LabelOf BehindLabel
 
--- the readers of these
+-- the reader behind the sign `::=`
 abbrev behind_gives : Label → CatName → Reader RawRule
 behind_gives label cat = side_at >>= (λ items. pure (rule_of label cat items))
 
+-- the reader behind the category
 abbrev behind_category : Label → CatName → Reader RawRule
 behind_category label cat = sign_at GivesSign >>= (λ done. behind_gives label cat)
 
+-- the reader behind the dot
 abbrev behind_dot : Label → Reader RawRule
 behind_dot label = category_at >>= behind_category label
 
+-- the reader behind the label
 abbrev behind_label : Label → Reader RawRule
 behind_label label = sign_at Dot >>= (λ done. behind_dot label)
 
@@ -327,15 +334,17 @@ one_rule = one_change RuleParts RuleOf
 some_behind_gives : (label : Label) (cat : CatName) → GoesOn IsNothing (BehindGives label cat) []
 some_behind_gives label cat = some_gives IsNothing (rule_of label cat) ItemsOf some_items
 
--- and behind the other parts
+-- something can be read behind the category
 some_behind_category : (label : Label) (cat : CatName) → GoesOn IsNothing (BehindCategory label cat) []
 some_behind_category label cat =
     some_then IsNothing (SignOf GivesSign) (λ done. BehindGives label cat) (λ done. some_behind_gives label cat)
     (token_some (sign_value GivesSign) (SignToken GivesSign) tt refl)
 
+-- something can be read behind the dot
 some_behind_dot : (label : Label) → GoesOn IsNothing (BehindDot label) []
 some_behind_dot label = some_then IsNothing Category (BehindCategory label) (some_behind_category label) some_category
 
+-- something can be read behind the label
 some_behind_label : (label : Label) → GoesOn IsNothing (BehindLabel label) []
 some_behind_label label =
     some_then IsNothing (SignOf Dot) (λ done. BehindDot label) (λ done. some_behind_dot label)
@@ -355,7 +364,7 @@ side_tells label cat tokens short =
     gives_tells IsNothing ItemsOf (rule_of label cat) tokens (items_at (length tokens) tokens)
     (items_tell (length tokens) tokens (omega arith) short)
 
--- and so do those of the parts before it
+-- the reader behind the category tells of what is there
 behind_category_tells : (label : Label) (cat : CatName) (tokens : List PlacedToken) → HaveShortNames tokens
     → Tells IsNothing (BehindCategory label cat) tokens (behind_category label cat tokens)
 behind_category_tells label cat tokens short =
@@ -364,6 +373,7 @@ behind_category_tells label cat tokens short =
     (λ done rest is. side_tells label cat rest (short_rest IsAny (SignOf GivesSign) done tokens rest is short))
     (sign_at GivesSign tokens) (sign_tells GivesSign refl (λ e. cc e) (λ e. cc e) tokens short)
 
+-- the reader behind the dot tells of what is there
 behind_dot_tells : (label : Label) (tokens : List PlacedToken) → HaveShortNames tokens
     → Tells IsNothing (BehindDot label) tokens (behind_dot label tokens)
 behind_dot_tells label tokens short =
@@ -371,6 +381,7 @@ behind_dot_tells label tokens short =
     (λ cat rest is. behind_category_tells label cat rest (short_rest IsAny Category cat tokens rest is short))
     (category_at tokens) (category_tells tokens)
 
+-- the reader behind the label tells of what is there
 behind_label_tells : (label : Label) (tokens : List PlacedToken) → HaveShortNames tokens
     → Tells IsNothing (BehindLabel label) tokens (behind_label label tokens)
 behind_label_tells label tokens short =

@@ -38,7 +38,8 @@ ends_last xs x ends = by xs ends.0 ends.1
         absurd (cc none)
     by (y ∷ xs) (b ∷ before) e = by xs before (cc e)
 
--- behind tokens that do not end with an open bracket no category is too long, if none is in the whole
+-- behind tokens that do not end with an open bracket no category is too long, where none of the
+-- whole is
 peel : (xs ys : List FileToken) → (EndsOpen xs → ⊥) → LacksLong (xs ++ ys) → LacksLong ys
 peel xs ys no_open lacks before has = lacks (xs ++ before) (long_behind xs ys before no_open has)
 
