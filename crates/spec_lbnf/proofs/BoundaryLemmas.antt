@@ -5,7 +5,7 @@ use Rattle.std.specs.Prelude.{replicate, Bool, true, false, ◌<◌, ◌≤◌, 
 use Rattle.std.specs.List.{list_any}
 use Rattle.std.proofs.Common.{length-append, subst, ◌||◌}
 use Rattle.std.proofs.lemmas.Bool.{false≢true}
-use Rattle.std.proofs.lemmas.List.{append_cancel_left, length-replicate}
+use Rattle.std.proofs.lemmas.List.{length-replicate}
 use Rattle.spec_lbnf.specs.declared.definition.CatName.{CatName}
 use Rattle.spec_lbnf.specs.declared.token.Sign.TheVariants.{OpenBracket, CloseBracket}
 use Rattle.spec_lbnf.specs.declared.token.FileToken.{FileToken}
@@ -144,14 +144,18 @@ pub long_of_one : (xs ys before : List FileToken) → (EndsOpen xs → ⊥) → 
     ⊎ ((inner : List FileToken) × (before ≡ xs ++ inner) × HasLongCategory ys inner)
 long_of_one xs ys before no_open no_close has =
     elim (two_cuts xs ys before (category_tokens has.cat ++ has.behind) has.stands) [
-      | inl cut ↦ inr (cut.0, cut.1, record {
+      | inl cut ↦ inr (
+        cut.0,
+        cut.1,
+        record {
           cat = has.cat;
           is_cat = has.is_cat;
           behind = has.behind;
           stands = cut.2;
           whole = λ ends. has.whole (rw cut.1 (ends_behind xs cut.0 ends));
           long = has.long;
-        })
+        },
+      )
       | inr cut ↦ inl (within cut.0 cut.1 cut.2 cut.3)
     ]
   where
@@ -159,17 +163,17 @@ long_of_one xs ys before no_open no_close has =
         → category_tokens has.cat ++ has.behind ≡ x ∷ gap ++ ys → HasLongCategory xs before
     within x gap front e = elim (two_cuts (category_tokens has.cat) has.behind (x ∷ gap) ys e) [
       | inl cut ↦ record {
-          cat = has.cat;
-          is_cat = has.is_cat;
-          behind = cut.0;
-          stands = front ∙ ap (λ zs. before ++ zs) cut.1;
-          whole = has.whole;
-          long = has.long;
-        }
+        cat = has.cat;
+        is_cat = has.is_cat;
+        behind = cut.0;
+        stands = front ∙ ap (λ zs. before ++ zs) cut.1;
+        whole = has.whole;
+        long = has.long;
+      }
       | inr cut ↦ absurd (elim (cut_within has.cat.depth has.cat.depth has.cat.name x gap cut.0 cut.1 cut.2) [
-          | inl ends ↦ no_open (rw front (ends_behind before (x ∷ gap) ends))
-          | inr closed ↦ no_close (cut.1 ++ has.behind, cut.3 ∙ ap (λ t. t ∷ cut.1 ++ has.behind) closed)
-        ])
+        | inl ends ↦ no_open (rw front (ends_behind before (x ∷ gap) ends))
+        | inr closed ↦ no_close (cut.1 ++ has.behind, cut.3 ∙ ap (λ t. t ∷ cut.1 ++ has.behind) closed)
+      ])
     ]
 
 -- two runs whose ends are closed have no category that is too long
@@ -254,7 +258,7 @@ named_behind (x ∷ before) tokens named = by (is_name x) (named_behind before t
 pub lacks_without_names : (tokens : List FileToken) → list_any is_name tokens ≡ false → LacksLong tokens
 lacks_without_names tokens none before has =
     let stands : tokens ≡ before ++ bracketed has.cat.depth has.cat.name (replicate has.cat.depth (SignToken CloseBracket) ++ has.behind)
-        = has.stands ∙ ap (λ zs. before ++ zs) (category_bracketed has.cat has.behind) in
+    = has.stands ∙ ap (λ zs. before ++ zs) (category_bracketed has.cat has.behind) in
     let some = named_behind before _ (bracketed_named has.cat.depth has.cat.name (replicate has.cat.depth (SignToken CloseBracket) ++ has.behind)) in
     false≢true (sym none ∙ ap (list_any is_name) stands ∙ some)
 
@@ -280,7 +284,7 @@ pub one_closed : (token : FileToken) → (token ≡ SignToken OpenBracket → �
     → IsShort token → IsClosed (token ∷ [])
 one_closed token not_open not_close short = record {
   lacks = λ before has.
-    lacks has.cat before has.behind (has.stands ∙ ap (λ zs. before ++ zs) (category_bracketed has.cat has.behind)) has.long;
+      lacks has.cat before has.behind (has.stands ∙ ap (λ zs. before ++ zs) (category_bracketed has.cat has.behind)) has.long;
   no_open = λ ends. ends_not ends.0 ends.1;
   no_close = λ begins. not_close (cc begins.1);
 }

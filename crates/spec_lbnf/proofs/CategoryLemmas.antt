@@ -1,5 +1,5 @@
 -- The reader of a category tells of the category that the tokens begin with.
-use Rattle.std.proofs.Common.{◌≡◌, ℕ, zero, suc, ◌+◌, ◌≤◌, ◌<◌, List, [], ◌∷◌, ◌++◌, length, drop, cond, Bool, true, false, codes, Option, Some, None, ◌⊎◌, inl, inr, refl, sym, ap, subst, ◌∙◌, append_assoc, arith, length-append, leb}
+use Rattle.std.proofs.Common.{◌≡◌, ℕ, zero, suc, ◌+◌, ◌≤◌, List, [], ◌∷◌, ◌++◌, length, drop, cond, Bool, true, false, codes, Option, Some, None, refl, sym, ap, subst, ◌∙◌, append_assoc, arith, length-append}
 use Rattle.std.specs.Prelude.{replicate, nat_le}
 use Rattle.std.specs.List.{list_any}
 use Rattle.std.proofs.lemmas.Bool.{false≢true, leb-true, leb-false}
@@ -13,10 +13,10 @@ use Rattle.spec_lbnf.specs.declared.token.PlacedToken.{PlacedToken}
 use Rattle.spec_lbnf.specs.Expansion.{category_text}
 use Rattle.spec_lbnf.specs.GrammarFile.{IsCategory, IsUpperName, category_tokens}
 use Rattle.spec_lbnf.specs.Faults.{bare, EndsOpen, HasLongCategory}
-use Rattle.spec_lbnf.specs.FileReading.{Read, got, stuck, long, Reader, next_on, pure, take_token, take_or_stick, is_sign, sign_at, upper_name, name_at, open_count, closes_at, bracketed_at, limited, category_at}
-use Rattle.spec_lbnf.proofs.BoundaryLemmas.{IsClosed, IsOpenFront, LacksLong, BeginsClosed, each_same, category_len, bracketed, category_bracketed, bracketed_named, named_behind, is_name, lacks_without_names, nothing_of, ends_cons, nothing_closed}
+use Rattle.spec_lbnf.specs.FileReading.{Read, got, stuck, long, next_on, pure, take_token, take_or_stick, is_sign, sign_at, upper_name, name_at, open_count, closes_at, bracketed_at, limited, category_at}
+use Rattle.spec_lbnf.proofs.BoundaryLemmas.{IsClosed, IsOpenFront, BeginsClosed, each_same, category_len, bracketed, category_bracketed, bracketed_named, named_behind, is_name, lacks_without_names, ends_cons, nothing_closed}
 use Rattle.spec_lbnf.proofs.TokenTestLemmas.{sign_true, sign_false, upper_some, upper_none}
-use Rattle.spec_lbnf.proofs.ReaderLemmas.{Spelling, IsOne, IsAny, Follows, GoesOn, IsGot, IsStuckAt, IsLongAt, Tells, bare-append}
+use Rattle.spec_lbnf.proofs.ReaderLemmas.{Spelling, IsOne, IsAny, Follows, GoesOn, IsStuckAt, Tells, bare-append}
 
 -- a category stands before the rest
 abbrev pub Category : Spelling CatName
@@ -45,7 +45,7 @@ same_brackets (suc n) (suc d) a b x y e =
 pub one_category : IsOne Category
 one_category a b tokens rest other is_a is_b =
     let e : bracketed a.depth a.name (closing a.depth ++ rest) ≡ bracketed b.depth b.name (closing b.depth ++ other)
-        = sym (category_bracketed a rest) ∙ sym is_a.1 ∙ is_b.1 ∙ category_bracketed b other in
+    = sym (category_bracketed a rest) ∙ sym is_a.1 ∙ is_b.1 ∙ category_bracketed b other in
     let same = same_brackets a.depth b.depth a.name b.name _ _ e in
     let behind : closing b.depth ++ rest ≡ closing b.depth ++ other = rw same.0 at same.2 in
     ((λ i. record { name = same.1 i; depth = same.0 i }), append_cancel_left (closing b.depth) rest other behind)
@@ -75,10 +75,10 @@ only_category : (n k : ℕ) (name : List ℕ) (before : List FileToken) → (has
 only_category n k name before has =
     let d : ℕ = has.cat.depth in
     let e : bracketed n name (closing k) ≡ before ++ bracketed d has.cat.name (closing d ++ has.behind)
-        = has.stands ∙ ap (λ zs. before ++ zs) (category_bracketed has.cat has.behind) in
+    = has.stands ∙ ap (λ zs. before ++ zs) (category_bracketed has.cat has.behind) in
     let none = nothing_before n k before name d has.cat.name _ e has.whole in
     let bare_e : bracketed n name (closing k) ≡ bracketed d has.cat.name (closing d ++ has.behind)
-        = e ∙ ap (λ zs. zs ++ bracketed d has.cat.name (closing d ++ has.behind)) none in
+    = e ∙ ap (λ zs. zs ++ bracketed d has.cat.name (closing d ++ has.behind)) none in
     let same = same_brackets n d name has.cat.name _ _ bare_e in
     (sym same.0, sym same.1, rw (← same.0) at same.2)
 
@@ -141,13 +141,17 @@ ends_not n k name ends = by n ends.0 ends.1
         some (suc n) e = cc
     by (suc n) (x ∷ before) e = by n before (cc e)
 
+-- a category does not end with an open bracket
+pub category_no_open : (cat : CatName) → EndsOpen (category_tokens cat) → ⊥
+category_no_open cat = ends_not cat.depth cat.depth cat.name
+
 -- a category of at most 128 bytes is closed
 pub category_closed : (cat : CatName) → length (category_text cat) ≤ 128 → IsClosed (category_tokens cat)
 category_closed cat short = record {
   lacks = λ before has.
-    let only = only_category cat.depth cat.depth cat.name before has in
-    let name : length has.cat.name ≡ length cat.name = ap length only.1 in
-    omega (arith, category_len cat, category_len has.cat, has.long, short, only.0, name);
+      let only = only_category cat.depth cat.depth cat.name before has in
+      let name : length has.cat.name ≡ length cat.name = ap length only.1 in
+      omega (arith, category_len cat, category_len has.cat, has.long, short, only.0, name);
   no_open = ends_not cat.depth cat.depth cat.name;
   no_close = begins_not cat.depth cat.name (closing cat.depth);
 }
@@ -202,7 +206,7 @@ closes (suc count) (token ∷ tokens) = by (is_sign CloseBracket token.token) re
   where
     by : (b : Bool) → is_sign CloseBracket token.token ≡ b → ClosesTo count tokens (closes_at count tokens)
         → ClosesTo (suc count) (token ∷ tokens)
-          (next_on (λ done. closes_at count) (take_or_stick {A = Unit {0}} (cond b (Some tt) None) token tokens))
+        (next_on (λ done. closes_at count) (take_or_stick {A = Unit {0}} (cond b (Some tt) None) token tokens))
     by true e is = closes_more count token tokens (closes_at count tokens) (sign_true CloseBracket token.token e) is
     by false e is = ([], refl, 0, count, refl, omega arith, sign_false CloseBracket token.token e)
 
@@ -259,7 +263,7 @@ module _ (n : ℕ) (front : List PlacedToken) (opens : bare front ≡ opening n)
     closed = subst IsOpenFront (sym opens) (opens_front n);
     goes_on = rw opens (opened_goes_on n);
     blocked = λ others value behind follows spelled.
-      no_name_follows n value.depth value.name (closing value.depth ++ behind) others
+        no_name_follows n value.depth value.name (closing value.depth ++ behind) others
         (λ more. follows_not (SignToken OpenBracket) rest others more no_open follows)
         (λ more. follows_not (Identifier value.name) rest others more (no_name value.name spelled.0) follows)
         (ap (λ zs. zs ++ others) (sym opens) ∙ spelled.1 ∙ category_bracketed value behind);
@@ -289,7 +293,7 @@ module _ (n : ℕ) (front : List PlacedToken) (opens : bare front ≡ opening n)
       behind = tt;
       spelled = λ others may. (upper, ap (λ zs. zs ++ others) (bare_named own n closes));
       closed = subst IsClosed (sym (bare_named own n closes))
-        (category_closed cat (omega (arith, category_len cat, leb-true (n + length name + n) 128 few)));
+          (category_closed cat (omega (arith, category_len cat, leb-true (n + length name + n) 128 few)));
     }
     all_closed own rest e closes false few = record {
       front = [];
@@ -321,21 +325,25 @@ module _ (n : ℕ) (front : List PlacedToken) (opens : bare front ≡ opening n)
           front = front ++ token ∷ own;
           whole = behind_named own rest closes.1;
           closed = subst IsOpenFront (sym named) (cut_front n k left name closes.5);
-          goes_on = (cat, closing (suc left), λ others may. (
-            upper,
-            ap (λ zs. zs ++ (closing (suc left) ++ others)) named
-              ∙ bracketed_behind n name (closing k) (closing (suc left) ++ others)
-              ∙ ap (λ zs. bracketed n name zs) (closing_parts n k left others closes.5)
-              ∙ sym (bracketed_behind n name (closing n) others),
-          ));
+          goes_on = (
+            cat,
+            closing (suc left),
+            λ others may. (
+              upper,
+              ap (λ zs. zs ++ (closing (suc left) ++ others)) named
+                  ∙ bracketed_behind n name (closing k) (closing (suc left) ++ others)
+                  ∙ ap (λ zs. bracketed n name zs) (closing_parts n k left others closes.5)
+                  ∙ sym (bracketed_behind n name (closing n) others),
+            ),
+          );
           blocked = λ others value behind follows spelled.
-            let e : bracketed n name (closing k ++ others) ≡ bracketed value.depth value.name (closing value.depth ++ behind)
-                = sym (bracketed_behind n name (closing k) others)
-                ∙ ap (λ zs. zs ++ others) (sym named) ∙ spelled.1 ∙ category_bracketed value behind in
-            let same = same_brackets n value.depth name value.name _ _ e in
-            let parts : closing k ++ others ≡ closing k ++ (closing (suc left) ++ behind)
-                = same.2 ∙ ap (λ count. closing count ++ behind) (sym same.0) ∙ sym (closing_parts n k left behind closes.5) in
-            follows_not (SignToken CloseBracket) rest others (closing left ++ behind) closes.6 follows
+              let e : bracketed n name (closing k ++ others) ≡ bracketed value.depth value.name (closing value.depth ++ behind)
+              = sym (bracketed_behind n name (closing k) others)
+              ∙ ap (λ zs. zs ++ others) (sym named) ∙ spelled.1 ∙ category_bracketed value behind in
+              let same = same_brackets n value.depth name value.name _ _ e in
+              let parts : closing k ++ others ≡ closing k ++ (closing (suc left) ++ behind)
+              = same.2 ∙ ap (λ count. closing count ++ behind) (sym same.0) ∙ sym (closing_parts n k left behind closes.5) in
+              follows_not (SignToken CloseBracket) rest others (closing left ++ behind) closes.6 follows
               (append_cancel_left (closing k) others (closing (suc left) ++ behind) parts);
         }
     named_tells (long rest) closes = absurd closes
@@ -349,8 +357,8 @@ module _ (n : ℕ) (front : List PlacedToken) (opens : bare front ≡ opening n)
     where
       by : (x : Option (List ℕ)) → upper_name token.token ≡ x
           → Tells IsAny Category (front ++ token ∷ tokens)
-            (next_on (limited (front ++ token ∷ tokens))
-            (next_on (λ name. λ ts. next_on (λ done. pure (record { name = name; depth = n })) (closes_at n ts)) (take_or_stick x token tokens)))
+          (next_on (limited (front ++ token ∷ tokens))
+          (next_on (λ name. λ ts. next_on (λ done. pure (record { name = name; depth = n })) (closes_at n ts)) (take_or_stick x token tokens)))
       by (Some name) e =
           let is = upper_some token.token name e in
           named_tells token tokens name is.0 is.1 (closes_at n tokens) (closes n tokens)

@@ -1,6 +1,5 @@
 -- The reader of a definition tells of the definition that the tokens spell.
-use Rattle.std.proofs.Common.{◌≡◌, ℕ, zero, suc, ◌≤◌, ◌<◌, List, [], ◌∷◌, ◌++◌, length, cond, Bool, true, false, All, codes, Option, Some, None, inl, inr, refl, sym, ap, subst, ◌∙◌, append_assoc, arith}
-use Rattle.std.specs.List.{AllByRecursion}
+use Rattle.std.proofs.Common.{◌≡◌, ℕ, List, [], ◌∷◌, ◌++◌, cond, Bool, true, false, codes, refl, sym, ap, subst, ◌∙◌, arith}
 use Rattle.std.specs.Str.{bytes_eq}
 use Rattle.std.proofs.lemmas.Bool.{false≢true}
 use Rattle.std.proofs.lemmas.List.Elements.{All-from_recursion, recursion_from_All}
@@ -8,7 +7,6 @@ use Rattle.std.proofs.lemmas.Slice.Eq.{bytes_eq-Decides}
 use Rattle.spec_grammar.specs.declared.rule.Label.{Label}
 use Rattle.spec_grammar.specs.declared.rule.Label.TheVariants.{Named, Wild, Nil, Cons, One}
 use Rattle.spec_lbnf.specs.declared.definition.CatName.{CatName}
-use Rattle.spec_lbnf.specs.declared.definition.RawRule.{RawRule}
 use Rattle.spec_lbnf.specs.declared.definition.Def.{Def}
 use Rattle.spec_lbnf.specs.declared.definition.Def.TheVariants.{Rule, Internal, Terminator, Separator, Coercions, Entry}
 use Rattle.spec_lbnf.specs.declared.token.Sign.TheVariants.{OpenBracket, OpenParen, Underscore}
@@ -17,11 +15,10 @@ use Rattle.spec_lbnf.specs.declared.token.FileToken.TheVariants.{Identifier, Num
 use Rattle.spec_lbnf.specs.declared.token.FileToken.TheVariants.{Sign as SignToken}
 use Rattle.spec_lbnf.specs.declared.token.PlacedToken.{PlacedToken}
 use Rattle.spec_lbnf.specs.FirstForm.{starts_upper}
-use Rattle.spec_lbnf.specs.GrammarFile.{IsCategory, IsLabel, IsUpperName, label_tokens, category_tokens, entry_tokens, nonempty_tokens, keyword, macro_tokens, SpellsRule, SpellsDef}
-use Rattle.spec_lbnf.specs.Faults.{bare}
-use Rattle.spec_lbnf.specs.FileReading.{Read, got, stuck, long, Reader, next_on, ◌>>=◌, pure, to_end, is_word, rule_at, list_macro_at, coercions_at, entries_at, def_by, def_at}
-use Rattle.spec_lbnf.proofs.TokenTestLemmas.{word_true, word_false}
-use Rattle.spec_lbnf.proofs.ReaderLemmas.{Spelling, IsOne, IsAny, IsNothing, Follows, GoesOn, IsGot, Tells, Then, Gives, AtEnd, TokenOf, HaveShortNames, nothing_front, stuck_here, change_tells, then_tells, then_got, gives_tells, end_some, end_tells, to_end_tells, one_token}
+use Rattle.spec_lbnf.specs.GrammarFile.{IsCategory, IsLabel, IsUpperName, label_tokens, category_tokens, entry_tokens, nonempty_tokens, keyword, SpellsRule, SpellsDef}
+use Rattle.spec_lbnf.specs.FileReading.{Read, next_on, ◌>>=◌, pure, to_end, is_word, rule_at, list_macro_at, coercions_at, entries_at, def_by, def_at}
+use Rattle.spec_lbnf.proofs.TokenTestLemmas.{word_true}
+use Rattle.spec_lbnf.proofs.ReaderLemmas.{Spelling, IsNothing, GoesOn, Tells, Then, Gives, AtEnd, HaveShortNames, nothing_front, stuck_here, change_tells, then_tells, then_got, gives_tells, end_some, end_tells, to_end_tells, one_token}
 use Rattle.spec_lbnf.proofs.RuleLemmas.{RuleOf, one_rule, some_rule, rule_tells}
 use Rattle.spec_lbnf.proofs.FormLemmas.{WordOf, word_got, word_of, ListMacroOf, one_list_macro, list_macro_tells, CoercionsOf, one_coercions, coercions_tell, EntriesOf, one_entries, entries_tell}
 
@@ -115,16 +112,19 @@ spelled_kind (Coercions name levels) tokens more token is e =
 spelled_kind (Entry cats) tokens more token is e =
     let same : token ≡ keyword (codes "entrypoints") = cc (is.2, e) in ap token_kind same
 
--- what stands behind the first word of each form
+-- behind `internal`: a rule
 abbrev InternalRest : Spelling Def
 InternalRest = Gives Internal RuleOf
 
+-- behind the first word of a macro: a macro of lists, and nothing more
 abbrev MacroRest : (Bool → CatName → List ℕ → Def) → Spelling Def
 MacroRest def_of = Then (ListMacroOf def_of) AtEnd
 
+-- behind `coercions`: a name and a number, and nothing more
 abbrev CoercionsRest : Spelling Def
 CoercionsRest = Then CoercionsOf AtEnd
 
+-- behind `entrypoints`: categories
 abbrev EntryRest : Spelling Def
 EntryRest = Gives Entry EntriesOf
 
@@ -145,16 +145,16 @@ word_tells : (word : List ℕ) (next : Spelling Def) (token : PlacedToken) (toke
 word_tells word next token tokens y is short forth back tells =
     let same : token.token ≡ Identifier word = word_true word token.token is in
     change_tells IsNothing (Then (WordOf word) (λ done. next)) DefOf (token ∷ tokens) y
-      (λ def others rest parts.
-        let head = word_of word parts.2.0 parts.0 parts.2.1 in
-        let whole : others ≡ Identifier word ∷ parts.1 = parts.2.2 ∙ ap (λ t. t ∷ parts.1) head in
-        let Are : List FileToken → Type 0 = λ ts. DefOf def ts rest in
-        subst Are (sym whole) (forth def parts.1 rest parts.3))
-      (λ def others rest follows spelled.
-        let whole : others ≡ Identifier word ∷ follows.0 = follows.1 ∙ ap (λ t. t ∷ follows.0) same in
-        let Are : List FileToken → Type 0 = λ ts. DefOf def ts rest in
-        (tt, follows.0, (token.token, rw is refl, follows.1), back def follows.0 rest (subst Are whole spelled)))
-      (then_got IsNothing (WordOf word) (λ done. next) tt (token ∷ tokens) tokens (one_token _) (word_got word token tokens is short) y tells)
+    (λ def others rest parts.
+    let head = word_of word parts.2.0 parts.0 parts.2.1 in
+    let whole : others ≡ Identifier word ∷ parts.1 = parts.2.2 ∙ ap (λ t. t ∷ parts.1) head in
+    let Are : List FileToken → Type 0 = λ ts. DefOf def ts rest in
+    subst Are (sym whole) (forth def parts.1 rest parts.3))
+    (λ def others rest follows spelled.
+    let whole : others ≡ Identifier word ∷ follows.0 = follows.1 ∙ ap (λ t. t ∷ follows.0) same in
+    let Are : List FileToken → Type 0 = λ ts. DefOf def ts rest in
+    (tt, follows.0, (token.token, rw is refl, follows.1), back def follows.0 rest (subst Are whole spelled)))
+    (then_got IsNothing (WordOf word) (λ done. next) tt (token ∷ tokens) tokens (one_token _) (word_got word token tokens is short) y tells)
 
 -- the form is that of the first word
 kind_of_word : (def : Def) (word : List ℕ) (more rest : List FileToken) → DefOf def (Identifier word ∷ more) rest
@@ -167,6 +167,7 @@ internal_forth def more rest is =
     let Are : Def → Type 0 = λ d. DefOf d (keyword (codes "internal") ∷ more) rest in
     subst Are (sym is.1) ((more, is.2.0, refl), is.2.1)
 
+-- nothing else is an internal rule
 internal_back : HasBehind (codes "internal") InternalRest
 internal_back (Internal rule) more rest is =
     let same : is.0.0 ≡ more = cc is.0.2 in
@@ -193,6 +194,7 @@ terminator_forth def more rest is =
     let whole = macro_whole Terminator def more rest is in
     subst Are (sym (is.3.0 ∙ is.2.4)) ((is.2.3, ap (λ zs. keyword (codes "terminator") ∷ zs) whole), is.3.2)
 
+-- nothing else is a terminator
 terminator_back : HasBehind (codes "terminator") (MacroRest Terminator)
 terminator_back (Terminator nonempty cat word) more rest is =
     macro_parts Terminator nonempty cat word more rest is.0.0 (cc is.0.1) is.1
@@ -205,6 +207,7 @@ separator_forth def more rest is =
     let whole = macro_whole Separator def more rest is in
     subst Are (sym (is.3.0 ∙ is.2.4)) ((is.2.3, ap (λ zs. keyword (codes "separator") ∷ zs) whole), is.3.2)
 
+-- nothing else is a separator
 separator_back : HasBehind (codes "separator") (MacroRest Separator)
 separator_back (Separator nonempty cat word) more rest is =
     macro_parts Separator nonempty cat word more rest is.0.0 (cc is.0.1) is.1
@@ -217,6 +220,7 @@ coercions_forth def more rest is =
     let whole : more ≡ Identifier is.2.0 ∷ Number is.2.1 ∷ [] = is.2.4 ∙ ap (λ zs. Identifier is.2.0 ∷ Number is.2.1 ∷ zs) is.3.1 in
     subst Are (sym (is.3.0 ∙ is.2.3)) ((is.2.2, ap (λ zs. keyword (codes "coercions") ∷ zs) whole), is.3.2)
 
+-- nothing else is a definition of coercions
 coercions_back : HasBehind (codes "coercions") CoercionsRest
 coercions_back (Coercions name levels) more rest is =
     (Coercions name levels, [], (name, levels, is.0.0, refl, cc is.0.1), (refl, refl, is.1))
@@ -229,6 +233,7 @@ entry_forth def more rest is =
     let each = All-from_recursion IsCategory is.0 is.2.1 in
     subst Are (sym is.1) ((is.2.0, each, ap (λ zs. keyword (codes "entrypoints") ∷ zs) is.2.2), is.2.3)
 
+-- nothing else is one of entry points
 entry_back : HasBehind (codes "entrypoints") EntryRest
 entry_back (Entry cats) more rest is =
     (cats, refl, (is.0.0, recursion_from_All IsCategory cats is.0.1, cc is.0.2, is.1))
@@ -261,36 +266,36 @@ module _ (token : PlacedToken) (tokens : List PlacedToken) (short : HaveShortNam
       → Tells IsNothing DefOf (token ∷ tokens) (next_on to_end ((rule_at >>= (λ rule. pure (Rule rule))) (token ∷ tokens)))
   plain_tells kind =
       change_tells IsNothing (Gives Rule RuleOf) DefOf (token ∷ tokens) _
-        (λ def others rest is.
-          let Are : Def → Type 0 = λ d. DefOf d others rest in subst Are (sym is.1) is.2)
-        (λ def others rest follows is. rule_back def token.token others follows.0 rest follows.1 kind is)
-        (to_end_tells (Gives Rule RuleOf) (token ∷ tokens) _
-          (gives_tells IsNothing RuleOf Rule (token ∷ tokens) (rule_at (token ∷ tokens)) (rule_tells (token ∷ tokens) short)))
+      (λ def others rest is.
+      let Are : Def → Type 0 = λ d. DefOf d others rest in subst Are (sym is.1) is.2)
+      (λ def others rest follows is. rule_back def token.token others follows.0 rest follows.1 kind is)
+      (to_end_tells (Gives Rule RuleOf) (token ∷ tokens) _
+      (gives_tells IsNothing RuleOf Rule (token ∷ tokens) (rule_at (token ∷ tokens)) (rule_tells (token ∷ tokens) short)))
 
   -- the reader of a rule behind `internal`
   internal_tells : Tells IsNothing InternalRest tokens (next_on to_end ((rule_at >>= (λ rule. pure (Internal rule))) tokens))
   internal_tells =
       to_end_tells InternalRest tokens _
-        (gives_tells IsNothing RuleOf Internal tokens (rule_at tokens) (rule_tells tokens short.1))
+      (gives_tells IsNothing RuleOf Internal tokens (rule_at tokens) (rule_tells tokens short.1))
 
   -- the reader of a macro of lists behind its first word
   macro_rest_tells : (def_of : Bool → CatName → List ℕ → Def)
       → Tells IsNothing (MacroRest def_of) tokens (next_on to_end (list_macro_at def_of tokens))
   macro_rest_tells def_of =
       then_tells IsNothing (ListMacroOf def_of) AtEnd tokens to_end (one_list_macro def_of) end_some
-        (λ def rest is. end_tells def rest) (list_macro_at def_of tokens) (list_macro_tells def_of tokens short.1)
+      (λ def rest is. end_tells def rest) (list_macro_at def_of tokens) (list_macro_tells def_of tokens short.1)
 
   -- the reader of coercions behind their first word
   coercions_rest_tell : Tells IsNothing CoercionsRest tokens (next_on to_end (coercions_at tokens))
   coercions_rest_tell =
       then_tells IsNothing CoercionsOf AtEnd tokens to_end one_coercions end_some
-        (λ def rest is. end_tells def rest) (coercions_at tokens) (coercions_tell tokens short.1)
+      (λ def rest is. end_tells def rest) (coercions_at tokens) (coercions_tell tokens short.1)
 
   -- the reader of entry points behind their first word
   entry_rest_tells : Tells IsNothing EntryRest tokens (next_on to_end ((entries_at >>= (λ cats. pure (Entry cats))) tokens))
   entry_rest_tells =
       to_end_tells EntryRest tokens _
-        (gives_tells IsNothing EntriesOf Entry tokens (entries_at tokens) (entries_tell tokens short.1))
+      (gives_tells IsNothing EntriesOf Entry tokens (entries_at tokens) (entries_tell tokens short.1))
 
   -- the reader of a definition, by its first token
   first_tells : Tells IsNothing DefOf (token ∷ tokens) (next_on to_end (def_by token tokens))
@@ -301,7 +306,7 @@ module _ (token : PlacedToken) (tokens : List PlacedToken) (short : HaveShortNam
           → is_word (codes "separator") token.token ≡ false → is_word (codes "terminator") token.token ≡ false
           → is_word (codes "internal") token.token ≡ false
           → Tells IsNothing DefOf (token ∷ tokens) (next_on to_end
-            (cond b ((entries_at >>= (λ cats. pure (Entry cats))) tokens) ((rule_at >>= (λ rule. pure (Rule rule))) (token ∷ tokens))))
+          (cond b ((entries_at >>= (λ cats. pure (Entry cats))) tokens) ((rule_at >>= (λ rule. pure (Rule rule))) (token ∷ tokens))))
       by_entry true e d c b a = word_tells (codes "entrypoints") EntryRest token tokens _ e short entry_forth entry_back entry_rest_tells
       by_entry false e d c b a = plain_tells (no_word_kind token.token a b c d e)
 
@@ -309,40 +314,40 @@ module _ (token : PlacedToken) (tokens : List PlacedToken) (short : HaveShortNam
           → is_word (codes "separator") token.token ≡ false → is_word (codes "terminator") token.token ≡ false
           → is_word (codes "internal") token.token ≡ false
           → Tells IsNothing DefOf (token ∷ tokens) (next_on to_end
-            (cond b (coercions_at tokens)
-            (cond (is_word (codes "entrypoints") token.token) ((entries_at >>= (λ cats. pure (Entry cats))) tokens)
-            ((rule_at >>= (λ rule. pure (Rule rule))) (token ∷ tokens)))))
+          (cond b (coercions_at tokens)
+          (cond (is_word (codes "entrypoints") token.token) ((entries_at >>= (λ cats. pure (Entry cats))) tokens)
+          ((rule_at >>= (λ rule. pure (Rule rule))) (token ∷ tokens)))))
       by_coercions true d c b a = word_tells (codes "coercions") CoercionsRest token tokens _ d short coercions_forth coercions_back coercions_rest_tell
       by_coercions false d c b a = by_entry (is_word (codes "entrypoints") token.token) refl d c b a
 
       by_separator : (b : Bool) → is_word (codes "separator") token.token ≡ b → is_word (codes "terminator") token.token ≡ false
           → is_word (codes "internal") token.token ≡ false
           → Tells IsNothing DefOf (token ∷ tokens) (next_on to_end
-            (cond b (list_macro_at Separator tokens)
-            (cond (is_word (codes "coercions") token.token) (coercions_at tokens)
-            (cond (is_word (codes "entrypoints") token.token) ((entries_at >>= (λ cats. pure (Entry cats))) tokens)
-            ((rule_at >>= (λ rule. pure (Rule rule))) (token ∷ tokens))))))
+          (cond b (list_macro_at Separator tokens)
+          (cond (is_word (codes "coercions") token.token) (coercions_at tokens)
+          (cond (is_word (codes "entrypoints") token.token) ((entries_at >>= (λ cats. pure (Entry cats))) tokens)
+          ((rule_at >>= (λ rule. pure (Rule rule))) (token ∷ tokens))))))
       by_separator true c b a = word_tells (codes "separator") (MacroRest Separator) token tokens _ c short separator_forth separator_back (macro_rest_tells Separator)
       by_separator false c b a = by_coercions (is_word (codes "coercions") token.token) refl c b a
 
       by_terminator : (b : Bool) → is_word (codes "terminator") token.token ≡ b → is_word (codes "internal") token.token ≡ false
           → Tells IsNothing DefOf (token ∷ tokens) (next_on to_end
-            (cond b (list_macro_at Terminator tokens)
-            (cond (is_word (codes "separator") token.token) (list_macro_at Separator tokens)
-            (cond (is_word (codes "coercions") token.token) (coercions_at tokens)
-            (cond (is_word (codes "entrypoints") token.token) ((entries_at >>= (λ cats. pure (Entry cats))) tokens)
-            ((rule_at >>= (λ rule. pure (Rule rule))) (token ∷ tokens)))))))
+          (cond b (list_macro_at Terminator tokens)
+          (cond (is_word (codes "separator") token.token) (list_macro_at Separator tokens)
+          (cond (is_word (codes "coercions") token.token) (coercions_at tokens)
+          (cond (is_word (codes "entrypoints") token.token) ((entries_at >>= (λ cats. pure (Entry cats))) tokens)
+          ((rule_at >>= (λ rule. pure (Rule rule))) (token ∷ tokens)))))))
       by_terminator true b a = word_tells (codes "terminator") (MacroRest Terminator) token tokens _ b short terminator_forth terminator_back (macro_rest_tells Terminator)
       by_terminator false b a = by_separator (is_word (codes "separator") token.token) refl b a
 
       by_internal : (b : Bool) → is_word (codes "internal") token.token ≡ b
           → Tells IsNothing DefOf (token ∷ tokens) (next_on to_end
-            (cond b ((rule_at >>= (λ rule. pure (Internal rule))) tokens)
-            (cond (is_word (codes "terminator") token.token) (list_macro_at Terminator tokens)
-            (cond (is_word (codes "separator") token.token) (list_macro_at Separator tokens)
-            (cond (is_word (codes "coercions") token.token) (coercions_at tokens)
-            (cond (is_word (codes "entrypoints") token.token) ((entries_at >>= (λ cats. pure (Entry cats))) tokens)
-            ((rule_at >>= (λ rule. pure (Rule rule))) (token ∷ tokens))))))))
+          (cond b ((rule_at >>= (λ rule. pure (Internal rule))) tokens)
+          (cond (is_word (codes "terminator") token.token) (list_macro_at Terminator tokens)
+          (cond (is_word (codes "separator") token.token) (list_macro_at Separator tokens)
+          (cond (is_word (codes "coercions") token.token) (coercions_at tokens)
+          (cond (is_word (codes "entrypoints") token.token) ((entries_at >>= (λ cats. pure (Entry cats))) tokens)
+          ((rule_at >>= (λ rule. pure (Rule rule))) (token ∷ tokens))))))))
       by_internal true a = word_tells (codes "internal") InternalRest token tokens _ a short internal_forth internal_back internal_tells
       by_internal false a = by_terminator (is_word (codes "terminator") token.token) refl a
 
@@ -351,8 +356,8 @@ pub def_tells : (tokens : List PlacedToken) → HaveShortNames tokens → Tells 
 unfolding def_at
 def_tells [] short =
     stuck_here IsNothing DefOf [] nothing_front some_def
-      (λ others def behind follows is.
-        let Spelled : List FileToken → Type 0 = λ ts. SpellsDef def ts in def_some def (subst Spelled follows is.0))
+    (λ others def behind follows is.
+    let Spelled : List FileToken → Type 0 = λ ts. SpellsDef def ts in def_some def (subst Spelled follows is.0))
 def_tells (token ∷ tokens) short = first_tells token tokens short
 
 -- tokens are at most one definition
@@ -363,14 +368,14 @@ one_def (Internal r) (Internal s) tokens is_a is_b =
     ap Internal (one_rule r s is_a.0 [] [] (is_a.1, refl) (subst (SpellsRule s) same is_b.1, refl)).0
 one_def (Terminator m c v) (Terminator n d w) tokens is_a is_b =
     let same : nonempty_tokens m ++ (category_tokens c ++ (Text v ∷ [])) ≡ nonempty_tokens n ++ (category_tokens d ++ (Text w ∷ []))
-        = cc (is_a.1, is_b.1) in
+    = cc (is_a.1, is_b.1) in
     (one_list_macro Terminator (Terminator m c v) (Terminator n d w) _ [] []
-      (m, c, v, is_a.0, refl, refl) (n, d, w, is_b.0, refl, same)).0
+    (m, c, v, is_a.0, refl, refl) (n, d, w, is_b.0, refl, same)).0
 one_def (Separator m c v) (Separator n d w) tokens is_a is_b =
     let same : nonempty_tokens m ++ (category_tokens c ++ (Text v ∷ [])) ≡ nonempty_tokens n ++ (category_tokens d ++ (Text w ∷ []))
-        = cc (is_a.1, is_b.1) in
+    = cc (is_a.1, is_b.1) in
     (one_list_macro Separator (Separator m c v) (Separator n d w) _ [] []
-      (m, c, v, is_a.0, refl, refl) (n, d, w, is_b.0, refl, same)).0
+    (m, c, v, is_a.0, refl, refl) (n, d, w, is_b.0, refl, same)).0
 one_def (Coercions a x) (Coercions b y) tokens is_a is_b =
     let names : a ≡ b = cc (is_a.1, is_b.1) in
     let levels : x ≡ y = cc (is_a.1, is_b.1) in
@@ -378,7 +383,7 @@ one_def (Coercions a x) (Coercions b y) tokens is_a is_b =
 one_def (Entry a) (Entry b) tokens is_a is_b =
     let same : entry_tokens a ≡ entry_tokens b = cc (is_a.2, is_b.2) in
     ap Entry (one_entries a b (entry_tokens a) [] []
-      (is_a.0, recursion_from_All IsCategory a is_a.1, refl, refl) (is_b.0, recursion_from_All IsCategory b is_b.1, same, refl)).0
+    (is_a.0, recursion_from_All IsCategory a is_a.1, refl, refl) (is_b.0, recursion_from_All IsCategory b is_b.1, same, refl)).0
 one_def a b tokens is_a is_b = absurd (differ tokens is_a is_b)
   where
     differ : (tokens : List FileToken) → SpellsDef a tokens → SpellsDef b tokens → ⊥

@@ -1,5 +1,5 @@
 -- What is read of the tokens of a file is the definitions that they spell, or their first fault.
-use Rattle.std.proofs.Common.{◌≡◌, ℕ, zero, suc, ◌+◌, ◌-◌, ◌≤◌, ◌<◌, List, [], ◌∷◌, ◌++◌, length, take, filter, Bool, true, false, not, cond, Result, Ok, Err, ◌⊎◌, inl, inr, refl, sym, ap, subst, ◌∙◌, append_assoc, arith, length-append}
+use Rattle.std.proofs.Common.{◌≡◌, ℕ, zero, suc, ◌-◌, ◌≤◌, ◌<◌, List, [], ◌∷◌, ◌++◌, length, take, Bool, true, false, cond, Result, Ok, Err, ◌⊎◌, inl, inr, refl, sym, ap, subst, ◌∙◌, append_assoc, arith, length-append}
 use Rattle.std.proofs.Math.Seq.{take-append_seam}
 use Rattle.std.proofs.lemmas.Bool.{false≢true}
 use Rattle.std.proofs.lemmas.List.{append-nil, length-map}
@@ -10,15 +10,15 @@ use Rattle.spec_lbnf.specs.declared.token.FileToken.TheVariants.{Identifier}
 use Rattle.spec_lbnf.specs.declared.token.FileToken.TheVariants.{Sign as SignToken}
 use Rattle.spec_lbnf.specs.declared.token.PlacedToken.{PlacedToken}
 use Rattle.spec_lbnf.specs.GrammarFile.{category_tokens, SpellsDef, is_semicolon, pieces_of, AreSpelledBy, SpellsDefs}
-use Rattle.spec_lbnf.specs.Faults.{FileFault, syntax, bare, CanGoOn, HasLongCategory, last_piece, piece_fault, token_fault, StopsBehind, at_token, at_bytes, at_end, IsFirstLong, FaultsAt, at_long, behind as goes_no_further}
+use Rattle.spec_lbnf.specs.Faults.{FileFault, syntax, bare, CanGoOn, HasLongCategory, last_piece, piece_fault, token_fault, at_token, at_bytes, at_end, IsFirstLong, FaultsAt, at_long, behind as goes_no_further}
 use Rattle.spec_lbnf.specs.FileReading.{Read, got, stuck, long, def_at}
-use Rattle.spec_lbnf.specs.FileDefinitions.{piece_at, behind_piece, place_of, stuck_fault, def_or_fault, piece_def, and_defs, defs_at, defs_of}
-use Rattle.spec_lbnf.proofs.BoundaryLemmas.{IsClosed, IsOpenFront, LacksLong, closed_both, front_behind, lacks_both, long_of_one, one_closed, nothing_closed}
-use Rattle.spec_lbnf.proofs.ReaderLemmas.{IsNothing, GoesOn, Follows, IsGot, IsStuckAt, IsLongAt, BeginsLong, Tells, HaveShortNames, short_behind, short_before, bare-append}
+use Rattle.spec_lbnf.specs.FileDefinitions.{piece_at, behind_piece, place_of, def_or_fault, piece_def, and_defs, defs_at, defs_of}
+use Rattle.spec_lbnf.proofs.BoundaryLemmas.{IsClosed, IsOpenFront, LacksLong, closed_both, lacks_both, long_of_one, one_closed, nothing_closed}
+use Rattle.spec_lbnf.proofs.ReaderLemmas.{IsNothing, GoesOn, IsGot, IsStuckAt, IsLongAt, Tells, HaveShortNames, short_behind, short_before, bare-append}
 use Rattle.spec_lbnf.proofs.CategoryLemmas.{category_no_close}
 use Rattle.spec_lbnf.proofs.RuleLemmas.{category_some}
 use Rattle.spec_lbnf.proofs.DefLemmas.{DefOf, def_tells, def_some}
-use Rattle.spec_lbnf.proofs.PieceLemmas.{AreWithin, within_both, within_front, within_def, pieces_behind, one_piece, pieces_semicolon, pieces_ended, last_within, last_behind, semicolon_is, spelled_both, spelled_within, spelled_count}
+use Rattle.spec_lbnf.proofs.PieceLemmas.{AreWithin, within_front, within_def, pieces_behind, one_piece, pieces_semicolon, pieces_ended, last_within, last_behind, semicolon_is, spelled_both, spelled_within, spelled_count}
 
 -- a semicolon that cannot stand is a fault of syntax
 semicolon_fault : (number : ℕ) (piece : List FileToken) (at : ℕ) → piece_fault number piece (SignToken Semicolon) at ≡ syntax at
@@ -84,14 +84,14 @@ done_semicolon open_for_more earlier defs token is fits done =
     record {
       pieces = done.pieces;
       cut = λ more any.
-        ap pieces_of (three_parts earlier (token ∷ []) more)
-        ∙ done.cut (token.token ∷ more) (fits_more open_for_more more fits)
-        ∙ ap (λ ps. done.pieces ++ ps) (pieces_semicolon token.token more is);
+          ap pieces_of (three_parts earlier (token ∷ []) more)
+          ∙ done.cut (token.token ∷ more) (fits_more open_for_more more fits)
+          ∙ ap (λ ps. done.pieces ++ ps) (pieces_semicolon token.token more is);
       spelled = done.spelled;
       last = λ more same.
-        ap last_piece (three_parts earlier (token ∷ []) more) ∙ last_behind (bare earlier) token.token more is;
+          ap last_piece (three_parts earlier (token ∷ []) more) ∙ last_behind (bare earlier) token.token more is;
       closed = rw (bare-append earlier (token ∷ []))
-        (closed_both (bare earlier) (token.token ∷ []) done.closed (rw semicolon semicolon_closed));
+          (closed_both (bare earlier) (token.token ∷ []) done.closed (rw semicolon semicolon_closed));
     }
   where
     fits_more : (b : Bool) (more : List FileToken) → Fits b (token.token ∷ []) → Fits b (token.token ∷ more)
@@ -111,10 +111,10 @@ done_def : (earlier piece : List PlacedToken) (defs : List Def) (def : Def) → 
 done_def earlier piece defs def spelled closed done = record {
   pieces = done.pieces ++ bare piece ∷ [];
   cut = λ more fits.
-    ap pieces_of (three_parts earlier piece more)
-    ∙ done.cut (bare piece ++ more) tt
-    ∙ ap (λ ps. done.pieces ++ ps) (by (bare piece) more spelled fits)
-    ∙ sym (append_assoc done.pieces (bare piece ∷ []) (pieces_of more));
+      ap pieces_of (three_parts earlier piece more)
+      ∙ done.cut (bare piece ++ more) tt
+      ∙ ap (λ ps. done.pieces ++ ps) (by (bare piece) more spelled fits)
+      ∙ sym (append_assoc done.pieces (bare piece ∷ []) (pieces_of more));
   spelled = spelled_both defs (def ∷ []) done.pieces (bare piece ∷ []) done.spelled (spelled, tt);
   last = λ more same. absurd (false≢true same);
   closed = rw (bare-append earlier piece) (closed_both (bare earlier) (bare piece) done.closed closed);
@@ -129,8 +129,8 @@ viable : (earlier front : List PlacedToken) (defs : List Def) (def : Def) (more 
     → SpellsDef def (bare front ++ more) → CanGoOn (bare (earlier ++ front))
 viable earlier front defs def more done spelled =
     let pieces : pieces_of (bare (earlier ++ front) ++ more) ≡ done.pieces ++ (bare front ++ more) ∷ []
-        = ap pieces_of (three_parts earlier front more) ∙ done.cut (bare front ++ more) tt
-        ∙ ap (λ ps. done.pieces ++ ps) (by (bare front ++ more) spelled) in
+    = ap pieces_of (three_parts earlier front more) ∙ done.cut (bare front ++ more) tt
+    ∙ ap (λ ps. done.pieces ++ ps) (by (bare front ++ more) spelled) in
     let both = spelled_both defs (def ∷ []) done.pieces ((bare front ++ more) ∷ []) done.spelled (spelled, tt) in
     (more, defs ++ def ∷ [], subst (AreSpelledBy (defs ++ def ∷ [])) (sym pieces) both)
   where
@@ -146,7 +146,7 @@ pieces_begun [] token more within = pieces_behind token [] more within
 pieces_begun (x ∷ front) token more within =
     let pieces = pieces_behind x (front ++ token ∷ []) more within in
     let moved : (zs : List FileToken) → (x ∷ front ++ token ∷ []) ++ zs ≡ x ∷ front ++ token ∷ zs
-        = λ zs. append_assoc (x ∷ front) (token ∷ []) zs in
+    = λ zs. append_assoc (x ∷ front) (token ∷ []) zs in
     (pieces.0, pieces.1, ap pieces_of (sym (moved more)) ∙ pieces.2 ∙ ap (λ piece. piece ∷ pieces.1) (moved pieces.0))
 
 -- the whole of the tokens, cut within a piece
@@ -200,7 +200,7 @@ module _ (bytes : List ℕ) (all : List PlacedToken) (stop : ℕ) where
         count : bare front ≡ [] → number ≡ length (pieces_of (bare (earlier ++ front)))
         count none =
             let cut : pieces_of (bare (earlier ++ front)) ≡ done.pieces
-                = ap pieces_of (bare-append earlier front ∙ ap (λ ts. bare earlier ++ ts) none) ∙ done.cut [] tt ∙ append-nil done.pieces in
+            = ap pieces_of (bare-append earlier front ∙ ap (λ ts. bare earlier ++ ts) none) ∙ done.cut [] tt ∙ append-nil done.pieces in
             is_number ∙ spelled_count defs done.pieces done.spelled ∙ ap length (sym cut)
 
         by : (own : List FileToken) → bare front ≡ own
@@ -217,7 +217,7 @@ module _ (bytes : List ℕ) (all : List PlacedToken) (stop : ℕ) where
       split = split;
       viable = viable_front is.front is.goes_on;
       faults = goes_no_further (lacks_front is.front is.closed)
-        (at_token token (rest ++ after) split stuck_here (fault_within is.front own_within token.token token.place));
+          (at_token token (rest ++ after) split stuck_here (fault_within is.front own_within token.token token.place));
     }
       where
         split : all ≡ (earlier ++ is.front) ++ (token ∷ rest ++ after)
@@ -228,7 +228,7 @@ module _ (bytes : List ℕ) (all : List PlacedToken) (stop : ℕ) where
 
         begun_within : AreWithin (bare is.front ++ token.token ∷ [])
         begun_within = within_front (bare is.front ++ token.token ∷ []) (bare rest)
-          (subst AreWithin (parts ∙ sym (append_assoc (bare is.front) (token.token ∷ []) (bare rest))) within)
+            (subst AreWithin (parts ∙ sym (append_assoc (bare is.front) (token.token ∷ []) (bare rest))) within)
 
         own_within : AreWithin (bare is.front)
         own_within = within_front (bare is.front) (token.token ∷ []) begun_within
@@ -237,12 +237,12 @@ module _ (bytes : List ℕ) (all : List PlacedToken) (stop : ℕ) where
         stuck_here can =
             let begun = pieces_begun (bare is.front) token.token can.0 begun_within in
             let e : (bare (earlier ++ is.front) ++ token.token ∷ []) ++ can.0 ≡ bare earlier ++ (bare is.front ++ (token.token ∷ can.0))
-                = append_assoc (bare (earlier ++ is.front)) (token.token ∷ []) can.0 ∙ three_parts earlier is.front (token.token ∷ can.0) in
+            = append_assoc (bare (earlier ++ is.front)) (token.token ∷ []) can.0 ∙ three_parts earlier is.front (token.token ∷ can.0) in
             let cut : pieces_of ((bare (earlier ++ is.front) ++ token.token ∷ []) ++ can.0)
-                  ≡ done.pieces ++ (bare is.front ++ token.token ∷ begun.0) ∷ begun.1
-                = ap pieces_of e ∙ done.cut (bare is.front ++ (token.token ∷ can.0)) tt ∙ ap (λ ps. done.pieces ++ ps) begun.2 in
+            ≡ done.pieces ++ (bare is.front ++ token.token ∷ begun.0) ∷ begun.1
+            = ap pieces_of e ∙ done.cut (bare is.front ++ (token.token ∷ can.0)) tt ∙ ap (λ ps. done.pieces ++ ps) begun.2 in
             let one = spelled_within can.1 done.pieces (bare is.front ++ token.token ∷ begun.0) begun.1
-                  (subst (AreSpelledBy can.1) cut can.2) in
+            (subst (AreSpelledBy can.1) cut can.2) in
             is.blocked (token.token ∷ begun.0) one.0 [] (begun.0, refl) (one.1, refl)
 
     -- the piece ends too early
@@ -255,7 +255,7 @@ module _ (bytes : List ℕ) (all : List PlacedToken) (stop : ℕ) where
         no_def : (def : Def) → SpellsDef def (bare piece) → ⊥
         no_def def spelled =
             let moved : SpellsDef def (bare is.front ++ []) =
-              subst (SpellsDef def) (ap bare (sym front_is) ∙ sym (append-nil (bare is.front))) spelled in
+            subst (SpellsDef def) (ap bare (sym front_is) ∙ sym (append-nil (bare is.front))) spelled in
             is.blocked [] def [] refl (moved, refl)
 
         goes : CanGoOn (bare (earlier ++ piece))
@@ -268,8 +268,8 @@ module _ (bytes : List ℕ) (all : List PlacedToken) (stop : ℕ) where
             → SpellsDefs list (bare (earlier ++ piece) ++ more) → ⊥
         none_spelled list more fits_more spelled =
             let cut : pieces_of (bare (earlier ++ piece) ++ more) ≡ done.pieces ++ bare piece ∷ pieces_of more
-                = ap pieces_of (three_parts earlier piece more) ∙ done.cut (bare piece ++ more) tt
-                ∙ ap (λ ps. done.pieces ++ ps) (pieces_fit first.token (bare others) more within fits_more) in
+            = ap pieces_of (three_parts earlier piece more) ∙ done.cut (bare piece ++ more) tt
+            ∙ ap (λ ps. done.pieces ++ ps) (pieces_fit first.token (bare others) more within fits_more) in
             let one = spelled_within list done.pieces (bare piece) (pieces_of more) (subst (AreSpelledBy list) cut spelled) in
             no_def one.0 one.1
 
@@ -283,7 +283,7 @@ module _ (bytes : List ℕ) (all : List PlacedToken) (stop : ℕ) where
           faults = goes_no_further lacks (elim ends [
             | inl early ↦ at_bytes is_all early refl
             | inr end ↦ at_end is_all end refl (λ list spelled.
-              none_spelled list [] tt (subst (SpellsDefs list) (ap bare is_all ∙ sym (append-nil (bare (earlier ++ piece)))) spelled))
+                none_spelled list [] tt (subst (SpellsDefs list) (ap bare is_all ∙ sym (append-nil (bare (earlier ++ piece)))) spelled))
           ]);
         }
           where
@@ -295,9 +295,9 @@ module _ (bytes : List ℕ) (all : List PlacedToken) (stop : ℕ) where
           split = whole ∙ sym (append_assoc earlier piece (semicolon ∷ rest));
           viable = goes;
           faults = goes_no_further lacks
-            (at_token semicolon rest (whole ∙ sym (append_assoc earlier piece (semicolon ∷ rest)))
+              (at_token semicolon rest (whole ∙ sym (append_assoc earlier piece (semicolon ∷ rest)))
               (λ can. none_spelled can.1 (semicolon.token ∷ can.0) fits
-                (subst (SpellsDefs can.1) (append_assoc (bare (earlier ++ piece)) (semicolon.token ∷ []) can.0) can.2))
+              (subst (SpellsDefs can.1) (append_assoc (bare (earlier ++ piece)) (semicolon.token ∷ []) can.0) can.2))
               (rw (semicolon_is semicolon.token fits) (sym (semicolon_fault (length (pieces_of (bare (earlier ++ piece)))) (last_piece (bare (earlier ++ piece))) semicolon.place))));
         }
 
@@ -316,7 +316,7 @@ module _ (bytes : List ℕ) (all : List PlacedToken) (stop : ℕ) where
           front = earlier ++ (is.front ++ token ∷ own);
           rest = is.begins.behind ++ after;
           split = cut_parts all earlier piece after (is.front ++ token ∷ own) is.begins.behind whole
-            (is.whole ∙ ap (λ ts. is.front ++ ts) e ∙ sym (append_assoc is.front (token ∷ own) is.begins.behind));
+              (is.whole ∙ ap (λ ts. is.front ++ ts) e ∙ sym (append_assoc is.front (token ∷ own) is.begins.behind));
           viable = viable_front (is.front ++ token ∷ own) (rw (bare-append is.front (token ∷ own)) goes);
           faults = at_long token.place first_long (ap (λ ts. syntax (place_of ts (place_of after stop))) e);
         }
@@ -350,12 +350,12 @@ module _ (bytes : List ℕ) (all : List PlacedToken) (stop : ℕ) where
                     → length (earlier ++ is.front) ≤ length other
                 later other has =
                     elim (long_of_one (bare (earlier ++ is.front)) (category_tokens is.begins.cat) other before_closed.no_open
-                      (category_no_close is.begins.cat) has) [
+                    (category_no_close is.begins.cat) has) [
                       | inl within_before ↦ absurd (before_closed.lacks other within_before)
                       | inr at_category ↦
-                        let len : length (bare (earlier ++ is.front)) ≡ length (earlier ++ is.front)
-                            = length-map (earlier ++ is.front) (λ (t : PlacedToken). t.token) in
-                        omega (arith, ap length at_category.1, length-append (bare (earlier ++ is.front)) at_category.0, len)
+                          let len : length (bare (earlier ++ is.front)) ≡ length (earlier ++ is.front)
+                          = length-map (earlier ++ is.front) (λ (t : PlacedToken). t.token) in
+                          omega (arith, ap length at_category.1, length-append (bare (earlier ++ is.front)) at_category.0, len)
                     ]
 
     -- what is read of a whole piece is a definition that it spells
@@ -363,8 +363,8 @@ module _ (bytes : List ℕ) (all : List PlacedToken) (stop : ℕ) where
     got_whole def rest is =
         let used_is : is.used ≡ piece = sym (append-nil is.used) ∙ ap (λ ts. is.used ++ ts) (sym (none rest is.behind)) ∙ sym is.whole in
         let spelled : SpellsDef def (bare piece) =
-          subst (λ ts. SpellsDef def (bare ts)) used_is
-            (subst (SpellsDef def) (append-nil (bare is.used)) (is.spelled [] refl).0) in
+        subst (λ ts. SpellsDef def (bare ts)) used_is
+        (subst (SpellsDef def) (append-nil (bare is.used)) (is.spelled [] refl).0) in
         done_def earlier piece defs def spelled (subst (λ ts. IsClosed (bare ts)) used_is is.closed) done
       where
         none : (rest : List PlacedToken) → bare rest ≡ [] → rest ≡ []
@@ -440,8 +440,8 @@ module _ (bytes : List ℕ) (all : List PlacedToken) (stop : ℕ) (ends : (stop 
   tell_end turns number open_for_more earlier defs done whole =
       let is_all : all ≡ earlier = whole ∙ append-nil earlier in
       let cut : pieces_of (bare all) ≡ done.pieces
-          = ap (λ ts. pieces_of (bare ts)) is_all ∙ ap pieces_of (sym (append-nil (bare earlier)))
-          ∙ done.cut [] (fits_nothing open_for_more) ∙ append-nil done.pieces in
+      = ap (λ ts. pieces_of (bare ts)) is_all ∙ ap pieces_of (sym (append-nil (bare earlier)))
+      ∙ done.cut [] (fits_nothing open_for_more) ∙ append-nil done.pieces in
       let spelled : AreSpelledBy (defs ++ []) (pieces_of (bare all)) = rw (append-nil defs, cut) done.spelled in
       (spelled, subst (λ ts. LacksLong (bare ts)) (sym is_all) done.closed.lacks)
 
@@ -451,15 +451,15 @@ module _ (bytes : List ℕ) (all : List PlacedToken) (stop : ℕ) (ends : (stop 
       → all ≡ earlier ++ token ∷ tokens → number ≡ length defs → length (token ∷ tokens) ≤ suc turns → HaveShortNames (token ∷ tokens)
       → (b : Bool) → is_semicolon token.token ≡ b
       → Outcome bytes all stop defs
-        (cond b (defs_at turns number tokens stop)
-        (and_defs
-          (piece_def number (cond b [] (token ∷ piece_at tokens)) (place_of (cond b (token ∷ tokens) (behind_piece tokens)) stop))
-          (defs_at turns (suc number) (cond b (token ∷ tokens) (behind_piece tokens)) stop)))
+      (cond b (defs_at turns number tokens stop)
+      (and_defs
+      (piece_def number (cond b [] (token ∷ piece_at tokens)) (place_of (cond b (token ∷ tokens) (behind_piece tokens)) stop))
+      (defs_at turns (suc number) (cond b (token ∷ tokens) (behind_piece tokens)) stop)))
   unfolding piece_def
   tell_first turns tell number open_for_more earlier token tokens defs done fits whole is_number few short true e =
       tell number true (earlier ++ token ∷ []) tokens defs
-        (done_semicolon open_for_more earlier defs token e (fits_first open_for_more token.token (bare tokens) fits) done) tt
-        (whole ∙ sym (append_assoc earlier (token ∷ []) tokens)) is_number (omega (arith, few)) short.1
+      (done_semicolon open_for_more earlier defs token e (fits_first open_for_more token.token (bare tokens) fits) done) tt
+      (whole ∙ sym (append_assoc earlier (token ∷ []) tokens)) is_number (omega (arith, few)) short.1
   tell_first turns tell number false earlier token tokens defs done fits whole is_number few short false e =
       absurd (false≢true (sym e ∙ fits))
   tell_first turns tell number true earlier token tokens defs done fits whole is_number few short false e =
@@ -470,14 +470,14 @@ module _ (bytes : List ℕ) (all : List PlacedToken) (stop : ℕ) (ends : (stop 
       let within : AreWithin (bare piece) = (e, piece_within tokens) in
       let short_parts : HaveShortNames (piece ++ after) = subst HaveShortNames parts short in
       read_piece bytes all stop ends earlier defs done number is_number token (piece_at tokens) after is_all within
-        (def_at piece) (def_tells piece (short_before piece after short_parts)) (behind_fits tokens)
-        (defs_at turns (suc number) after stop)
-        (λ def done_there.
-          tell (suc number) false (earlier ++ piece) after (defs ++ def ∷ []) done_there (behind_fits tokens)
-            (is_all ∙ sym (append_assoc earlier piece after))
-            (omega (arith, is_number, length-append defs (def ∷ [])))
-            (omega (arith, few, ap length parts, length-append piece after))
-            (short_behind piece after short_parts))
+      (def_at piece) (def_tells piece (short_before piece after short_parts)) (behind_fits tokens)
+      (defs_at turns (suc number) after stop)
+      (λ def done_there.
+      tell (suc number) false (earlier ++ piece) after (defs ++ def ∷ []) done_there (behind_fits tokens)
+      (is_all ∙ sym (append_assoc earlier piece after))
+      (omega (arith, is_number, length-append defs (def ∷ [])))
+      (omega (arith, few, ap length parts, length-append piece after))
+      (short_behind piece after short_parts))
 
   -- what is read of all the tokens behind definitions that are done
   tell_all : (turns : ℕ) → TellsAll turns
@@ -488,7 +488,7 @@ module _ (bytes : List ℕ) (all : List PlacedToken) (stop : ℕ) (ends : (stop 
       absurd (omega (arith, few))
   tell_all (suc turns) number open_for_more earlier (token ∷ tokens) defs done fits whole is_number few short =
       tell_first turns (tell_all turns) number open_for_more earlier token tokens defs done fits whole is_number few short
-        (is_semicolon token.token) refl
+      (is_semicolon token.token) refl
 
   -- what is read of a file's tokens is the definitions that they spell, or their first fault
   pub defs_tell : HaveShortNames all → Outcome bytes all stop [] (defs_of all stop)

@@ -1,5 +1,5 @@
 -- A file has one first fault, or spells one list of definitions.
-use Rattle.std.proofs.Common.{◌≡◌, ℕ, zero, suc, ◌+◌, ◌≤◌, ◌<◌, List, [], ◌∷◌, ◌++◌, length, take, Bool, true, false, cond, Result, Ok, Err, ◌⊎◌, inl, inr, refl, sym, ap, subst, ◌∙◌, append_assoc, arith, length-append}
+use Rattle.std.proofs.Common.{◌≡◌, ℕ, zero, suc, ◌≤◌, ◌<◌, List, [], ◌∷◌, ◌++◌, length, take, Bool, true, false, cond, Result, Ok, Err, ◌⊎◌, inl, inr, refl, sym, ap, subst, ◌∙◌, append_assoc, arith, length-append}
 use Rattle.std.specs.Prelude.{IsUtf8}
 use Rattle.std.specs.Str.{is_utf8}
 use Rattle.std.specs.Str.Lossy.{utf8_valid_len, valid_len_up_to}
@@ -17,7 +17,7 @@ use Rattle.spec_lbnf.specs.GrammarFile.{category_tokens, SpellsDefs, AreSpelledB
 use Rattle.spec_lbnf.specs.Faults.{FileFault, too_large, not_utf8, syntax, bare, CanGoOn, HasLongCategory, token_fault, StopsBehind, at_token, at_bytes, at_end, IsFirstLong, FaultsAt, at_long, behind as goes_no_further, Spells, IsTokenFault, IsFirstFault, is_large, is_not_utf8, in_tokens}
 use Rattle.spec_lbnf.specs.FileDefinitions.{defs_of}
 use Rattle.spec_lbnf.specs.ReadingLaws.{OneListOfDefs, OneFileOfDefs, OneFirstFault, SpelledOrFaulty, DefsOrFault}
-use Rattle.spec_lbnf.proofs.BoundaryLemmas.{LacksLong, two_cuts, long_before, long_of_one, nothing_of, IsShort}
+use Rattle.spec_lbnf.proofs.BoundaryLemmas.{LacksLong, two_cuts, long_before, long_of_one, IsShort}
 use Rattle.spec_lbnf.proofs.ReaderLemmas.{HaveShortNames, bare-append}
 use Rattle.spec_lbnf.proofs.CategoryLemmas.{category_begins}
 use Rattle.spec_lbnf.proofs.DefLemmas.{one_def}
@@ -77,22 +77,22 @@ same_long front gap p q first second =
     not_earlier : length first.before ≤ length second.before
     not_earlier =
         let there : HasLongCategory (bare first.before ++ (category_tokens in_whole.cat ++ in_whole.behind)) (bare second.before)
-            = subst (λ ts. HasLongCategory ts (bare second.before)) in_whole.stands second.long in
+        = subst (λ ts. HasLongCategory ts (bare second.before)) in_whole.stands second.long in
         elim (long_of_one (bare first.before) (category_tokens in_whole.cat ++ in_whole.behind) (bare second.before)
-          in_whole.whole (category_begins in_whole.cat in_whole.behind) there) [
+        in_whole.whole (category_begins in_whole.cat in_whole.behind) there) [
           | inl has ↦
-            let in_front : HasLongCategory (bare front) (bare second.before)
-                = rw (ap bare first.split ∙ bare-append first.before (first.first ∷ first.behind))
-                  (long_before (bare first.before) (bare (first.first ∷ first.behind)) (bare second.before) has) in
-            omega (arith, first.earlier (bare second.before) in_front, bare_len second.before)
+              let in_front : HasLongCategory (bare front) (bare second.before)
+              = rw (ap bare first.split ∙ bare-append first.before (first.first ∷ first.behind))
+              (long_before (bare first.before) (bare (first.first ∷ first.behind)) (bare second.before) has) in
+              omega (arith, first.earlier (bare second.before) in_front, bare_len second.before)
           | inr has ↦
-            omega (arith, ap length has.1, length-append (bare first.before) has.0, bare_len first.before, bare_len second.before)
+              omega (arith, ap length has.1, length-append (bare first.before) has.0, bare_len first.before, bare_len second.before)
         ]
 
     next : first.first ≡ second.first
     next =
         let e : first.before ++ first.first ∷ (first.behind ++ gap) ≡ second.before ++ second.first ∷ second.behind
-            = sym (append_assoc first.before (first.first ∷ first.behind) gap) ∙ ap (λ ts. ts ++ gap) (sym first.split) ∙ second.split in
+        = sym (append_assoc first.before (first.first ∷ first.behind) gap) ∙ ap (λ ts. ts ++ gap) (sym first.split) ∙ second.split in
         same_next first.before (first.behind ++ gap) second.before second.behind first.first second.first e (omega (arith, not_later, not_earlier))
 
 -- a front is no longer front
@@ -107,10 +107,10 @@ module _ (bytes : List ℕ) (all : List PlacedToken) (stop : ℕ) where
   no_gap front [] rest fault stops split can = refl
   no_gap front (token ∷ gap) rest fault (at_token next others whole stuck is) split can =
       let e : next ∷ others ≡ token ∷ gap ++ rest
-          = append_cancel_left front (next ∷ others) (token ∷ gap ++ rest) (sym whole ∙ split ∙ append_assoc front (token ∷ gap) rest) in
+      = append_cancel_left front (next ∷ others) (token ∷ gap ++ rest) (sym whole ∙ split ∙ append_assoc front (token ∷ gap) rest) in
       let same : token ≡ next = cc e in
       let parts : bare (front ++ token ∷ gap) ≡ (bare front ++ token.token ∷ []) ++ bare gap
-          = bare-append front (token ∷ gap) ∙ sym (append_assoc (bare front) (token.token ∷ []) (bare gap)) in
+      = bare-append front (token ∷ gap) ∙ sym (append_assoc (bare front) (token.token ∷ []) (bare gap)) in
       let can_next : CanGoOn (bare front ++ token.token ∷ []) = front_goes_on (bare front ++ token.token ∷ []) (bare gap) (subst CanGoOn parts can) in
       absurd (stuck (subst (λ (t : PlacedToken). CanGoOn (bare front ++ t.token ∷ [])) same can_next))
   no_gap front (token ∷ gap) rest fault (at_bytes whole early is) split can = absurd (no_longer front gap rest token (sym whole ∙ split))
@@ -156,13 +156,13 @@ module _ (bytes : List ℕ) (all : List PlacedToken) (stop : ℕ) where
   pub one_of_tokens : (a b : FileFault) → HasFault bytes all stop a → HasFault bytes all stop b → a ≡ b
   one_of_tokens a b first second = elim (two_cuts first.front first.rest second.front second.rest (sym first.split ∙ second.split)) [
     | inl cut ↦
-      same_fault first.front cut.0 second.rest a b first.faults
+        same_fault first.front cut.0 second.rest a b first.faults
         (subst (λ ts. FaultsAt bytes all stop ts b) cut.1 second.faults)
         (second.split ∙ ap (λ ts. ts ++ second.rest) cut.1)
         (subst (λ ts. CanGoOn (bare ts)) cut.1 second.viable)
     | inr cut ↦
-      let gap : List PlacedToken = cut.0 ∷ cut.1 in
-      sym (same_fault second.front gap first.rest b a second.faults
+        let gap : List PlacedToken = cut.0 ∷ cut.1 in
+        sym (same_fault second.front gap first.rest b a second.faults
         (subst (λ ts. FaultsAt bytes all stop ts a) cut.2 first.faults)
         (first.split ∙ ap (λ ts. ts ++ first.rest) cut.2)
         (subst (λ ts. CanGoOn (bare ts)) cut.2 first.viable))
@@ -216,7 +216,7 @@ module _ (bytes : List ℕ) (tokens : List PlacedToken) (stop : ℕ) (scan : IsS
   pub scanned_tell : Outcome bytes tokens stop [] (defs_of tokens stop)
   scanned_tell =
       defs_tell bytes tokens stop (before_or_at stop (length bytes) (scan_within (length bytes) bytes tokens stop scan))
-        (scan_short (length bytes) bytes tokens stop scan)
+      (scan_short (length bytes) bytes tokens stop scan)
 
   -- the definitions that are read of tokens that reach the end of the file are those of the file
   pub defs_are : (defs : List Def) → length bytes ≤ 65536 → IsUtf8 bytes → stop ≡ length bytes → defs_of tokens stop ≡ Ok defs
@@ -283,9 +283,9 @@ one_token_fault : (bytes : List ℕ) (a b : FileFault) → IsTokenFault bytes a 
 one_token_fault bytes a b first second =
     let same = one_list (length bytes) first.tokens second.tokens bytes first.stop second.stop first.scan second.scan in
     one_of_tokens bytes second.tokens second.stop a b
-      (subst (λ n. HasFault bytes second.tokens n a) same.1
-        (subst (λ ts. HasFault bytes ts first.stop a) same.0 (has_fault bytes a first)))
-      (has_fault bytes b second)
+    (subst (λ n. HasFault bytes second.tokens n a) same.1
+    (subst (λ ts. HasFault bytes ts first.stop a) same.0 (has_fault bytes a first)))
+    (has_fault bytes b second)
 
 -- a file has at most one first fault
 pub one_first_fault : OneFirstFault
@@ -307,10 +307,10 @@ no_fault_of_spelled bytes tokens stop defs fault end spelled lacks has = by has.
     by : FaultsAt bytes tokens stop has.front fault → ⊥
     by (at_long p first is) =
         lacks (bare first.before)
-          (rw (ap bare has.split ∙ bare-append has.front has.rest) (long_before (bare has.front) (bare has.rest) (bare first.before) first.long))
+        (rw (ap bare has.split ∙ bare-append has.front has.rest) (long_before (bare has.front) (bare has.rest) (bare first.before) first.long))
     by (goes_no_further short (at_token token others whole stuck is)) =
         let parts : bare tokens ≡ (bare has.front ++ token.token ∷ []) ++ bare others
-            = ap bare whole ∙ bare-append has.front (token ∷ others) ∙ sym (append_assoc (bare has.front) (token.token ∷ []) (bare others)) in
+        = ap bare whole ∙ bare-append has.front (token ∷ others) ∙ sym (append_assoc (bare has.front) (token.token ∷ []) (bare others)) in
         stuck (bare others, defs, subst (SpellsDefs defs) parts spelled)
     by (goes_no_further short (at_bytes whole early is)) = omega (arith, early, end)
     by (goes_no_further short (at_end whole end is none)) = none defs spelled
@@ -322,8 +322,8 @@ spelled_or_faulty bytes defs fault spelled (is_not_utf8 few early is) = utf8_who
 spelled_or_faulty bytes defs fault spelled (in_tokens few utf8 is) =
     let same = one_list (length bytes) spelled.tokens is.tokens bytes (length bytes) is.stop spelled.scan is.scan in
     no_fault_of_spelled bytes is.tokens is.stop defs fault (sym same.1)
-      (subst (λ ts. SpellsDefs defs (bare ts)) same.0 spelled.spelled)
-      (subst (λ ts. LacksLong (bare ts)) same.0 spelled.short) (has_fault bytes fault is)
+    (subst (λ ts. SpellsDefs defs (bare ts)) same.0 spelled.spelled)
+    (subst (λ ts. LacksLong (bare ts)) same.0 spelled.short) (has_fault bytes fault is)
 
 -- a file spells definitions, or has a fault
 abbrev HasAnswer : List ℕ → Type 0

@@ -1,14 +1,13 @@
 -- The readers of macros, coercions and entry points tell of what the tokens spell.
-use Rattle.std.proofs.Common.{◌≡◌, ℕ, zero, suc, ◌≤◌, ◌<◌, List, [], ◌∷◌, ◌++◌, length, cond, Bool, true, false, codes, Option, Some, None, inl, inr, refl, sym, ap, subst, ◌∙◌, append_assoc, arith, length-append}
+use Rattle.std.proofs.Common.{◌≡◌, ℕ, zero, suc, ◌≤◌, ◌<◌, List, [], ◌∷◌, ◌++◌, length, cond, Bool, true, false, codes, Some, None, inl, inr, refl, sym, ap, subst, ◌∙◌, arith, length-append}
 use Rattle.std.specs.List.{AllByRecursion}
-use Rattle.std.specs.Str.{bytes_eq}
 use Rattle.std.proofs.lemmas.Bool.{false≢true}
 use Rattle.std.proofs.lemmas.List.{append-nil}
-use Rattle.std.proofs.lemmas.Option.{cond_some, none-some}
+use Rattle.std.proofs.lemmas.Option.{cond_some}
 use Rattle.spec_lbnf.specs.declared.definition.CatName.{CatName}
 use Rattle.spec_lbnf.specs.declared.definition.Def.{Def}
 use Rattle.spec_lbnf.specs.declared.definition.Def.TheVariants.{Coercions}
-use Rattle.spec_lbnf.specs.declared.token.Sign.TheVariants.{Comma, OpenBracket, CloseBracket}
+use Rattle.spec_lbnf.specs.declared.token.Sign.TheVariants.{Comma}
 use Rattle.spec_lbnf.specs.declared.token.FileToken.{FileToken}
 use Rattle.spec_lbnf.specs.declared.token.FileToken.TheVariants.{Identifier, Number, Text}
 use Rattle.spec_lbnf.specs.declared.token.FileToken.TheVariants.{Sign as SignToken}
@@ -16,12 +15,12 @@ use Rattle.spec_lbnf.specs.declared.token.PlacedToken.{PlacedToken}
 use Rattle.spec_lbnf.specs.FirstForm.{starts_upper}
 use Rattle.spec_lbnf.specs.GrammarFile.{IsCategory, IsUpperName, category_tokens, entry_tokens, nonempty_tokens, keyword}
 use Rattle.spec_lbnf.specs.Faults.{bare}
-use Rattle.spec_lbnf.specs.FileReading.{Read, got, stuck, long, Reader, next_on, ◌>>=◌, pure, sign_at, upper_name, name_at, text_value, text_at, number_value, number_at, category_at, is_word, macro_at, list_macro_at, coercions_at, more_entries_at, entries_at}
+use Rattle.spec_lbnf.specs.FileReading.{◌>>=◌, pure, sign_at, upper_name, name_at, text_value, text_at, number_value, number_at, category_at, is_word, macro_at, list_macro_at, coercions_at, more_entries_at, entries_at}
 use Rattle.spec_lbnf.proofs.BoundaryLemmas.{bracketed, category_bracketed, one_closed, nothing_closed}
 use Rattle.spec_lbnf.proofs.TokenTestLemmas.{upper_some, upper_has, text_some, number_some, word_true, word_false}
-use Rattle.spec_lbnf.proofs.ReaderLemmas.{Spelling, IsOne, IsAny, IsNothing, Follows, GoesOn, IsGot, Tells, Then, Gives, TokenOf, HaveShortNames, nothing_front, stuck_here, change_tells, then_tells, then_got, gives_tells, token_tells, token_some, some_then, some_gives, short_rest, IsBracket, one_token, one_then, one_gives, one_change}
+use Rattle.spec_lbnf.proofs.ReaderLemmas.{Spelling, IsOne, IsAny, IsNothing, GoesOn, IsGot, Tells, Then, Gives, TokenOf, HaveShortNames, nothing_front, stuck_here, change_tells, then_tells, then_got, gives_tells, token_tells, token_some, some_then, some_gives, short_rest, one_token, one_then, one_gives, one_change}
 use Rattle.spec_lbnf.proofs.CategoryLemmas.{Category, one_category, some_category, category_tells}
-use Rattle.spec_lbnf.proofs.RuleLemmas.{category_no_text, category_some, SignOf, sign_value, sign_value_is, sign_tells}
+use Rattle.spec_lbnf.proofs.RuleLemmas.{category_some, SignOf, sign_value, sign_value_is, sign_tells}
 
 -- this word stands before the rest
 abbrev pub WordOf : List ℕ → Spelling (Unit {0})
@@ -50,24 +49,24 @@ text_tells : (tokens : List PlacedToken) → HaveShortNames tokens → Tells IsA
 unfolding text_at
 text_tells tokens short =
     token_tells text_value (Text []) [] refl
-      (λ token text has is. let same = text_some token text has in elim is [ inl e ↦ cc (same, e) | inr e ↦ cc (same, e) ])
-      tokens short
+    (λ token text has is. let same = text_some token text has in elim is [ inl e ↦ cc (same, e) | inr e ↦ cc (same, e) ])
+    tokens short
 
 -- a reader of a number tells of it
 number_tells : (tokens : List PlacedToken) → HaveShortNames tokens → Tells IsAny (TokenOf number_value) tokens (number_at tokens)
 unfolding number_at
 number_tells tokens short =
     token_tells number_value (Number 0) 0 refl
-      (λ token number has is. let same = number_some token number has in elim is [ inl e ↦ cc (same, e) | inr e ↦ cc (same, e) ])
-      tokens short
+    (λ token number has is. let same = number_some token number has in elim is [ inl e ↦ cc (same, e) | inr e ↦ cc (same, e) ])
+    tokens short
 
 -- a reader of an upper-case name tells of it
 name_tells : (tokens : List PlacedToken) → HaveShortNames tokens → Tells IsAny (TokenOf upper_name) tokens (name_at tokens)
 unfolding name_at
 name_tells tokens short =
     token_tells upper_name (Identifier (codes "A")) (codes "A") refl
-      (λ token name has is. let same = (upper_some token name has).0 in elim is [ inl e ↦ cc (same, e) | inr e ↦ cc (same, e) ])
-      tokens short
+    (λ token name has is. let same = (upper_some token name has).0 in elim is [ inl e ↦ cc (same, e) | inr e ↦ cc (same, e) ])
+    tokens short
 
 module _ (def_of : CatName → List ℕ → Def) where
   -- a category and a string stand before the rest, and give this definition
@@ -97,7 +96,7 @@ module _ (def_of : CatName → List ℕ → Def) where
   pub one_macro : IsOne MacroOf
   one_macro = one_change MacroParts MacroOf
       (one_then Category (λ cat. Gives (def_of cat) (TokenOf text_value)) one_category
-        (λ cat. one_gives (def_of cat) (TokenOf text_value) (one_token text_value)))
+      (λ cat. one_gives (def_of cat) (TokenOf text_value) (one_token text_value)))
       macro_back
 
   -- some string can be read behind a category
@@ -115,13 +114,13 @@ module _ (def_of : CatName → List ℕ → Def) where
   unfolding macro_at
   macro_tells tokens short =
       change_tells IsAny MacroParts MacroOf tokens _ macro_forth (λ a others rest follows. macro_back a others rest)
-        (then_tells IsAny Category (λ cat. Gives (def_of cat) (TokenOf text_value)) tokens
-          (λ cat. text_at >>= (λ word. pure (def_of cat word))) one_category some_text
-          (λ cat rest is. gives_tells IsAny (TokenOf text_value) (def_of cat) rest (text_at rest)
-            (text_tells rest (short_rest IsAny Category cat tokens rest is short)))
-          (category_at tokens) (category_tells tokens))
+      (then_tells IsAny Category (λ cat. Gives (def_of cat) (TokenOf text_value)) tokens
+      (λ cat. text_at >>= (λ word. pure (def_of cat word))) one_category some_text
+      (λ cat rest is. gives_tells IsAny (TokenOf text_value) (def_of cat) rest (text_at rest)
+      (text_tells rest (short_rest IsAny Category cat tokens rest is short)))
+      (category_at tokens) (category_tells tokens))
 
--- a category begins with no word of the notation
+-- a bracketed name begins with no word of the notation
 bracketed_no_word : (opens : ℕ) (name word : List ℕ) (behind other : List FileToken) → IsUpperName name → starts_upper word ≡ false
     → bracketed opens name behind ≡ Identifier word ∷ other → ⊥
 bracketed_no_word zero name word behind other upper lower e =
@@ -129,6 +128,7 @@ bracketed_no_word zero name word behind other upper lower e =
     false≢true (sym lower ∙ ap starts_upper (sym same) ∙ upper)
 bracketed_no_word (suc opens) name word behind other upper lower e = cc e
 
+-- neither does a category
 pub category_no_word : (cat : CatName) (word : List ℕ) (behind other : List FileToken) → IsCategory cat → starts_upper word ≡ false
     → category_tokens cat ++ behind ≡ Identifier word ∷ other → ⊥
 category_no_word cat word behind other upper lower e =
@@ -168,16 +168,19 @@ module _ (def_of : Bool → CatName → List ℕ → Def) where
   -- some macro of lists can be read
   pub some_list_macro : GoesOn IsAny ListMacroOf []
   some_list_macro =
-      let macro = some_macro (def_of false) in
-      (macro.0, macro.1, λ others may.
-        let is = macro.2 others may in (false, is.0, is.1, is.2, is.3, is.4))
+      let macro = some_macro (def_of false) in (
+        macro.0,
+        macro.1,
+        λ others may.
+            let is = macro.2 others may in (false, is.0, is.1, is.2, is.3, is.4),
+      )
 
   -- the reader of a macro of lists tells of it
   pub list_macro_tells : (tokens : List PlacedToken) → HaveShortNames tokens → Tells IsAny ListMacroOf tokens (list_macro_at def_of tokens)
   unfolding list_macro_at
   list_macro_tells [] short =
       stuck_here IsAny ListMacroOf [] nothing_front some_list_macro
-        (λ others def behind follows is. by behind is.0 is.1 is.2 (sym is.5 ∙ follows))
+      (λ others def behind follows is. by behind is.0 is.1 is.2 (sym is.5 ∙ follows))
     where
       by : (behind : List FileToken) (n : Bool) (cat : CatName) (word : List ℕ)
           → nonempty_tokens n ++ (category_tokens cat ++ (Text word ∷ behind)) ≡ [] → ⊥
@@ -190,17 +193,17 @@ module _ (def_of : Bool → CatName → List ℕ → Def) where
       by true e =
           let is = word_true (codes "nonempty") token.token e in
           change_tells IsAny (Then (WordOf (codes "nonempty")) (λ done. MacroOf (def_of true))) ListMacroOf (token ∷ tokens)
-            (macro_at (def_of true) tokens)
-            (λ def others rest parts.
-              let macro = parts.3 in
-              let head = word_of (codes "nonempty") parts.2.0 parts.0 parts.2.1 in
-              let whole = parts.2.2 ∙ (λ i. head i ∷ macro.4 i) in
-              (true, macro.0, macro.1, macro.2, macro.3, whole))
-            (λ def others rest follows spelled.
-              back spelled.0 spelled.1 spelled.2 def others rest follows.0 is follows.1 spelled.3 spelled.4 spelled.5)
-            (then_got IsAny (WordOf (codes "nonempty")) (λ done. MacroOf (def_of true)) tt (token ∷ tokens) tokens
-              (one_token _) (word_got (codes "nonempty") token tokens e short) (macro_at (def_of true) tokens)
-              (macro_tells (def_of true) tokens short.1))
+          (macro_at (def_of true) tokens)
+          (λ def others rest parts.
+          let macro = parts.3 in
+          let head = word_of (codes "nonempty") parts.2.0 parts.0 parts.2.1 in
+          let whole = parts.2.2 ∙ (λ i. head i ∷ macro.4 i) in
+          (true, macro.0, macro.1, macro.2, macro.3, whole))
+          (λ def others rest follows spelled.
+          back spelled.0 spelled.1 spelled.2 def others rest follows.0 is follows.1 spelled.3 spelled.4 spelled.5)
+          (then_got IsAny (WordOf (codes "nonempty")) (λ done. MacroOf (def_of true)) tt (token ∷ tokens) tokens
+          (one_token _) (word_got (codes "nonempty") token tokens e short) (macro_at (def_of true) tokens)
+          (macro_tells (def_of true) tokens short.1))
         where
           back : (n : Bool) (cat : CatName) (word : List ℕ) (def : Def) (others rest more : List FileToken)
               → token.token ≡ keyword (codes "nonempty") → others ≡ token.token ∷ more → IsCategory cat → def ≡ def_of n cat word
@@ -212,9 +215,9 @@ module _ (def_of : Bool → CatName → List ℕ → Def) where
               absurd (plain_no_word cat (Text word ∷ rest) more token.token is_cat is (sym whole ∙ begins))
       by false e =
           change_tells IsAny (MacroOf (def_of false)) ListMacroOf (token ∷ tokens) (macro_at (def_of false) (token ∷ tokens))
-            (λ def others rest is. (false, is.0, is.1, is.2, is.3, is.4))
-            (λ def others rest follows is. back is.0 is.1 is.2 def others rest follows.0 follows.1 is.3 is.4 is.5)
-            (macro_tells (def_of false) (token ∷ tokens) short)
+          (λ def others rest is. (false, is.0, is.1, is.2, is.3, is.4))
+          (λ def others rest follows is. back is.0 is.1 is.2 def others rest follows.0 follows.1 is.3 is.4 is.5)
+          (macro_tells (def_of false) (token ∷ tokens) short)
         where
           back : (n : Bool) (cat : CatName) (word : List ℕ) (def : Def) (others rest more : List FileToken)
               → others ≡ token.token ∷ more → IsCategory cat → def ≡ def_of n cat word
@@ -251,7 +254,7 @@ coercions_back def tokens rest is =
 pub one_coercions : IsOne CoercionsOf
 one_coercions = one_change CoercionsParts CoercionsOf
     (one_then (TokenOf upper_name) (λ name. Gives (Coercions name) (TokenOf number_value)) (one_token upper_name)
-      (λ name. one_gives (Coercions name) (TokenOf number_value) (one_token number_value)))
+    (λ name. one_gives (Coercions name) (TokenOf number_value) (one_token number_value)))
     coercions_back
 
 -- some levels can be read
@@ -268,11 +271,11 @@ pub coercions_tell : (tokens : List PlacedToken) → HaveShortNames tokens → T
 unfolding coercions_at
 coercions_tell tokens short =
     change_tells IsAny CoercionsParts CoercionsOf tokens _ coercions_forth (λ a others rest follows. coercions_back a others rest)
-      (then_tells IsAny (TokenOf upper_name) (λ name. Gives (Coercions name) (TokenOf number_value)) tokens
-        (λ name. number_at >>= (λ levels. pure (Coercions name levels))) (one_token upper_name) some_levels
-        (λ name rest is. gives_tells IsAny (TokenOf number_value) (Coercions name) rest (number_at rest)
-          (number_tells rest (short_rest IsAny (TokenOf upper_name) name tokens rest is short)))
-        (name_at tokens) (name_tells tokens short))
+    (then_tells IsAny (TokenOf upper_name) (λ name. Gives (Coercions name) (TokenOf number_value)) tokens
+    (λ name. number_at >>= (λ levels. pure (Coercions name levels))) (one_token upper_name) some_levels
+    (λ name rest is. gives_tells IsAny (TokenOf number_value) (Coercions name) rest (number_at rest)
+    (number_tells rest (short_rest IsAny (TokenOf upper_name) name tokens rest is short)))
+    (name_at tokens) (name_tells tokens short))
 
 -- the tokens of categories behind a comma each
 abbrev more_tokens : List CatName → List FileToken
@@ -288,13 +291,15 @@ entry_more cat (next ∷ cats) = ap (λ zs. category_tokens cat ++ (SignToken Co
 abbrev MoreOf : Spelling (List CatName)
 MoreOf cats tokens rest = AllByRecursion IsCategory cats × (tokens ≡ more_tokens cats) × (rest ≡ [])
 
--- the category behind a comma, and more of them
+-- behind the category that stands behind a comma: more of them
 abbrev BehindCommaCategory : CatName → Spelling (List CatName)
 BehindCommaCategory cat = Gives (λ cats. cat ∷ cats) MoreOf
 
+-- a category behind a comma, and more behind it
 abbrev BehindComma : Spelling (List CatName)
 BehindComma = Then Category BehindCommaCategory
 
+-- a comma, and what is behind it
 abbrev MoreParts : Spelling (List CatName)
 MoreParts = Then (SignOf Comma) (λ done. BehindComma)
 
@@ -324,6 +329,7 @@ some_more = ([], [], λ others none. (tt, none, none))
 some_behind_category : (cat : CatName) → GoesOn IsNothing (BehindCommaCategory cat) []
 some_behind_category cat = some_gives IsNothing (λ cats. cat ∷ cats) MoreOf some_more
 
+-- something can be read behind a comma
 some_behind_comma : GoesOn IsNothing BehindComma []
 some_behind_comma = some_then IsNothing Category BehindCommaCategory some_behind_category some_category
 
@@ -353,21 +359,21 @@ more_tell turns [] few short = record {
 more_tell zero (token ∷ tokens) few short = absurd (omega (arith, few))
 more_tell (suc turns) (token ∷ tokens) few short =
     change_tells IsNothing MoreParts MoreOf (token ∷ tokens) _ more_forth
-      (λ a others rest follows is. more_back a token.token follows.0 others rest follows.1 is)
-      (then_tells IsNothing (SignOf Comma) (λ done. BehindComma) (token ∷ tokens)
-        (λ comma. category_at >>= (λ cat. more_entries_at turns >>= (λ cats. pure (cat ∷ cats))))
-        (one_token (sign_value Comma)) (λ done. some_behind_comma)
-        (λ done rest is.
-          let shorter = comma_shorter done (token ∷ tokens) rest is in
-          let short_there = short_rest IsAny (SignOf Comma) done (token ∷ tokens) rest is short in
-          then_tells IsNothing Category BehindCommaCategory rest
-            (λ cat. more_entries_at turns >>= (λ cats. pure (cat ∷ cats))) one_category some_behind_category
-            (λ cat last is_cat.
-              gives_tells IsNothing MoreOf (λ cats. cat ∷ cats) last (more_entries_at turns last)
-                (more_tell turns last (omega (arith, few, shorter, category_no_longer cat rest last is_cat))
-                  (short_rest IsAny Category cat rest last is_cat short_there)))
-            (category_at rest) (category_tells rest))
-        (sign_at Comma (token ∷ tokens)) (sign_tells Comma refl (λ e. cc e) (λ e. cc e) (token ∷ tokens) short))
+    (λ a others rest follows is. more_back a token.token follows.0 others rest follows.1 is)
+    (then_tells IsNothing (SignOf Comma) (λ done. BehindComma) (token ∷ tokens)
+    (λ comma. category_at >>= (λ cat. more_entries_at turns >>= (λ cats. pure (cat ∷ cats))))
+    (one_token (sign_value Comma)) (λ done. some_behind_comma)
+    (λ done rest is.
+    let shorter = comma_shorter done (token ∷ tokens) rest is in
+    let short_there = short_rest IsAny (SignOf Comma) done (token ∷ tokens) rest is short in
+    then_tells IsNothing Category BehindCommaCategory rest
+    (λ cat. more_entries_at turns >>= (λ cats. pure (cat ∷ cats))) one_category some_behind_category
+    (λ cat last is_cat.
+    gives_tells IsNothing MoreOf (λ cats. cat ∷ cats) last (more_entries_at turns last)
+    (more_tell turns last (omega (arith, few, shorter, category_no_longer cat rest last is_cat))
+    (short_rest IsAny Category cat rest last is_cat short_there)))
+    (category_at rest) (category_tells rest))
+    (sign_at Comma (token ∷ tokens)) (sign_tells Comma refl (λ e. cc e) (λ e. cc e) (token ∷ tokens) short))
 
 -- tokens are at most one list of categories behind a comma each
 one_more : IsOne MoreOf
@@ -397,7 +403,7 @@ entries_forth : (cats : List CatName) (tokens rest : List FileToken) → Entries
 entries_forth cats tokens rest is =
     let more = is.3 in
     let whole : tokens ≡ entry_tokens (is.0 ∷ more.0)
-        = is.2.1 ∙ ap (λ zs. category_tokens is.0 ++ zs) more.2.1 ∙ sym (entry_more is.0 more.0) in
+    = is.2.1 ∙ ap (λ zs. category_tokens is.0 ++ zs) more.2.1 ∙ sym (entry_more is.0 more.0) in
     let EntriesAre : List CatName → Type 0 = λ cats. EntriesOf cats tokens rest in
     subst EntriesAre (sym more.1) (omega arith, (is.2.0, more.2.0), whole, more.2.2)
 
@@ -424,9 +430,9 @@ pub entries_tell : (tokens : List PlacedToken) → HaveShortNames tokens → Tel
 unfolding entries_at
 entries_tell tokens short =
     change_tells IsNothing EntriesParts EntriesOf tokens _ entries_forth (λ a others rest follows. entries_back a others rest)
-      (then_tells IsNothing Category BehindCommaCategory tokens
-        (λ cat. more_entries_at (length tokens) >>= (λ cats. pure (cat ∷ cats))) one_category some_behind_category
-        (λ cat rest is.
-          gives_tells IsNothing MoreOf (λ cats. cat ∷ cats) rest (more_entries_at (length tokens) rest)
-            (more_tell (length tokens) rest (category_no_longer cat tokens rest is) (short_rest IsAny Category cat tokens rest is short)))
-        (category_at tokens) (category_tells tokens))
+    (then_tells IsNothing Category BehindCommaCategory tokens
+    (λ cat. more_entries_at (length tokens) >>= (λ cats. pure (cat ∷ cats))) one_category some_behind_category
+    (λ cat rest is.
+    gives_tells IsNothing MoreOf (λ cats. cat ∷ cats) rest (more_entries_at (length tokens) rest)
+    (more_tell (length tokens) rest (category_no_longer cat tokens rest is) (short_rest IsAny Category cat tokens rest is short)))
+    (category_at tokens) (category_tells tokens))

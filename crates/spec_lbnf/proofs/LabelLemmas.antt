@@ -1,5 +1,5 @@
 -- The reader of a label tells of the label that the tokens begin with.
-use Rattle.std.proofs.Common.{◌≡◌, ℕ, zero, suc, ◌≤◌, List, [], ◌∷◌, ◌++◌, cond, Bool, true, false, codes, Option, Some, None, ◌⊎◌, inl, inr, refl, sym, ap, subst, ◌∙◌, ◌||◌}
+use Rattle.std.proofs.Common.{◌≡◌, ℕ, List, [], ◌∷◌, ◌++◌, cond, Bool, true, false, Option, Some, None, ◌⊎◌, inl, inr, refl, sym, ap, subst, ◌∙◌}
 use Rattle.std.specs.List.{list_any}
 use Rattle.std.proofs.lemmas.Bool.{false≢true}
 use Rattle.std.proofs.lemmas.Option.{same_Some}
@@ -15,8 +15,8 @@ use Rattle.spec_lbnf.specs.declared.token.PlacedToken.{PlacedToken}
 use Rattle.spec_lbnf.specs.GrammarFile.{IsLabel, IsUpperName, label_tokens}
 use Rattle.spec_lbnf.specs.Faults.{bare, EndsOpen}
 use Rattle.spec_lbnf.specs.FileReading.{Read, got, stuck, long, next_on, pure, take_token, take_or_stick, is_sign, sign_at, upper_name, nil_at, one_at, colon_label_at, paren_label_at, sign_label_at, label_by, label_at}
-use Rattle.spec_lbnf.proofs.BoundaryLemmas.{IsClosed, IsOpenFront, BeginsClosed, is_name, lacks_without_names, one_closed, closed_front, nothing_closed}
-use Rattle.spec_lbnf.proofs.TokenTestLemmas.{sign_true, sign_same, sign_false, upper_some, upper_none}
+use Rattle.spec_lbnf.proofs.BoundaryLemmas.{IsClosed, IsOpenFront, BeginsClosed, is_name, lacks_without_names, one_closed}
+use Rattle.spec_lbnf.proofs.TokenTestLemmas.{sign_true, sign_false, upper_some, upper_none}
 use Rattle.spec_lbnf.proofs.ReaderLemmas.{Spelling, IsOne, IsAny, Follows, GoesOn, IsGot, IsStuckAt, Tells, HaveShortNames, nothing_front, stuck_here}
 use Rattle.spec_lbnf.proofs.CategoryLemmas.{BeginsNot, follows_not}
 
@@ -126,7 +126,7 @@ nil_only One others behind is = absurd (cc is.1)
 paren_only : (label : Label) (others behind : List FileToken) → LabelOf label (SignToken OpenParen ∷ others) behind
     → (more : List FileToken) × (others ≡ SignToken Colon ∷ more)
     × ((more ≡ SignToken CloseParen ∷ behind)
-      ⊎ (more ≡ SignToken OpenBracket ∷ SignToken CloseBracket ∷ SignToken CloseParen ∷ behind))
+    ⊎ (more ≡ SignToken OpenBracket ∷ SignToken CloseBracket ∷ SignToken CloseParen ∷ behind))
 paren_only (Named name) others behind is = absurd (cc is.1)
 paren_only Wild others behind is = absurd (cc is.1)
 paren_only Nil others behind is = absurd (cc is.1)
@@ -195,12 +195,12 @@ module _ (start : PlacedToken) (tokens : List PlacedToken) where
   unfolding next_on
   nil_tells is (got done rest) reads =
       label_got Nil (start ∷ tokens) (start ∷ reads.0 ∷ []) rest (whole_of (reads.0 ∷ []) rest reads.1)
-        (λ i. is i ∷ reads.2 i ∷ []) tt (plain_closed (label_tokens Nil) refl refl refl)
+      (λ i. is i ∷ reads.2 i ∷ []) tt (plain_closed (label_tokens Nil) refl refl refl)
   nil_tells is (stuck rest) reads =
       label_stuck (start ∷ tokens) (start ∷ []) rest (SignToken OpenBracket ∷ []) (SignToken CloseBracket ∷ []) Nil
-        (whole_of [] rest reads.0) (λ i. is i ∷ []) refl refl tt (λ others. refl)
-        (λ others label behind follows spelled.
-          follows_not (SignToken CloseBracket) rest others behind reads.1 follows (nil_only label others behind spelled))
+      (whole_of [] rest reads.0) (λ i. is i ∷ []) refl refl tt (λ others. refl)
+      (λ others label behind follows spelled.
+      follows_not (SignToken CloseBracket) rest others behind reads.1 follows (nil_only label others behind spelled))
   nil_tells is (long rest) reads = absurd reads
 
   module _ (is : start.token ≡ SignToken OpenParen) (colon : PlacedToken) (behind_colon : List PlacedToken)
@@ -213,19 +213,19 @@ module _ (start : PlacedToken) (tokens : List PlacedToken) where
     unfolding next_on
     end_tells open_token close_token rest e is_open is_close (got done last) reads =
         label_got One (start ∷ tokens) (start ∷ colon ∷ open_token ∷ close_token ∷ reads.0 ∷ []) last
-          (whole_of (colon ∷ open_token ∷ close_token ∷ reads.0 ∷ []) last
-            (whole ∙ ap (λ ts. colon ∷ ts) (e ∙ ap (λ ts. open_token ∷ close_token ∷ ts) reads.1)))
-          (λ i. is i ∷ is_colon i ∷ is_open i ∷ is_close i ∷ reads.2 i ∷ []) tt (plain_closed (label_tokens One) refl refl refl)
+        (whole_of (colon ∷ open_token ∷ close_token ∷ reads.0 ∷ []) last
+        (whole ∙ ap (λ ts. colon ∷ ts) (e ∙ ap (λ ts. open_token ∷ close_token ∷ ts) reads.1)))
+        (λ i. is i ∷ is_colon i ∷ is_open i ∷ is_close i ∷ reads.2 i ∷ []) tt (plain_closed (label_tokens One) refl refl refl)
     end_tells open_token close_token rest e is_open is_close (stuck last) reads =
         label_stuck (start ∷ tokens) (start ∷ colon ∷ open_token ∷ close_token ∷ []) last
-          (SignToken OpenParen ∷ SignToken Colon ∷ SignToken OpenBracket ∷ SignToken CloseBracket ∷ [])
-          (SignToken CloseParen ∷ []) One
-          (whole_of (colon ∷ open_token ∷ close_token ∷ []) last
-            (whole ∙ ap (λ ts. colon ∷ ts) (e ∙ ap (λ ts. open_token ∷ close_token ∷ ts) reads.0)))
-          (λ i. is i ∷ is_colon i ∷ is_open i ∷ is_close i ∷ []) refl refl tt (λ others. refl)
-          (λ others label behind follows spelled.
-            let only = one_only label (SignToken CloseBracket ∷ others) behind spelled in
-            follows_not (SignToken CloseParen) last others behind reads.1 follows (cc only))
+        (SignToken OpenParen ∷ SignToken Colon ∷ SignToken OpenBracket ∷ SignToken CloseBracket ∷ [])
+        (SignToken CloseParen ∷ []) One
+        (whole_of (colon ∷ open_token ∷ close_token ∷ []) last
+        (whole ∙ ap (λ ts. colon ∷ ts) (e ∙ ap (λ ts. open_token ∷ close_token ∷ ts) reads.0)))
+        (λ i. is i ∷ is_colon i ∷ is_open i ∷ is_close i ∷ []) refl refl tt (λ others. refl)
+        (λ others label behind follows spelled.
+        let only = one_only label (SignToken CloseBracket ∷ others) behind spelled in
+        follows_not (SignToken CloseParen) last others behind reads.1 follows (cc only))
     end_tells open_token close_token rest e is_open is_close (long last) reads = absurd reads
 
     -- the close bracket of the label of one element
@@ -235,16 +235,16 @@ module _ (start : PlacedToken) (tokens : List PlacedToken) where
     unfolding next_on
     one_tells open_token rest e is_open (got done last) reads =
         end_tells open_token reads.0 last (e ∙ ap (λ ts. open_token ∷ ts) reads.1) is_open reads.2
-          (sign_at CloseParen last) (sign_reads CloseParen last)
+        (sign_at CloseParen last) (sign_reads CloseParen last)
     one_tells open_token rest e is_open (stuck last) reads =
         label_stuck (start ∷ tokens) (start ∷ colon ∷ open_token ∷ []) last
-          (SignToken OpenParen ∷ SignToken Colon ∷ SignToken OpenBracket ∷ [])
-          (SignToken CloseBracket ∷ SignToken CloseParen ∷ []) One
-          (whole_of (colon ∷ open_token ∷ []) last (whole ∙ ap (λ ts. colon ∷ ts) (e ∙ ap (λ ts. open_token ∷ ts) reads.0)))
-          (λ i. is i ∷ is_colon i ∷ is_open i ∷ []) refl refl tt (λ others. refl)
-          (λ others label behind follows spelled.
-            follows_not (SignToken CloseBracket) last others (SignToken CloseParen ∷ behind) reads.1 follows
-              (one_only label others behind spelled))
+        (SignToken OpenParen ∷ SignToken Colon ∷ SignToken OpenBracket ∷ [])
+        (SignToken CloseBracket ∷ SignToken CloseParen ∷ []) One
+        (whole_of (colon ∷ open_token ∷ []) last (whole ∙ ap (λ ts. colon ∷ ts) (e ∙ ap (λ ts. open_token ∷ ts) reads.0)))
+        (λ i. is i ∷ is_colon i ∷ is_open i ∷ []) refl refl tt (λ others. refl)
+        (λ others label behind follows spelled.
+        follows_not (SignToken CloseBracket) last others (SignToken CloseParen ∷ behind) reads.1 follows
+        (one_only label others behind spelled))
     one_tells open_token rest e is_open (long last) reads = absurd reads
 
     -- the reader stops behind the colon
@@ -252,12 +252,12 @@ module _ (start : PlacedToken) (tokens : List PlacedToken) where
         → IsStuckAt IsAny LabelOf (start ∷ tokens) behind_colon
     stuck_at_colon no_close no_open =
         label_stuck (start ∷ tokens) (start ∷ colon ∷ []) behind_colon
-          (SignToken OpenParen ∷ SignToken Colon ∷ []) (SignToken CloseParen ∷ []) Cons
-          (whole_of (colon ∷ []) behind_colon whole) (λ i. is i ∷ is_colon i ∷ []) refl refl tt (λ others. refl)
-          (λ others label behind follows spelled. elim (colon_only label others behind spelled) [
-            | inl e ↦ follows_not (SignToken CloseParen) behind_colon others behind no_close follows e
-            | inr e ↦ follows_not (SignToken OpenBracket) behind_colon others (SignToken CloseBracket ∷ SignToken CloseParen ∷ behind) no_open follows e
-          ])
+        (SignToken OpenParen ∷ SignToken Colon ∷ []) (SignToken CloseParen ∷ []) Cons
+        (whole_of (colon ∷ []) behind_colon whole) (λ i. is i ∷ is_colon i ∷ []) refl refl tt (λ others. refl)
+        (λ others label behind follows spelled. elim (colon_only label others behind spelled) [
+          | inl e ↦ follows_not (SignToken CloseParen) behind_colon others behind no_close follows e
+          | inr e ↦ follows_not (SignToken OpenBracket) behind_colon others (SignToken CloseBracket ∷ SignToken CloseParen ∷ behind) no_open follows e
+        ])
 
   -- behind the colon
   colon_tells : start.token ≡ SignToken OpenParen → (colon : PlacedToken) (rest : List PlacedToken)
@@ -271,17 +271,17 @@ module _ (start : PlacedToken) (tokens : List PlacedToken) where
           → Tells IsAny LabelOf (start ∷ tokens) (cond b (one_at rest) (stuck (token ∷ rest)))
       by_open true e not_close =
           one_tells is colon (token ∷ rest) whole is_colon token rest refl (sign_true OpenBracket token.token e)
-            (sign_at CloseBracket rest) (sign_reads CloseBracket rest)
+          (sign_at CloseBracket rest) (sign_reads CloseBracket rest)
       by_open false e not_close =
           stuck_at_colon is colon (token ∷ rest) whole is_colon
-            (sign_false CloseParen token.token not_close) (sign_false OpenBracket token.token e)
+          (sign_false CloseParen token.token not_close) (sign_false OpenBracket token.token e)
 
       by : (b : Bool) → is_sign CloseParen token.token ≡ b
           → Tells IsAny LabelOf (start ∷ tokens) (cond b (got Cons rest) (cond (is_sign OpenBracket token.token) (one_at rest) (stuck (token ∷ rest))))
       by true e =
           let close = sign_true CloseParen token.token e in
           label_got Cons (start ∷ tokens) (start ∷ colon ∷ token ∷ []) rest (whole_of (colon ∷ token ∷ []) rest whole)
-            (λ i. is i ∷ is_colon i ∷ close i ∷ []) tt (plain_closed (label_tokens Cons) refl refl refl)
+          (λ i. is i ∷ is_colon i ∷ close i ∷ []) tt (plain_closed (label_tokens Cons) refl refl refl)
       by false e = by_open (is_sign OpenBracket token.token) refl e
 
   -- behind an open parenthesis
@@ -291,10 +291,10 @@ module _ (start : PlacedToken) (tokens : List PlacedToken) where
   paren_tells is (got done rest) reads = colon_tells is reads.0 rest reads.1 reads.2
   paren_tells is (stuck rest) reads =
       label_stuck (start ∷ tokens) (start ∷ []) rest (SignToken OpenParen ∷ []) (SignToken Colon ∷ SignToken CloseParen ∷ []) Cons
-        (whole_of [] rest reads.0) (λ i. is i ∷ []) refl refl tt (λ others. refl)
-        (λ others label behind follows spelled.
-          let only = paren_only label others behind spelled in
-          follows_not (SignToken Colon) rest others only.0 reads.1 follows only.1)
+      (whole_of [] rest reads.0) (λ i. is i ∷ []) refl refl tt (λ others. refl)
+      (λ others label behind follows spelled.
+      let only = paren_only label others behind spelled in
+      follows_not (SignToken Colon) rest others only.0 reads.1 follows only.1)
   paren_tells is (long rest) reads = absurd reads
 
   -- a label that is no name, by its first token
@@ -309,20 +309,20 @@ module _ (start : PlacedToken) (tokens : List PlacedToken) where
           paren_tells (sign_true OpenParen start.token e) (sign_at Colon tokens) (sign_reads Colon tokens)
       by_paren false e no_open no_wild =
           stuck_here IsAny LabelOf (start ∷ tokens) nothing_front some_label
-            (no_label (start ∷ tokens) (λ name upper is. upper_none start.token name none is upper)
-              (sign_false Underscore start.token no_wild) (sign_false OpenBracket start.token no_open) (sign_false OpenParen start.token e))
+          (no_label (start ∷ tokens) (λ name upper is. upper_none start.token name none is upper)
+          (sign_false Underscore start.token no_wild) (sign_false OpenBracket start.token no_open) (sign_false OpenParen start.token e))
 
       by_open : (b : Bool) → is_sign OpenBracket start.token ≡ b → is_sign Underscore start.token ≡ false
           → Tells IsAny LabelOf (start ∷ tokens)
-            (cond b (nil_at tokens) (cond (is_sign OpenParen start.token) (paren_label_at tokens) (stuck (start ∷ tokens))))
+          (cond b (nil_at tokens) (cond (is_sign OpenParen start.token) (paren_label_at tokens) (stuck (start ∷ tokens))))
       by_open true e no_wild =
           nil_tells (sign_true OpenBracket start.token e) (sign_at CloseBracket tokens) (sign_reads CloseBracket tokens)
       by_open false e no_wild = by_paren (is_sign OpenParen start.token) refl e no_wild
 
       by_wild : (b : Bool) → is_sign Underscore start.token ≡ b
           → Tells IsAny LabelOf (start ∷ tokens)
-            (cond b (got Wild tokens) (cond (is_sign OpenBracket start.token) (nil_at tokens)
-            (cond (is_sign OpenParen start.token) (paren_label_at tokens) (stuck (start ∷ tokens)))))
+          (cond b (got Wild tokens) (cond (is_sign OpenBracket start.token) (nil_at tokens)
+          (cond (is_sign OpenParen start.token) (paren_label_at tokens) (stuck (start ∷ tokens)))))
       by_wild true e =
           let wild = sign_true Underscore start.token e in
           label_got Wild (start ∷ tokens) (start ∷ []) tokens refl (λ i. wild i ∷ []) tt (plain_closed (label_tokens Wild) refl refl refl)
@@ -339,6 +339,6 @@ label_tells (token ∷ tokens) short = by (upper_name token.token) refl
     by (Some name) e =
         let is = upper_some token.token name e in
         let own : IsClosed (Identifier name ∷ []) =
-          one_closed (Identifier name) (λ same. cc same) (λ same. cc same) (rw is.0 at short.0) in
+        one_closed (Identifier name) (λ same. cc same) (λ same. cc same) (rw is.0 at short.0) in
         label_got (Named name) (token ∷ tokens) (token ∷ []) tokens refl (λ i. is.0 i ∷ []) is.1 own
     by None e = sign_label_tells token tokens e

@@ -24,3 +24,6 @@ pub mod SignLemmas
 pub mod RunTokenLemmas
 pub mod ScanLemmas
 pub mod FaultLemmas
+pub mod LeastLemmas
+pub mod DefSizeLemmas
+pub mod SmallLemmas

@@ -1,10 +1,9 @@
 -- The pieces of a file's tokens, and that no definition has a semicolon among its tokens.
-use Rattle.std.proofs.Common.{◌≡◌, ℕ, zero, suc, List, [], ◌∷◌, ◌++◌, length, filter, Bool, true, false, not, ◌||◌, cond, inl, inr, refl, sym, ap, subst, ◌∙◌, append_assoc, arith}
+use Rattle.std.proofs.Common.{◌≡◌, ℕ, zero, suc, List, [], ◌∷◌, ◌++◌, length, filter, Bool, true, false, not, ◌||◌, cond, refl, sym, ap, subst, ◌∙◌}
 use Rattle.std.specs.Prelude.{replicate}
 use Rattle.std.specs.List.{flat_map, AllByRecursion, slice_split, onto_first, list_any}
 use Rattle.std.proofs.lemmas.Bool.{false≢true}
 use Rattle.std.proofs.lemmas.List.{append-nil}
-use Rattle.std.proofs.lemmas.List.Elements.{recursion_from_All, filter-append}
 use Rattle.spec_grammar.specs.declared.rule.Label.{Label}
 use Rattle.spec_grammar.specs.declared.rule.Label.TheVariants.{Named, Wild, Nil, Cons, One}
 use Rattle.spec_lbnf.specs.declared.definition.CatName.{CatName}
@@ -14,12 +13,11 @@ use Rattle.spec_lbnf.specs.declared.definition.Def.TheVariants.{Rule, Internal, 
 use Rattle.spec_lbnf.specs.declared.token.Sign.{Sign}
 use Rattle.spec_lbnf.specs.declared.token.Sign.TheVariants.{Semicolon, OpenBracket, CloseBracket}
 use Rattle.spec_lbnf.specs.declared.token.FileToken.{FileToken}
-use Rattle.spec_lbnf.specs.declared.token.FileToken.TheVariants.{Identifier, Number, Text}
+use Rattle.spec_lbnf.specs.declared.token.FileToken.TheVariants.{Identifier, Text}
 use Rattle.spec_lbnf.specs.declared.token.FileToken.TheVariants.{Sign as SignToken}
 use Rattle.spec_lbnf.specs.Words.{is_empty}
-use Rattle.spec_lbnf.specs.GrammarFile.{label_tokens, category_tokens, WrittenItem, category, string, written_tokens, entry_tokens, nonempty_tokens, SpellsItems, SpellsRule, SpellsDef, is_semicolon, pieces_of, AreSpelledBy}
+use Rattle.spec_lbnf.specs.GrammarFile.{label_tokens, category_tokens, WrittenItem, category, string, written_tokens, entry_tokens, nonempty_tokens, SpellsRule, SpellsDef, is_semicolon, pieces_of, AreSpelledBy}
 use Rattle.spec_lbnf.specs.Faults.{last_piece}
-use Rattle.spec_lbnf.proofs.DefLemmas.{def_some}
 
 -- no token is a semicolon
 abbrev pub AreWithin : List FileToken → Type 0
@@ -44,7 +42,7 @@ within_brackets (suc count) sign h = (h, within_brackets count sign h)
 within_category : (cat : CatName) → AreWithin (category_tokens cat)
 within_category cat =
     within_both (replicate cat.depth (SignToken OpenBracket)) (Identifier cat.name ∷ replicate cat.depth (SignToken CloseBracket))
-      (within_brackets cat.depth OpenBracket refl) (refl, within_brackets cat.depth CloseBracket refl)
+    (within_brackets cat.depth OpenBracket refl) (refl, within_brackets cat.depth CloseBracket refl)
 
 -- a label has no semicolon
 within_label : (label : Label) → AreWithin (label_tokens label)
@@ -78,7 +76,7 @@ within_rule : (rule : RawRule) (tokens : List FileToken) → SpellsRule rule tok
 within_rule rule tokens is =
     let items : AreWithin is.side = subst AreWithin (sym is.items.whole) (within_items is.items.written) in
     subst AreWithin (sym is.whole)
-      (within_both (label_tokens rule.label) _ (within_label rule.label) (refl, within_both (category_tokens rule.cat) _ (within_category rule.cat) (refl, items)))
+    (within_both (label_tokens rule.label) _ (within_label rule.label) (refl, within_both (category_tokens rule.cat) _ (within_category rule.cat) (refl, items)))
 
 -- a definition has no semicolon
 pub within_def : (def : Def) (tokens : List FileToken) → SpellsDef def tokens → AreWithin tokens
@@ -90,11 +88,11 @@ within_def (Coercions name levels) tokens is = subst AreWithin (sym is.1) (refl,
 within_def (Entry cats) tokens is = subst AreWithin (sym is.2) (refl, within_entries cats)
 
 -- tokens are cut into a first piece and others
-abbrev IsCut : List FileToken → Type 0
+abbrev pub IsCut : List FileToken → Type 0
 IsCut tokens = (first : List FileToken) × (others : List (List FileToken)) × (slice_split is_semicolon tokens ≡ first ∷ others)
 
 -- all tokens are
-cut_of : (tokens : List FileToken) → IsCut tokens
+pub cut_of : (tokens : List FileToken) → IsCut tokens
 cut_of [] = ([], [], refl)
 cut_of (token ∷ tokens) = by (is_semicolon token) (cut_of tokens)
   where
@@ -142,7 +140,7 @@ pub pieces_ended : (token : FileToken) (front : List FileToken) (semicolon : Fil
 pieces_ended token front semicolon more within h =
     let at : slice_split is_semicolon (semicolon ∷ more) ≡ [] ∷ slice_split is_semicolon more = rw h refl in
     ap (filter (λ piece. not (is_empty piece)))
-      (cut_behind (token ∷ front) (semicolon ∷ more) [] (slice_split is_semicolon more) within at)
+    (cut_behind (token ∷ front) (semicolon ∷ more) [] (slice_split is_semicolon more) within at)
     ∙ ap (λ piece. piece ∷ pieces_of more) (append-nil (token ∷ front))
 
 -- there is a semicolon behind others

@@ -1,11 +1,9 @@
 -- What a reader tells of the tokens that it reads, and that readers in turn tell what each does.
-use Rattle.std.proofs.Common.{◌≡◌, ℕ, zero, suc, ◌≤◌, ◌<◌, List, [], ◌∷◌, ◌++◌, length, map, Option, Some, None, ◌⊎◌, inl, inr, refl, sym, ap, subst, ◌∙◌, append_assoc, arith}
-use Rattle.std.proofs.lemmas.List.{append-nil}
+use Rattle.std.proofs.Common.{◌≡◌, ◌<◌, List, [], ◌∷◌, ◌++◌, length, Option, Some, None, ◌⊎◌, inl, inr, refl, sym, ap, subst, ◌∙◌, append_assoc}
 use Rattle.std.proofs.lemmas.Option.{same_Some, none-some}
 use Rattle.spec_lbnf.specs.declared.definition.CatName.{CatName}
 use Rattle.spec_lbnf.specs.declared.token.Sign.TheVariants.{OpenBracket, CloseBracket}
 use Rattle.spec_lbnf.specs.declared.token.FileToken.{FileToken}
-use Rattle.spec_lbnf.specs.declared.token.FileToken.TheVariants.{Identifier, Number, Text, Character}
 use Rattle.spec_lbnf.specs.declared.token.FileToken.TheVariants.{Sign as SignToken}
 use Rattle.spec_lbnf.specs.declared.token.PlacedToken.{PlacedToken}
 use Rattle.spec_lbnf.specs.Expansion.{category_text}
@@ -207,7 +205,7 @@ change_tells Behind first second tokens (stuck rest) forth back is = record {
     λ others behind. forth is.goes_on.0 (bare is.front ++ (is.goes_on.1 ++ others)) others (is.goes_on.2 others behind),
   );
   blocked = λ others value behind follows spelled.
-    is.blocked others value behind follows (back value (bare is.front ++ others) behind (follows_whole tokens is.front rest others is.whole follows) spelled);
+      is.blocked others value behind follows (back value (bare is.front ++ others) behind (follows_whole tokens is.front rest others is.whole follows) spelled);
 }
 change_tells Behind first second tokens (long rest) forth back is = record {
   front = is.front;
@@ -218,7 +216,7 @@ change_tells Behind first second tokens (long rest) forth back is = record {
     is.goes_on.0,
     is.goes_on.1,
     λ others behind.
-      forth is.goes_on.0 ((bare is.front ++ bare is.begins.own) ++ (is.goes_on.1 ++ others)) others (is.goes_on.2 others behind),
+        forth is.goes_on.0 ((bare is.front ++ bare is.begins.own) ++ (is.goes_on.1 ++ others)) others (is.goes_on.2 others behind),
   );
 }
 
@@ -253,49 +251,60 @@ module _ {A B : Type 0} (Behind : List FileToken → Type 0) (first : Spelling A
     front = is.used ++ then.front;
     whole = in_parts tokens is.used rest then.front behind is.whole then.whole;
     closed = rw (bare-append is.used then.front) (front_behind (bare is.used) (bare then.front) is.closed then.closed);
-    goes_on = (then.goes_on.0, then.goes_on.1, λ others may.
-      let inner : List FileToken = then.goes_on.1 ++ others in (
-        a,
-        bare then.front ++ inner,
-        rw (bare_parts is.used then.front inner) (is.spelled (bare then.front ++ inner) tt),
-        then.goes_on.2 others may,
-      ));
+    goes_on = (
+      then.goes_on.0,
+      then.goes_on.1,
+      λ others may.
+          let inner : List FileToken = then.goes_on.1 ++ others in (
+            a,
+            bare then.front ++ inner,
+            rw (bare_parts is.used then.front inner) (is.spelled (bare then.front ++ inner) tt),
+            then.goes_on.2 others may,
+          ),
+    );
     blocked = λ others value last follows spelled.
-      let inner : List FileToken = bare then.front ++ others in
-      let own : first spelled.0 (bare is.used ++ inner) spelled.1 = rw (bare_parts is.used then.front others) at spelled.2 in
-      let same = one a spelled.0 (bare is.used ++ inner) inner spelled.1 (is.spelled inner tt) own in
-      then.blocked others value last follows (rw (same.0, same.1) spelled.3);
+        let inner : List FileToken = bare then.front ++ others in
+        let own : first spelled.0 (bare is.used ++ inner) spelled.1 = rw (bare_parts is.used then.front others) at spelled.2 in
+        let same = one a spelled.0 (bare is.used ++ inner) inner spelled.1 (is.spelled inner tt) own in
+        then.blocked others value last follows (rw (same.0, same.1) spelled.3);
   }
   then_got a tokens rest one is (long behind) then = record {
     front = is.used ++ then.front;
     whole = in_parts tokens is.used rest then.front behind is.whole then.whole;
     closed = rw (bare-append is.used then.front) (closed_both (bare is.used) (bare then.front) is.closed then.closed);
     begins = then.begins;
-    goes_on = (then.goes_on.0, then.goes_on.1, λ others may.
-      let inner : List FileToken = (bare then.front ++ bare then.begins.own) ++ (then.goes_on.1 ++ others) in (
-        a,
-        inner,
-        rw (
-          append_assoc (bare (is.used ++ then.front)) (bare then.begins.own) (then.goes_on.1 ++ others),
-          bare_parts is.used then.front (bare then.begins.own ++ (then.goes_on.1 ++ others)),
-          ← append_assoc (bare then.front) (bare then.begins.own) (then.goes_on.1 ++ others),
-        ) (is.spelled inner tt),
-        then.goes_on.2 others may,
-      ));
+    goes_on = (
+      then.goes_on.0,
+      then.goes_on.1,
+      λ others may.
+          let inner : List FileToken = (bare then.front ++ bare then.begins.own) ++ (then.goes_on.1 ++ others) in (
+            a,
+            inner,
+            rw (
+              append_assoc (bare (is.used ++ then.front)) (bare then.begins.own) (then.goes_on.1 ++ others),
+              bare_parts is.used then.front (bare then.begins.own ++ (then.goes_on.1 ++ others)),
+              ← append_assoc (bare then.front) (bare then.begins.own) (then.goes_on.1 ++ others),
+            ) (is.spelled inner tt),
+            then.goes_on.2 others may,
+          ),
+    );
   }
 
   -- with a value behind it the front can go on with both
   more_then : (front : List FileToken) → ((a : A) → GoesOn Behind (next a) []) → GoesOn IsAny first front
       → GoesOn Behind (Then first next) front
   more_then front some goes_on =
-      let then = some goes_on.0 in
-      (then.0, goes_on.1 ++ then.1, λ others may.
-        let inner : List FileToken = then.1 ++ others in (
-          goes_on.0,
-          inner,
-          rw (append_assoc goes_on.1 then.1 others) (goes_on.2 inner tt),
-          then.2 others may,
-        ))
+      let then = some goes_on.0 in (
+        then.0,
+        goes_on.1 ++ then.1,
+        λ others may.
+            let inner : List FileToken = then.1 ++ others in (
+              goes_on.0,
+              inner,
+              rw (append_assoc goes_on.1 then.1 others) (goes_on.2 inner tt),
+              then.2 others may,
+            ),
+      )
 
   -- readers in turn tell of their spellings in turn
   pub then_tells : (tokens : List PlacedToken) (q : A → Reader B) → IsOne first
@@ -360,7 +369,7 @@ pub token_tells : {A : Type 0} (value_of : FileToken → Option A) (token : File
 unfolding take_token
 token_tells {A} value_of token a has others [] short =
     stuck_here IsAny (TokenOf value_of) [] nothing_front (a, token ∷ [], λ behind may. (token, has, refl))
-      (λ behind value rest follows spelled. cc (follows, spelled.2))
+    (λ behind value rest follows spelled. cc (follows, spelled.2))
 token_tells {A} value_of token a has others (t ∷ tokens) short = by (value_of t.token) refl
   where
     by : (x : Option A) → value_of t.token ≡ x → Tells IsAny (TokenOf value_of) (t ∷ tokens) (take_or_stick x t tokens)
@@ -373,9 +382,9 @@ token_tells {A} value_of token a has others (t ∷ tokens) short = by (value_of 
     }
     by None e =
         stuck_here IsAny (TokenOf value_of) (t ∷ tokens) nothing_front (a, token ∷ [], λ behind may. (token, has, refl))
-          (λ behind value rest follows spelled.
-            let same : t.token ≡ spelled.0 = cc (follows.1, spelled.2) in
-            none-some value (sym e ∙ ap value_of same ∙ spelled.1))
+        (λ behind value rest follows spelled.
+        let same : t.token ≡ spelled.0 = cc (follows.1, spelled.2) in
+        none-some value (sym e ∙ ap value_of same ∙ spelled.1))
 
 -- one token can be read
 pub token_some : {A : Type 0} (value_of : FileToken → Option A) (token : FileToken) (a : A) → value_of token ≡ Some a

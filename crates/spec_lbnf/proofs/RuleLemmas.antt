@@ -1,7 +1,6 @@
 -- The readers of items and of a rule tell of what the tokens spell.
-use Rattle.std.proofs.Common.{◌≡◌, ℕ, zero, suc, ◌+◌, ◌≤◌, ◌<◌, List, [], ◌∷◌, ◌++◌, length, map, cond, Bool, true, false, All, Option, Some, None, inl, inr, refl, sym, ap, subst, ◌∙◌, append_assoc, arith, length-append}
+use Rattle.std.proofs.Common.{◌≡◌, ℕ, zero, suc, ◌≤◌, ◌<◌, List, [], ◌∷◌, ◌++◌, length, map, cond, Option, Some, None, inl, inr, refl, sym, ap, subst, ◌∙◌, arith, length-append}
 use Rattle.std.specs.List.{flat_map, AllByRecursion}
-use Rattle.std.proofs.lemmas.List.{append-nil}
 use Rattle.std.proofs.lemmas.List.Elements.{All-from_recursion, recursion_from_All}
 use Rattle.std.proofs.lemmas.Option.{cond_some, none-some}
 use Rattle.spec_grammar.specs.declared.rule.Label.{Label}
@@ -12,16 +11,16 @@ use Rattle.spec_lbnf.specs.declared.definition.RawRule.{RawRule}
 use Rattle.spec_lbnf.specs.declared.token.Sign.{Sign}
 use Rattle.spec_lbnf.specs.declared.token.Sign.TheVariants.{Dot, Gives as GivesSign, OpenBracket, CloseBracket}
 use Rattle.spec_lbnf.specs.declared.token.FileToken.{FileToken}
-use Rattle.spec_lbnf.specs.declared.token.FileToken.TheVariants.{Identifier, Text}
+use Rattle.spec_lbnf.specs.declared.token.FileToken.TheVariants.{Text}
 use Rattle.spec_lbnf.specs.declared.token.FileToken.TheVariants.{Sign as SignToken}
 use Rattle.spec_lbnf.specs.declared.token.PlacedToken.{PlacedToken}
 use Rattle.spec_lbnf.specs.Words.{words_in}
 use Rattle.spec_lbnf.specs.GrammarFile.{WrittenItem, category, string, IsWritten, written_tokens, written_items, category_tokens, label_tokens, SpellsItems, SpellsRule}
 use Rattle.spec_lbnf.specs.Faults.{bare}
-use Rattle.spec_lbnf.specs.FileReading.{Read, got, stuck, long, Reader, next_on, ◌>>=◌, pure, is_sign, sign_at, text_value, category_at, label_at, item_by, item_at, items_at, side_at, rule_at}
+use Rattle.spec_lbnf.specs.FileReading.{Reader, ◌>>=◌, pure, is_sign, sign_at, text_value, category_at, label_at, item_by, item_at, items_at, side_at, rule_at}
 use Rattle.spec_lbnf.proofs.BoundaryLemmas.{bracketed, category_bracketed, bracketed_some, one_closed, nothing_closed}
 use Rattle.spec_lbnf.proofs.TokenTestLemmas.{sign_true, text_some}
-use Rattle.spec_lbnf.proofs.ReaderLemmas.{Spelling, IsOne, IsAny, IsNothing, Follows, GoesOn, IsGot, IsStuckAt, Tells, Then, Gives, TokenOf, HaveShortNames, nothing_front, stuck_here, change_tells, then_tells, gives_tells, token_tells, token_some, some_then, some_gives, short_rest, IsBracket, one_token, one_then, one_gives, one_change}
+use Rattle.spec_lbnf.proofs.ReaderLemmas.{Spelling, IsOne, IsAny, IsNothing, GoesOn, IsGot, Tells, Then, Gives, TokenOf, HaveShortNames, nothing_front, stuck_here, change_tells, then_tells, gives_tells, token_tells, token_some, some_then, some_gives, short_rest, one_token, one_then, one_gives, one_change}
 use Rattle.spec_lbnf.proofs.CategoryLemmas.{Category, one_category, some_category, category_tells}
 use Rattle.spec_lbnf.proofs.LabelLemmas.{LabelOf, one_label, some_label, label_tells}
 
@@ -70,15 +69,19 @@ one_item a b tokens rest other is_a is_b = by is_a.0 is_b.0 is_a.1 is_b.1 is_a.2
 
 -- some item can be read
 some_item : GoesOn IsAny ItemOf []
-some_item = (Cat some_category.0 ∷ [], some_category.1, λ others may.
-  let is = some_category.2 others may in (category some_category.0, is.0, refl, is.1))
+some_item = (
+  Cat some_category.0 ∷ [],
+  some_category.1,
+  λ others may.
+      let is = some_category.2 others may in (category some_category.0, is.0, refl, is.1),
+)
 
 -- the reader of an item tells of the item at the front
 item_tells : (tokens : List PlacedToken) → HaveShortNames tokens → Tells IsAny ItemOf tokens (item_at tokens)
 unfolding item_at
 item_tells [] short =
     stuck_here IsAny ItemOf [] nothing_front some_item
-      (λ others value behind follows spelled. written_some spelled.0 behind (sym spelled.3 ∙ follows))
+    (λ others value behind follows spelled. written_some spelled.0 behind (sym spelled.3 ∙ follows))
 item_tells (token ∷ tokens) short = by (text_value token.token) refl
   where
     by : (x : Option (List ℕ)) → text_value token.token ≡ x → Tells IsAny ItemOf (token ∷ tokens) (item_by x token tokens)
@@ -93,9 +96,9 @@ item_tells (token ∷ tokens) short = by (text_value token.token) refl
         }
     by None e =
         change_tells IsAny (Gives (λ cat. Cat cat ∷ []) Category) ItemOf (token ∷ tokens) _
-          (λ a others rest is. (category is.0, is.2.0, is.1, is.2.1))
-          (λ a others rest follows is. back is.0 a others rest follows.0 follows.1 is.1 is.2 is.3)
-          (gives_tells IsAny Category (λ cat. Cat cat ∷ []) (token ∷ tokens) (category_at (token ∷ tokens)) (category_tells (token ∷ tokens)))
+        (λ a others rest is. (category is.0, is.2.0, is.1, is.2.1))
+        (λ a others rest follows is. back is.0 a others rest follows.0 follows.1 is.1 is.2 is.3)
+        (gives_tells IsAny Category (λ cat. Cat cat ∷ []) (token ∷ tokens) (category_at (token ∷ tokens)) (category_tells (token ∷ tokens)))
       where
         back : (w : WrittenItem) (a : List RawItem) (others rest more : List FileToken) → others ≡ token.token ∷ more
             → IsWritten w → a ≡ written_items w → others ≡ written_tokens w ++ rest
@@ -178,20 +181,20 @@ items_tell turns [] few short = record {
 items_tell zero (token ∷ tokens) few short = absurd (omega (arith, few))
 items_tell (suc turns) (token ∷ tokens) few short =
     change_tells IsNothing ItemAndOthers ItemsOf (token ∷ tokens) _ items_forth
-      (λ a others rest follows is. items_back a token.token follows.0 others rest follows.1 is)
-      (then_tells IsNothing ItemOf (λ items. Gives (λ others. items ++ others) ItemsOf) (token ∷ tokens)
-        (λ items. items_at turns >>= (λ others. pure (items ++ others))) one_item
-        (λ items. some_gives IsNothing (λ others. items ++ others) ItemsOf some_items)
-        (λ items rest is. gives_tells IsNothing ItemsOf (λ others. items ++ others) rest (items_at turns rest)
-          (items_tell turns rest (omega (arith, few, item_shorter items (token ∷ tokens) rest is)) (short_rest IsAny ItemOf items (token ∷ tokens) rest is short)))
-        (item_at (token ∷ tokens)) (item_tells (token ∷ tokens) short))
+    (λ a others rest follows is. items_back a token.token follows.0 others rest follows.1 is)
+    (then_tells IsNothing ItemOf (λ items. Gives (λ others. items ++ others) ItemsOf) (token ∷ tokens)
+    (λ items. items_at turns >>= (λ others. pure (items ++ others))) one_item
+    (λ items. some_gives IsNothing (λ others. items ++ others) ItemsOf some_items)
+    (λ items rest is. gives_tells IsNothing ItemsOf (λ others. items ++ others) rest (items_at turns rest)
+    (items_tell turns rest (omega (arith, few, item_shorter items (token ∷ tokens) rest is)) (short_rest IsAny ItemOf items (token ∷ tokens) rest is short)))
+    (item_at (token ∷ tokens)) (item_tells (token ∷ tokens) short))
 
 -- tokens are at most one list of items
 pub one_items : IsOne ItemsOf
 one_items a b tokens rest other is_a is_b = (
   is_a.0.gives ∙ by is_a.0.written is_b.0.written
-    (recursion_from_All IsWritten is_a.0.written is_a.0.each) (recursion_from_All IsWritten is_b.0.written is_b.0.each)
-    (sym is_a.0.whole ∙ is_b.0.whole) ∙ sym is_b.0.gives,
+      (recursion_from_All IsWritten is_a.0.written is_a.0.each) (recursion_from_All IsWritten is_b.0.written is_b.0.each)
+      (sym is_a.0.whole ∙ is_b.0.whole) ∙ sym is_b.0.gives,
   is_a.1 ∙ sym is_b.1,
 )
   where
@@ -202,7 +205,7 @@ one_items a b tokens rest other is_a is_b = (
     by (v ∷ vs) [] each_v each_w e = absurd (written_some v (flat_map written_tokens vs) e)
     by (v ∷ vs) (w ∷ ws) each_v each_w e =
         let same = one_item (written_items v) (written_items w) (flat_map written_tokens (v ∷ vs)) (flat_map written_tokens vs) (flat_map written_tokens ws)
-          (v, each_v.0, refl, refl) (w, each_w.0, refl, e) in
+        (v, each_v.0, refl, refl) (w, each_w.0, refl, e) in
         let behind = by vs ws each_v.1 each_w.1 same.1 in
         λ i. same.0 i ++ behind i
 
@@ -225,11 +228,11 @@ pub sign_tells : (sign : Sign) → sign_value sign (SignToken sign) ≡ Some tt
 unfolding sign_at
 sign_tells sign same not_open not_close tokens short =
     token_tells (sign_value sign) (SignToken sign) tt same
-      (λ token done has is. elim is [
-        | inl e ↦ not_open (sym (sign_value_is sign token done has) ∙ e)
-        | inr e ↦ not_close (sym (sign_value_is sign token done has) ∙ e)
-      ])
-      tokens short
+    (λ token done has is. elim is [
+      | inl e ↦ not_open (sym (sign_value_is sign token done has) ∙ e)
+      | inr e ↦ not_close (sym (sign_value_is sign token done has) ∙ e)
+    ])
+    tokens short
 
 -- the tokens are a rule, and nothing is behind it
 abbrev pub RuleOf : Spelling RawRule
@@ -239,32 +242,39 @@ RuleOf rule tokens rest = SpellsRule rule tokens × (rest ≡ [])
 abbrev rule_of : Label → CatName → List RawItem → RawRule
 rule_of label cat items = record { label = label; cat = cat; items = items }
 
--- what is behind the parts of a rule, one after the other
+-- behind the sign `::=` of a rule with this label and category: the items
 abbrev BehindGives : Label → CatName → Spelling RawRule
 BehindGives label cat = Gives (rule_of label cat) ItemsOf
 
+-- behind the category: the sign `::=` and the items
 abbrev BehindCategory : Label → CatName → Spelling RawRule
 BehindCategory label cat = Then (SignOf GivesSign) (λ done. BehindGives label cat)
 
+-- behind the dot: the category and what is behind it
 abbrev BehindDot : Label → Spelling RawRule
 BehindDot label = Then Category (BehindCategory label)
 
+-- behind the label: a dot and what is behind it
 abbrev BehindLabel : Label → Spelling RawRule
 BehindLabel label = Then (SignOf Dot) (λ done. BehindDot label)
 
+-- the parts of a rule
 abbrev RuleParts : Spelling RawRule
 RuleParts = Then LabelOf BehindLabel
 
--- the readers of these
+-- the reader behind the sign `::=`
 abbrev behind_gives : Label → CatName → Reader RawRule
 behind_gives label cat = side_at >>= (λ items. pure (rule_of label cat items))
 
+-- the reader behind the category
 abbrev behind_category : Label → CatName → Reader RawRule
 behind_category label cat = sign_at GivesSign >>= (λ done. behind_gives label cat)
 
+-- the reader behind the dot
 abbrev behind_dot : Label → Reader RawRule
 behind_dot label = category_at >>= behind_category label
 
+-- the reader behind the label
 abbrev behind_label : Label → Reader RawRule
 behind_label label = sign_at Dot >>= (λ done. behind_dot label)
 
@@ -315,29 +325,31 @@ rule_back rule tokens rest is =
 pub one_rule : IsOne RuleOf
 one_rule = one_change RuleParts RuleOf
     (one_then LabelOf BehindLabel one_label (λ label.
-      one_then (SignOf Dot) (λ done. BehindDot label) (one_token (sign_value Dot)) (λ done.
-        one_then Category (BehindCategory label) one_category (λ cat.
-          one_then (SignOf GivesSign) (λ done. BehindGives label cat) (one_token (sign_value GivesSign)) (λ done.
-            one_gives (rule_of label cat) ItemsOf one_items)))))
+    one_then (SignOf Dot) (λ done. BehindDot label) (one_token (sign_value Dot)) (λ done.
+    one_then Category (BehindCategory label) one_category (λ cat.
+    one_then (SignOf GivesSign) (λ done. BehindGives label cat) (one_token (sign_value GivesSign)) (λ done.
+    one_gives (rule_of label cat) ItemsOf one_items)))))
     rule_back
 
 -- some right side can be read
 some_behind_gives : (label : Label) (cat : CatName) → GoesOn IsNothing (BehindGives label cat) []
 some_behind_gives label cat = some_gives IsNothing (rule_of label cat) ItemsOf some_items
 
--- and behind the other parts
+-- something can be read behind the category
 some_behind_category : (label : Label) (cat : CatName) → GoesOn IsNothing (BehindCategory label cat) []
 some_behind_category label cat =
     some_then IsNothing (SignOf GivesSign) (λ done. BehindGives label cat) (λ done. some_behind_gives label cat)
-      (token_some (sign_value GivesSign) (SignToken GivesSign) tt refl)
+    (token_some (sign_value GivesSign) (SignToken GivesSign) tt refl)
 
+-- something can be read behind the dot
 some_behind_dot : (label : Label) → GoesOn IsNothing (BehindDot label) []
 some_behind_dot label = some_then IsNothing Category (BehindCategory label) (some_behind_category label) some_category
 
+-- something can be read behind the label
 some_behind_label : (label : Label) → GoesOn IsNothing (BehindLabel label) []
 some_behind_label label =
     some_then IsNothing (SignOf Dot) (λ done. BehindDot label) (λ done. some_behind_dot label)
-      (token_some (sign_value Dot) (SignToken Dot) tt refl)
+    (token_some (sign_value Dot) (SignToken Dot) tt refl)
 
 -- some rule can be read
 pub some_rule : GoesOn IsNothing RuleOf []
@@ -351,37 +363,39 @@ side_tells : (label : Label) (cat : CatName) (tokens : List PlacedToken) → Hav
 unfolding side_at
 side_tells label cat tokens short =
     gives_tells IsNothing ItemsOf (rule_of label cat) tokens (items_at (length tokens) tokens)
-      (items_tell (length tokens) tokens (omega arith) short)
+    (items_tell (length tokens) tokens (omega arith) short)
 
--- and so do those of the parts before it
+-- the reader behind the category tells of what is there
 behind_category_tells : (label : Label) (cat : CatName) (tokens : List PlacedToken) → HaveShortNames tokens
     → Tells IsNothing (BehindCategory label cat) tokens (behind_category label cat tokens)
 behind_category_tells label cat tokens short =
     then_tells IsNothing (SignOf GivesSign) (λ done. BehindGives label cat) tokens (λ done. behind_gives label cat)
-      (one_token (sign_value GivesSign)) (λ done. some_behind_gives label cat)
-      (λ done rest is. side_tells label cat rest (short_rest IsAny (SignOf GivesSign) done tokens rest is short))
-      (sign_at GivesSign tokens) (sign_tells GivesSign refl (λ e. cc e) (λ e. cc e) tokens short)
+    (one_token (sign_value GivesSign)) (λ done. some_behind_gives label cat)
+    (λ done rest is. side_tells label cat rest (short_rest IsAny (SignOf GivesSign) done tokens rest is short))
+    (sign_at GivesSign tokens) (sign_tells GivesSign refl (λ e. cc e) (λ e. cc e) tokens short)
 
+-- the reader behind the dot tells of what is there
 behind_dot_tells : (label : Label) (tokens : List PlacedToken) → HaveShortNames tokens
     → Tells IsNothing (BehindDot label) tokens (behind_dot label tokens)
 behind_dot_tells label tokens short =
     then_tells IsNothing Category (BehindCategory label) tokens (behind_category label) one_category (some_behind_category label)
-      (λ cat rest is. behind_category_tells label cat rest (short_rest IsAny Category cat tokens rest is short))
-      (category_at tokens) (category_tells tokens)
+    (λ cat rest is. behind_category_tells label cat rest (short_rest IsAny Category cat tokens rest is short))
+    (category_at tokens) (category_tells tokens)
 
+-- the reader behind the label tells of what is there
 behind_label_tells : (label : Label) (tokens : List PlacedToken) → HaveShortNames tokens
     → Tells IsNothing (BehindLabel label) tokens (behind_label label tokens)
 behind_label_tells label tokens short =
     then_tells IsNothing (SignOf Dot) (λ done. BehindDot label) tokens (λ done. behind_dot label)
-      (one_token (sign_value Dot)) (λ done. some_behind_dot label)
-      (λ done rest is. behind_dot_tells label rest (short_rest IsAny (SignOf Dot) done tokens rest is short))
-      (sign_at Dot tokens) (sign_tells Dot refl (λ e. cc e) (λ e. cc e) tokens short)
+    (one_token (sign_value Dot)) (λ done. some_behind_dot label)
+    (λ done rest is. behind_dot_tells label rest (short_rest IsAny (SignOf Dot) done tokens rest is short))
+    (sign_at Dot tokens) (sign_tells Dot refl (λ e. cc e) (λ e. cc e) tokens short)
 
 -- the reader of a rule tells of the rule that the tokens are
 pub rule_tells : (tokens : List PlacedToken) → HaveShortNames tokens → Tells IsNothing RuleOf tokens (rule_at tokens)
 unfolding rule_at
 rule_tells tokens short =
     change_tells IsNothing RuleParts RuleOf tokens _ rule_forth (λ a others rest follows. rule_back a others rest)
-      (then_tells IsNothing LabelOf BehindLabel tokens behind_label one_label some_behind_label
-        (λ label rest is. behind_label_tells label rest (short_rest IsAny LabelOf label tokens rest is short))
-        (label_at tokens) (label_tells tokens short))
+    (then_tells IsNothing LabelOf BehindLabel tokens behind_label one_label some_behind_label
+    (λ label rest is. behind_label_tells label rest (short_rest IsAny LabelOf label tokens rest is short))
+    (label_at tokens) (label_tells tokens short))

@@ -13,5 +13,8 @@ pub use laws::{
     acyclic_or_cyclic, distinct_names, fit_or_unfit, numbers_name_back, one_spelling,
     own_entry, own_symbols, spelled_or_unbuilt, two_bytes_each,
 };
-pub use reading_laws::{defs_or_fault, one_first_fault, one_list_of_defs, spelled_or_faulty};
+pub use reading_laws::{
+    defs_or_fault, one_first_fault, one_list_of_defs, small_defs, spelled_or_faulty,
+    two_bytes_for_each,
+};
 pub use token::{FileToken, PlacedToken, Sign};
