@@ -84,6 +84,7 @@ module _ (quote : ℕ) where
           let below : get_or (encode_utf8 scalar) k 0 < 128 = omega arith in
           let same = inside_one scalar [] (encode_utf8 scalar) k (sym (append-nil (encode_utf8 scalar))) l below in
           eqb-false scalar code differs (same ∙ e))
+
       by : (k : ℕ) → k < length (encode_utf8 scalar) → StandsPlain quote (get_or (encode_utf8 scalar) k 0)
       by k l = record {
         no_quote = apart k quote l low stands.no_quote;

@@ -31,6 +31,6 @@ loop-tokens-preserved c =
       utf8 = search rules;
       within = omega (arith, shorter, c.loop-tokens.invariant.within);
       so_far = λ tokens stop more.
-        let next = token_then size c.loop-tokens.rest.now c.skip_spaces-here.result.now c.in-Some.behind.now c.in-Some.token tokens stop c.loop-tokens.invariant.within c.skip_spaces-here.ensures.skips read more in
-        rw (c.in_ok-push.ensures.items, append_assoc) (c.loop-tokens.invariant.so_far _ stop next);
+          let next = token_then size c.loop-tokens.rest.now c.skip_spaces-here.result.now c.in-Some.behind.now c.in-Some.token tokens stop c.loop-tokens.invariant.within c.skip_spaces-here.ensures.skips read more in
+          rw (c.in_ok-push.ensures.items, append_assoc) (c.loop-tokens.invariant.so_far _ stop next);
     }
