@@ -15,7 +15,8 @@ use Rattle.spec_lbnf.specs.declared.token.FileToken.{FileToken}
 use Rattle.spec_lbnf.specs.declared.token.FileToken.TheVariants.{Text}
 use Rattle.spec_lbnf.specs.declared.token.FileToken.TheVariants.{Sign as SignToken}
 use Rattle.spec_lbnf.specs.Expansion.{category_text}
-use Rattle.spec_lbnf.specs.GrammarFile.{is_empty, words_in, IsUpperName, IsCategory, category_tokens, label_tokens, WrittenItem, category, string, IsWritten, written_tokens, written_items, SpellsRule, entry_tokens, nonempty_tokens, keyword, SpellsDef, is_semicolon, pieces_of, AreSpelledBy}
+use Rattle.spec_lbnf.specs.Words.{is_empty, words_in}
+use Rattle.spec_lbnf.specs.GrammarFile.{IsUpperName, IsCategory, category_tokens, label_tokens, WrittenItem, category, string, IsWritten, written_tokens, written_items, SpellsRule, entry_tokens, nonempty_tokens, keyword, SpellsDef, is_semicolon, pieces_of, AreSpelledBy}
 use Rattle.spec_lbnf.specs.Faults.{bare, EndsOpen}
 use Rattle.spec_lbnf.specs.ReadingLaws.{IsShallow, IsSmallItem, IsSmall, SmallDefs}
 use Rattle.spec_lbnf.proofs.BoundaryLemmas.{LacksLong, long_behind, long_before, nothing_of, nothing_closed, category_len}

@@ -7,7 +7,8 @@ use Rattle.spec_lbnf.specs.declared.definition.Def.{Def}
 use Rattle.spec_lbnf.specs.declared.definition.Def.TheVariants.{Rule, Internal, Terminator}
 use Rattle.spec_lbnf.specs.declared.definition.Def.TheVariants.{Separator, Coercions, Entry}
 use Rattle.spec_lbnf.specs.declared.token.FileToken.{FileToken}
-use Rattle.spec_lbnf.specs.GrammarFile.{SpellsDefs, words_in}
+use Rattle.spec_lbnf.specs.Words.{words_in}
+use Rattle.spec_lbnf.specs.GrammarFile.{SpellsDefs}
 use Rattle.spec_lbnf.specs.Faults.{FileFault, Spells, IsFirstFault}
 
 -- tokens spell at most one list of definitions
