@@ -11,7 +11,7 @@ use Rattle.spec_lbnf.specs.declared.definition.RawItem.TheVariants.{Cat, Word}
 use Rattle.spec_lbnf.specs.declared.definition.RawRule.{RawRule}
 use Rattle.spec_lbnf.specs.declared.definition.Def.{Def}
 use Rattle.spec_lbnf.specs.declared.definition.Def.TheVariants.{Rule as RuleDef}
-use Rattle.spec_lbnf.specs.FirstForm.{def_size, size_of}
+use Rattle.spec_lbnf.specs.Limits.{def_size, size_of}
 use Rattle.spec_lbnf.specs.Expansion.{Expansion, category_text, rules_of, item_categories, item_words, categories_of, words_of, symbol_of, numbered_rule, item_count, expansion_of}
 use Rattle.lbnf_grammar.specs.declared.tables.Tables.{Tables}
 use Rattle.lbnf_grammar.specs.Numbering.{with_name, with_names}

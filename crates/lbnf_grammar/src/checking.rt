@@ -1,6 +1,6 @@
 //! The check that each category that is named has a rule.
 ghost use Rattle.std.specs.Prelude.{◌≡◌, ◌≤◌, [], ◌∷◌, fold, IfOk};
-ghost use Rattle.spec_lbnf.specs.FirstForm.{size_of};
+ghost use Rattle.spec_lbnf.specs.Limits.{size_of};
 ghost use Rattle.spec_lbnf.specs.Expansion.{item_categories};
 ghost use Rattle.lbnf_grammar.specs.Checking.{with_own, def_categories, FindsUnlisted, ChecksDefs};
 

@@ -1,6 +1,6 @@
 //! Expanding definitions: the check of their categories, then the numbers.
 ghost use Rattle.std.specs.Prelude.{◌≡◌, ◌≤◌, map, Err, IfOk};
-ghost use Rattle.spec_lbnf.specs.FirstForm.{size_of};
+ghost use Rattle.spec_lbnf.specs.Limits.{size_of};
 ghost use Rattle.spec_lbnf.specs.Expansion.{expansion_of};
 ghost use Rattle.spec_lexing.specs.declared.kind_def.KindDef.TheVariants.{Word as WordKind};
 ghost use Rattle.lbnf_grammar.specs.Grammars.{Expands};

@@ -3,7 +3,7 @@ use Rattle.std.proofs.Common.{◌≡◌, ℕ, zero, suc, ◌<◌, List, [], ◌�
 use Rattle.std.specs.List.{list_all}
 use Rattle.std.specs.Option.{option_map}
 use Rattle.spec_lbnf.specs.declared.definition.RawItem.{RawItem}
-use Rattle.spec_lbnf.specs.FirstForm.{is_white}
+use Rattle.spec_lbnf.specs.FileBytes.{is_white}
 use Rattle.spec_lbnf.specs.Reading.{◌>>=◌, item_at, item_then, items_at, side_at}
 use Rattle.spec_lbnf.proofs.ReadingLemmas.{item_read}
 use Rattle.spec_lbnf.proofs.SizeLemmas.{item_shorter}

@@ -5,7 +5,7 @@ use Rattle.std.proofs.lemmas.List.{length-map}
 use Rattle.std.proofs.lemmas.Option.{none-some, same_Some, slice_get-map, slice_get-get_or}
 use Rattle.spec_lbnf.specs.declared.definition.Def.{Def}
 use Rattle.spec_lbnf.specs.FirstForm.{pieces_of, size_of, SpellsDef, Spells, IsUnbuilt, IsFirstUnbuilt}
-use Rattle.spec_lbnf.proofs.FileLemmas.{item_at}
+use Rattle.spec_lbnf.proofs.ListLemmas.{item_at}
 use Rattle.spec_lbnf.proofs.SizeLemmas.{two_bytes_each}
 use Rattle.lbnf_text.specs.declared.fault.TextFault.{TextFault}
 use Rattle.lbnf_text.specs.declared.fault.TextFault.TheVariants.{Memory, TooLarge, NotUtf8, Syntax, Unsupported, Unbuilt}

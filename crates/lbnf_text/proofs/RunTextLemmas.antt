@@ -10,7 +10,7 @@ use Rattle.std.proofs.lemmas.Bool.Decides.{nat_tests}
 use Rattle.std.proofs.lemmas.List.Sums.{prefix_len-le-length, prefix_len_passes}
 use Rattle.std.proofs.lemmas.Str.{IsCharBoundary-start, IsCharBoundary-after_ascii}
 use Rattle.std.proofs.lemmas.Str.Parse.{IsDigitsTest, IsNumeralModel, numerals_by_value, digits_value_short, parse_gives}
-use Rattle.spec_lbnf.specs.FirstForm.{is_name_byte}
+use Rattle.spec_lbnf.specs.FileBytes.{is_name_byte}
 use Rattle.spec_lbnf.specs.FileTokens.{is_digit, Begins}
 use Rattle.spec_lbnf.proofs.RunLemmas.{run_passes}
 

@@ -1,6 +1,6 @@
 //! The definitions of a grammar file.
 ghost use Rattle.std.specs.Prelude.{◌≡◌, ◌≤◌};
-ghost use Rattle.spec_lbnf.specs.FirstForm.{size_of};
+ghost use Rattle.spec_lbnf.specs.Limits.{size_of};
 
 use spec_lbnf::Def;
 use std::marker::Model;
@@ -15,7 +15,7 @@ pub struct Defs {
 impl Model for Defs {
     ghost use Rattle.std.specs.Prelude.{List, ◌≤◌};
     ghost use Rattle.spec_lbnf.specs.declared.definition.Def.{Def};
-    ghost use Rattle.spec_lbnf.specs.FirstForm.{size_of};
+    ghost use Rattle.spec_lbnf.specs.Limits.{size_of};
 
     ghost Value = { List Def };
 

@@ -4,7 +4,7 @@ ghost use Rattle.std.specs.Prelude.{cond, Some, None, IfSome, MatchOption, encod
 ghost use Rattle.std.specs.Char.{IsScalar};
 ghost use Rattle.std.specs.List.{prefix_len};
 ghost use Rattle.std.specs.Option.{option_map};
-ghost use Rattle.spec_lbnf.specs.FirstForm.{is_white};
+ghost use Rattle.spec_lbnf.specs.FileBytes.{is_white};
 ghost use Rattle.spec_lbnf.specs.FileTokens.{Begins, is_letter, is_digit, escaped, longer_by};
 ghost use Rattle.spec_lbnf.specs.FileTokens.{Skips, Separates, BeginsWith, IsScan};
 ghost use Rattle.spec_lbnf.specs.Scanning.{is_in_line, behind_line, behind_closing, behind_white};

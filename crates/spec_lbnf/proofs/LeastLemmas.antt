@@ -8,7 +8,7 @@ use Rattle.spec_lbnf.specs.declared.token.FileToken.{FileToken}
 use Rattle.spec_lbnf.specs.declared.token.FileToken.TheVariants.{Identifier, Number, Text, Character}
 use Rattle.spec_lbnf.specs.declared.token.FileToken.TheVariants.{Sign as SignToken}
 use Rattle.spec_lbnf.specs.declared.token.PlacedToken.{PlacedToken}
-use Rattle.spec_lbnf.specs.FirstForm.{is_name_byte, Stops}
+use Rattle.spec_lbnf.specs.FileBytes.{is_name_byte, Stops}
 use Rattle.spec_lbnf.specs.FileTokens.{is_letter, Begins, Separates, Skips, nothing, goes_on, LiteralPart, plain, escape, part_bytes, part_value, IsLiteral, sign_bytes, BeginsWith, AreTokensTo}
 use Rattle.spec_lbnf.specs.Faults.{bare}
 use Rattle.spec_lbnf.proofs.BoundaryLemmas.{is_name}

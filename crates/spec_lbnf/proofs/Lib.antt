@@ -1,8 +1,5 @@
-pub mod SizeLemmas
+pub mod ListLemmas
 pub mod RunLemmas
-pub mod TokenLemmas
-pub mod ReadingLemmas
-pub mod FileLemmas
 pub mod CheckLemmas
 pub mod CycleLemmas
 pub mod NameLemmas

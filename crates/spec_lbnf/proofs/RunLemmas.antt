@@ -4,8 +4,7 @@ use Rattle.std.proofs.lemmas.Bool.{cases_Bool}
 use Rattle.std.specs.List.{prefix_len, AllByRecursion}
 use Rattle.std.proofs.lemmas.List.{take_at, drop_at}
 use Rattle.std.proofs.lemmas.List.Elements.{All-from_recursion, recursion_from_All}
-use Rattle.spec_lbnf.specs.FirstForm.{is_white, AreWhite, Stops}
-use Rattle.spec_lbnf.specs.Reading.{skip_white}
+use Rattle.spec_lbnf.specs.FileBytes.{Stops}
 
 module _ (passes : ℕ → Bool) where
   -- a run that is stopped is the longest front that passes
@@ -46,13 +45,3 @@ module _ (passes : ℕ → Bool) where
   pub run_drop : (run rest : List ℕ) → AllByRecursion (λ b. passes b ≡ true) run → Stops passes rest
       → drop (prefix_len passes (run ++ rest)) (run ++ rest) ≡ rest
   run_drop run rest all stops = rw (run_len run rest all stops) (drop_at run rest (length run) refl)
-
--- white bytes are skipped, up to one that is not white
-pub skip_white_run : (space rest : List ℕ) → AreWhite space → Stops is_white rest
-    → skip_white (space ++ rest) ≡ rest
-skip_white_run space rest white stops = run_drop is_white space rest (recursion_from_All (λ b. is_white b ≡ true) space white) stops
-
--- what is skipped is white
-pub skipped_white : (bytes : List ℕ) → (space : List ℕ) × AreWhite space × (bytes ≡ space ++ skip_white bytes)
-skipped_white bytes =
-    (take (prefix_len is_white bytes) bytes, All-from_recursion (λ b. is_white b ≡ true) _ (run_passes is_white bytes), sym (run_whole is_white bytes))

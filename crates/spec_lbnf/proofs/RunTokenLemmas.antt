@@ -9,7 +9,7 @@ use Rattle.std.proofs.lemmas.Option.{cond_some}
 use Rattle.std.proofs.lemmas.List.Elements.{All-from_recursion, recursion_from_All}
 use Rattle.spec_lbnf.specs.declared.token.FileToken.{FileToken}
 use Rattle.spec_lbnf.specs.declared.token.FileToken.TheVariants.{Identifier, Number}
-use Rattle.spec_lbnf.specs.FirstForm.{is_name_byte}
+use Rattle.spec_lbnf.specs.FileBytes.{is_name_byte}
 use Rattle.spec_lbnf.specs.FileTokens.{is_letter, is_digit, Begins, IsIdentifier, IsNumber, BeginsWith}
 use Rattle.spec_lbnf.specs.Scanning.{identifier_at, number_at}
 use Rattle.spec_lbnf.proofs.RunLemmas.{run_len, run_take, run_drop, run_passes, run_stops, run_whole}

@@ -17,8 +17,10 @@ use Rattle.spec_lbnf.specs.declared.token.FileToken.TheVariants.{Sign as SignTok
 use Rattle.spec_lbnf.specs.Expansion.{category_text}
 use Rattle.spec_lbnf.specs.Words.{is_empty, words_in}
 use Rattle.spec_lbnf.specs.GrammarFile.{IsUpperName, IsCategory, category_tokens, label_tokens, WrittenItem, category, string, IsWritten, written_tokens, written_items, SpellsRule, entry_tokens, nonempty_tokens, keyword, SpellsDef, is_semicolon, pieces_of, AreSpelledBy}
-use Rattle.spec_lbnf.specs.Faults.{bare, EndsOpen}
-use Rattle.spec_lbnf.specs.ReadingLaws.{IsShallow, IsSmallItem, IsSmall, SmallDefs}
+use Rattle.spec_lbnf.specs.Faults.{bare, EndsOpen, Spells}
+use Rattle.spec_lbnf.specs.Limits.{IsShallow, IsSmallItem, IsSmall, size_of, AreWithinLimits}
+use Rattle.spec_lbnf.specs.ReadingLaws.{DefsWithinLimits}
+use Rattle.spec_lbnf.proofs.DefSizeLemmas.{two_bytes_for_each}
 use Rattle.spec_lbnf.proofs.BoundaryLemmas.{LacksLong, long_behind, long_before, nothing_of, nothing_closed, category_len}
 use Rattle.spec_lbnf.proofs.CategoryLemmas.{category_no_open}
 use Rattle.spec_lbnf.proofs.PieceLemmas.{cut_of}
@@ -196,7 +198,7 @@ small_spelled (d ∷ defs) [] is each = absurd is
 small_spelled (d ∷ defs) (piece ∷ pieces) is each = (small_def d piece is.0 each.0, small_spelled defs pieces is.1 each.1)
 
 -- what a file spells is small
-pub small_defs : SmallDefs
+small_defs : (bytes : List ℕ) (defs : List Def) → Spells bytes defs → All IsSmall defs
 small_defs bytes defs spelled =
     let tokens : List FileToken = bare spelled.tokens in
     let cut = cut_of tokens in
@@ -204,3 +206,10 @@ small_defs bytes defs spelled =
     let parts : AllByRecursion LacksLong (slice_split is_semicolon tokens) = rw cut.2 lack in
     All-from_recursion IsSmall defs
     (small_spelled defs (pieces_of tokens) spelled.spelled (pieces_lack (slice_split is_semicolon tokens) parts))
+
+-- and within the limits
+pub defs_within_limits : DefsWithinLimits
+defs_within_limits bytes defs spelled = record {
+  few = omega (arith, spelled.few, two_bytes_for_each bytes defs spelled);
+  small = small_defs bytes defs spelled;
+}

@@ -12,7 +12,7 @@ use Rattle.spec_lbnf.specs.declared.definition.Def.{Def}
 use Rattle.spec_lbnf.specs.Expansion.{IsSymbolOf, HasSymbolsOf, category_text, rules_of, item_categories, item_words, met_categories, internal_category, categories_of, words_of, distinct, number_of, symbol_of, numbered_rule, expansion_of}
 use Rattle.spec_lbnf.specs.Laws.{OwnSymbols}
 use Rattle.spec_lbnf.proofs.NameLemmas.{numbers_name_back, distinct_names}
-use Rattle.spec_lbnf.proofs.FileLemmas.{item_at}
+use Rattle.spec_lbnf.proofs.ListLemmas.{item_at}
 
 -- the names have their numbers below the count of the list
 abbrev AreNumbered : List (List ℕ) → List (List ℕ) → Type 0

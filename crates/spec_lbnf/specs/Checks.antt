@@ -1,6 +1,6 @@
 -- What makes definitions unfit for a grammar, check by check, in the order of the checks.
 use Rattle.std.specs.Prelude.{◌≡◌, ℕ, ◌<◌, ◌≤◌, ◌⊎◌, List, [], ◌∷◌, ◌++◌, length, map, flat_map}
-use Rattle.std.specs.Prelude.{slice_get, Some, All, Contains, ◌≢◌, cond, bytes_eq}
+use Rattle.std.specs.Prelude.{slice_get, Some, All, Contains, ◌≢◌, cond, bytes_eq, codes}
 use Rattle.std.specs.List.{list_any}
 use Rattle.spec_grammar.specs.Cycles.{IsCyclic, IsAcyclic}
 use Rattle.spec_grammar.specs.declared.rule.Label.{Label}
@@ -12,7 +12,6 @@ use Rattle.spec_lbnf.specs.declared.definition.RawRule.{RawRule}
 use Rattle.spec_lbnf.specs.declared.definition.Def.{Def}
 use Rattle.spec_lbnf.specs.declared.definition.Def.TheVariants.{Rule as RuleDef, Internal}
 use Rattle.spec_lbnf.specs.declared.definition.Def.TheVariants.{Coercions, Entry}
-use Rattle.spec_lbnf.specs.FirstForm.{predefined_names}
 use Rattle.spec_lbnf.specs.Expansion.{Expansion, category_text, rules_of_def, rules_of}
 use Rattle.spec_lbnf.specs.Expansion.{item_categories, internal_category, expansion_of}
 
@@ -88,6 +87,11 @@ HasFewRules defs = length (rules_of defs) ≤ 1024
 abbrev pub own_categories : Def → List (List ℕ)
 own_categories def =
     internal_category def ++ map (λ (rule : RawRule). category_text rule.cat) (rules_of_def def)
+
+-- the names of the predefined kinds
+abbrev pub predefined_names : List (List ℕ)
+predefined_names =
+    codes "Integer" ∷ codes "Double" ∷ codes "Ident" ∷ codes "String" ∷ codes "Char" ∷ []
 
 -- the name is that of a predefined kind
 abbrev pub IsPredefined : List ℕ → Type 0

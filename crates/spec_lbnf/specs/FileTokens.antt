@@ -15,7 +15,7 @@ use Rattle.spec_lbnf.specs.declared.token.FileToken.TheVariants.{Identifier, Num
 use Rattle.spec_lbnf.specs.declared.token.FileToken.TheVariants.{Character}
 use Rattle.spec_lbnf.specs.declared.token.FileToken.TheVariants.{Sign as SignToken}
 use Rattle.spec_lbnf.specs.declared.token.PlacedToken.{PlacedToken}
-use Rattle.spec_lbnf.specs.FirstForm.{is_white, is_upper, is_name_byte, Stops}
+use Rattle.spec_lbnf.specs.FileBytes.{is_white, is_upper, is_name_byte, Stops}
 
 -- the byte is a letter
 abbrev pub is_letter : ℕ → Bool

@@ -19,7 +19,7 @@ use Rattle.spec_lbnf.specs.declared.token.FileToken.{FileToken}
 use Rattle.spec_lbnf.specs.declared.token.FileToken.TheVariants.{Identifier, Number, Text}
 use Rattle.spec_lbnf.specs.declared.token.FileToken.TheVariants.{Sign as SignToken}
 use Rattle.spec_lbnf.specs.Words.{is_empty, words_in}
-use Rattle.spec_lbnf.specs.FirstForm.{starts_upper}
+use Rattle.spec_lbnf.specs.FileBytes.{starts_upper}
 
 -- the identifier begins with an upper-case letter, as a label's and a category's name does
 abbrev pub IsUpperName : List ℕ → Type 0

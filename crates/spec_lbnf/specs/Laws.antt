@@ -1,29 +1,9 @@
--- What is true of these definitions, for every file and every list of definitions.
-use Rattle.std.specs.Prelude.{◌≡◌, ℕ, ◌*◌, ◌≤◌, ◌↔◌, List, length, Some, slice_get, Contains, IfSome}
+-- What is true of expansion and of its checks, for every list of definitions.
+use Rattle.std.specs.Prelude.{◌≡◌, ℕ, ◌↔◌, List, Some, slice_get, Contains, IfSome}
 use Rattle.spec_grammar.specs.Cycles.{IsAcyclic}
 use Rattle.spec_lbnf.specs.declared.definition.Def.{Def}
-use Rattle.spec_lbnf.specs.FirstForm.{Spells, IsFirstUnbuilt, size_of}
 use Rattle.spec_lbnf.specs.Expansion.{Expansion, distinct, number_of, expansion_of, HasOwnSymbols, IsSymbolOf}
 use Rattle.spec_lbnf.specs.Checks.{AreAllKnown, IsFirstCyclic, Unfitness, AreFit, IsUnfit}
-
--- no file both spells definitions and has a first piece that is not built
-abbrev pub SpelledOrUnbuilt : Type 0
-SpelledOrUnbuilt =
-    (bytes : List ℕ) (defs : List Def) (number : ℕ) → Spells bytes defs
-    → IsFirstUnbuilt bytes number → ⊥
-
--- a file spells at most one list of definitions
-abbrev pub OneSpelling : Type 0
-OneSpelling = (bytes : List ℕ) (a b : List Def) → Spells bytes a → Spells bytes b → a ≡ b
-
--- at most one number is that of the first piece that is not built
-abbrev pub OneUnbuilt : Type 0
-OneUnbuilt = (bytes : List ℕ) (a b : ℕ) → IsFirstUnbuilt bytes a → IsFirstUnbuilt bytes b → a ≡ b
-
--- a file has at least two bytes for each definition and each item that it spells
-abbrev pub TwoBytesEach : Type 0
-TwoBytesEach =
-    (bytes : List ℕ) (defs : List Def) → Spells bytes defs → 2 * size_of defs ≤ length bytes
 
 -- the rules that definitions give have symbols of their grammar alone
 abbrev pub OwnSymbols : Type 0

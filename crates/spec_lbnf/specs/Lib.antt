@@ -1,9 +1,8 @@
+pub mod FileBytes
 pub mod Words
-pub mod FirstForm
 pub mod Expansion
 pub mod Checks
 pub mod Laws
-pub mod Reading
 pub mod FileTokens
 pub mod GrammarFile
 pub mod Faults

@@ -1,39 +1,45 @@
 -- What the length of a file bounds in the definitions that are read from it.
-use Rattle.std.specs.Prelude.{ℕ, ◌<◌, ◌≤◌, List, [], ◌∷◌, length, All}
+use Rattle.std.specs.Prelude.{ℕ, ◌+◌, ◌<◌, ◌≤◌, List, length, All, sum_by}
 use Rattle.spec_lbnf.specs.declared.definition.CatName.{CatName}
+use Rattle.spec_lbnf.specs.declared.definition.RawItem.{RawItem}
+use Rattle.spec_lbnf.specs.declared.definition.RawItem.TheVariants.{Cat, Word}
 use Rattle.spec_lbnf.specs.declared.definition.Def.{Def}
 use Rattle.spec_lbnf.specs.declared.definition.Def.TheVariants.{Rule, Internal, Terminator}
 use Rattle.spec_lbnf.specs.declared.definition.Def.TheVariants.{Separator, Coercions, Entry}
-use Rattle.spec_lbnf.specs.FirstForm.{size_of}
-use Rattle.spec_lbnf.specs.Expansion.{item_words}
-use Rattle.spec_lbnf.specs.Checks.{categories_in}
+use Rattle.spec_lbnf.specs.Words.{words_in}
 
--- the categories that are written in the definition
-abbrev pub written_categories : Def → List CatName
-written_categories (Rule rule) = rule.cat ∷ categories_in rule.items
-written_categories (Internal rule) = rule.cat ∷ categories_in rule.items
-written_categories (Terminator nonempty cat word) = cat ∷ []
-written_categories (Separator nonempty cat word) = cat ∷ []
-written_categories (Coercions name levels) = []
-written_categories (Entry cats) = cats
+-- how many parts a definition has: itself, its items, its entry points, and the words of its string
+abbrev pub def_size : Def → ℕ
+def_size (Rule rule) = 1 + length rule.items
+def_size (Internal rule) = 1 + length rule.items
+def_size (Terminator nonempty cat word) = 1 + length (words_in word)
+def_size (Separator nonempty cat word) = 1 + length (words_in word)
+def_size (Coercions name levels) = 1
+def_size (Entry cats) = 1 + length cats
 
--- the words on the right side that is written in the definition
-abbrev pub written_words : Def → List (List ℕ)
-written_words (Rule rule) = item_words rule.items
-written_words (Internal rule) = item_words rule.items
-written_words other = []
+-- the parts of all definitions, counted together
+abbrev pub size_of : List Def → ℕ
+size_of defs = sum_by def_size defs
 
--- a category of the definition has at most 63 brackets
-abbrev pub IsShallow : Def → Type 0
-IsShallow def = All (λ (cat : CatName). cat.depth ≤ 63) (written_categories def)
+-- the category has at most 63 brackets on each side
+abbrev pub IsShallow : CatName → Type 0
+IsShallow cat = cat.depth ≤ 63
 
--- no word of the definition is empty
-abbrev pub HasWords : Def → Type 0
-HasWords def = All (λ (word : List ℕ). 0 < length word) (written_words def)
+-- a category among items is shallow, and a word has a byte
+abbrev pub IsSmallItem : RawItem → Type 0
+IsSmallItem (Cat cat) = IsShallow cat
+IsSmallItem (Word word) = 0 < length word
 
--- definitions, items, entry points and the words of lists number at most 32,768 together, brackets
--- at most 63, and no word is empty
+-- the categories of the definition are shallow, and no word of its items is empty
+abbrev pub IsSmall : Def → Type 0
+IsSmall (Rule rule) = IsShallow rule.cat × All IsSmallItem rule.items
+IsSmall (Internal rule) = IsShallow rule.cat × All IsSmallItem rule.items
+IsSmall (Terminator nonempty cat word) = IsShallow cat
+IsSmall (Separator nonempty cat word) = IsShallow cat
+IsSmall (Coercions name levels) = Unit {0}
+IsSmall (Entry cats) = All IsShallow cats
+
+-- the definitions have at most 32,768 parts together, and each is small
 pub record AreWithinLimits (defs : List Def) : Type 0 where
   pub few : size_of defs ≤ 32768
-  pub shallow : All IsShallow defs
-  pub worded : All HasWords defs
+  pub small : All IsSmall defs

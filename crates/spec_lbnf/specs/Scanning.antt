@@ -18,7 +18,7 @@ use Rattle.spec_lbnf.specs.declared.token.FileToken.TheVariants.{Identifier, Num
 use Rattle.spec_lbnf.specs.declared.token.FileToken.TheVariants.{Character}
 use Rattle.spec_lbnf.specs.declared.token.FileToken.TheVariants.{Sign as SignToken}
 use Rattle.spec_lbnf.specs.declared.token.PlacedToken.{PlacedToken}
-use Rattle.spec_lbnf.specs.FirstForm.{is_white, is_name_byte}
+use Rattle.spec_lbnf.specs.FileBytes.{is_white, is_name_byte}
 use Rattle.spec_lbnf.specs.FileTokens.{is_letter, is_digit, escaped, longer_by}
 
 -- the value, if the test passes

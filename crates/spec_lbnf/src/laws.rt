@@ -1,25 +1,7 @@
 //! Laws of the definitions: each function here does nothing, and its clause is a theorem.
-ghost use Rattle.spec_lbnf.specs.Laws.{SpelledOrUnbuilt, OneSpelling, OneUnbuilt, TwoBytesEach};
 ghost use Rattle.spec_lbnf.specs.Laws.{OwnSymbols, OwnEntry, FitOrUnfit, OneUnfitness};
 ghost use Rattle.spec_lbnf.specs.Laws.{NumbersNameBack};
 ghost use Rattle.spec_lbnf.specs.Laws.{AcyclicOrCyclic, OneCyclic, DistinctNames};
-
-/// No file both spells definitions and has a piece that is not built.
-pub fn spelled_or_unbuilt()
-    ensures { SpelledOrUnbuilt }
-{}
-
-/// A file spells at most one list of definitions, and at most one piece is its first that is not
-/// built.
-pub fn one_spelling()
-    ensures defs { OneSpelling }
-    ensures piece { OneUnbuilt }
-{}
-
-/// A file has at least two bytes for each definition and each item that it spells.
-pub fn two_bytes_each()
-    ensures { TwoBytesEach }
-{}
 
 /// Each rule of the grammar that definitions stand for is of a category of that grammar, and its
 /// items are categories and kinds of it, whether or not each category has a rule.

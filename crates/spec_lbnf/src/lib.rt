@@ -10,11 +10,10 @@ mod token;
 pub use definition::{CatName, Def, RawItem, RawRule};
 pub use file_laws::{one_scan, small_scans, some_scan, tokens_rise};
 pub use laws::{
-    acyclic_or_cyclic, distinct_names, fit_or_unfit, numbers_name_back, one_spelling,
-    own_entry, own_symbols, spelled_or_unbuilt, two_bytes_each,
+    acyclic_or_cyclic, distinct_names, fit_or_unfit, numbers_name_back, own_entry, own_symbols,
 };
 pub use reading_laws::{
-    defs_or_fault, one_first_fault, one_list_of_defs, small_defs, spelled_or_faulty,
+    defs_or_fault, defs_within_limits, one_first_fault, one_list_of_defs, spelled_or_faulty,
     two_bytes_for_each,
 };
 pub use token::{FileToken, PlacedToken, Sign};

@@ -1,7 +1,8 @@
 //! Laws of what a grammar file spells and of its first fault: each function here does nothing, and
 //! its clause is a theorem.
 ghost use Rattle.spec_lbnf.specs.ReadingLaws.{OneListOfDefs, OneFileOfDefs, OneFirstFault};
-ghost use Rattle.spec_lbnf.specs.ReadingLaws.{SpelledOrFaulty, DefsOrFault, TwoBytesForEach, SmallDefs};
+ghost use Rattle.spec_lbnf.specs.ReadingLaws.{SpelledOrFaulty, DefsOrFault, TwoBytesForEach};
+ghost use Rattle.spec_lbnf.specs.ReadingLaws.{DefsWithinLimits};
 
 /// Tokens spell at most one list of definitions, and so does a file.
 pub fn one_list_of_defs()
@@ -30,8 +31,9 @@ pub fn two_bytes_for_each()
     ensures { TwoBytesForEach }
 {}
 
-/// Of what a file spells, no category has more than 63 brackets on a side, and no word of an item
-/// is empty.
-pub fn small_defs()
-    ensures { SmallDefs }
+/// What a file spells has at most 32,768 definitions, items, entry categories and words of
+/// terminators and separators together, no category has more than 63 brackets on a side, and no
+/// word of an item is empty.
+pub fn defs_within_limits()
+    ensures { DefsWithinLimits }
 {}

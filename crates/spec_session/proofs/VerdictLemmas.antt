@@ -8,7 +8,7 @@ use Rattle.spec_lbnf.specs.Faults.{Spells, FileFault, IsFirstFault}
 use Rattle.spec_lbnf.specs.Expansion.{Expansion, HasOwnSymbols, expansion_of, rules_of, symbol_count}
 use Rattle.spec_lbnf.specs.Checks.{IsKnown, IsUnknown, NamesKnown, AreAllKnown, IsFirstUnknown, IsFirstCyclic, named_categories, IsPredefined, IsFree, IsFirstRepeated, HasOwnNames, own_categories}
 use Rattle.spec_lbnf.specs.Checks.{IsBadCoercion, IsBadList, IsWellLabelled, IsFirstBad, HasFewRules, AreFit, IsUnfit, Unfitness, AtLabels, bad_coercion, bad_list, too_many_rules, repeated_token, unknown_fault, cyclic_category}
-use Rattle.spec_lbnf.proofs.FileLemmas.{item_at}
+use Rattle.spec_lbnf.proofs.ListLemmas.{item_at}
 use Rattle.spec_lbnf.proofs.SymbolLemmas.{own_symbols}
 use Rattle.spec_lbnf.proofs.FaultLemmas.{defs_or_fault}
 use Rattle.spec_grammar.specs.Cycles.{IsCyclic, IsAcyclic}

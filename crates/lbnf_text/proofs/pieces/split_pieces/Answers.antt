@@ -3,7 +3,7 @@ use Rattle.std.specs.List.{list_all}
 use Rattle.std.proofs.lemmas.Iterator.Consumers.{map_from_collect, YieldsList-from_filter}
 use Rattle.std.proofs.lemmas.Iterator.Splits.{YieldsList-from_slice_split}
 use borrow.Author.Tests.{tests}
-use Rattle.spec_lbnf.specs.FirstForm.{is_white}
+use Rattle.spec_lbnf.specs.FileBytes.{is_white}
 use Rattle.lbnf_text.proofs.pieces.split_pieces.Goals as goal
 
 pub returns : goal.returns

@@ -1,6 +1,6 @@
 use Rattle.std.proofs.Common.{◌≡◌, ◌∙◌, sym, false, true}
 use Rattle.std.specs.List.{list_all}
-use Rattle.spec_lbnf.specs.FirstForm.{is_white}
+use Rattle.spec_lbnf.specs.FileBytes.{is_white}
 use Rattle.lbnf_text.specs.ItemReading.{item_of}
 use Rattle.lbnf_text.proofs.ItemLemmas.{no_items, no_side, more_items, all_items, shorter}
 use Rattle.lbnf_text.proofs.rule.side.Goals as goal
