@@ -11,3 +11,4 @@ pub mod FileDefinitions
 pub mod Scanning
 pub mod FileLaws
 pub mod ScanExamples
+pub mod ReadingLaws

@@ -4,6 +4,7 @@
 mod definition;
 mod file_laws;
 mod laws;
+mod reading_laws;
 mod token;
 
 pub use definition::{CatName, Def, RawItem, RawRule};
@@ -11,5 +12,9 @@ pub use file_laws::{one_scan, small_scans, some_scan, tokens_rise};
 pub use laws::{
     acyclic_or_cyclic, distinct_names, fit_or_unknown, numbers_name_back, one_spelling,
     own_symbols, spelled_or_unbuilt, two_bytes_each,
+};
+pub use reading_laws::{
+    defs_or_fault, one_first_fault, one_list_of_defs, small_defs, spelled_or_faulty,
+    two_bytes_for_each,
 };
 pub use token::{FileToken, PlacedToken, Sign};
