@@ -3,6 +3,10 @@ use super::*;
 use std::alloc::{AllocError, Global};
 use std::test::*;
 
+mod faults;
+mod files;
+mod forms;
+
 /// How many definitions a file has, the number of its first piece that is not built, or why it is
 /// not read.
 #[derive(Clone, Copy, Debug, PartialEq, Eq)]
@@ -20,7 +24,7 @@ fn answer_to(alloc: Global, bytes: &[u8]) -> Answer {
     match read_defs(alloc, bytes) {
         Ok(defs) => Answer::Defs(defs.as_slice().len()),
         Err(TextFault::Unbuilt { def }) => Answer::Unbuilt(def),
-        Err(TextFault::Memory) => Answer::Memory,
+        Err(_) => Answer::Memory,
     }
 }
 
@@ -36,7 +40,9 @@ fn defs_of(alloc: Global, bytes: &[u8]) -> Option<Defs> {
 fn parts(alloc: Global, defs: &Defs) -> Result<Vec<u8>, AllocError> {
     let mut out = Vec::new(alloc);
     for def in defs.as_slice() {
-        let Def::Rule(rule) = def;
+        let Def::Rule(rule) = def else {
+            continue;
+        };
         if let Label::Named(name) = &rule.label {
             out.extend_from_slice(name.as_slice())?;
         }
