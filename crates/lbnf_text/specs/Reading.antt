@@ -1,13 +1,21 @@
 -- What a caller sees of reading a grammar file.
-use Rattle.std.specs.Prelude.{ℕ, List, Result, Ok, Err}
+use Rattle.std.specs.Prelude.{ℕ, List, Option, Some, None, Result, Ok, Err, IfSome}
 use Rattle.spec_lbnf.specs.declared.definition.Def.{Def}
-use Rattle.spec_lbnf.specs.FirstForm.{Spells, IsFirstUnbuilt}
+use Rattle.spec_lbnf.specs.Faults.{Spells, IsFirstFault, FileFault, too_large, not_utf8, syntax}
+use Rattle.spec_lbnf.specs.Faults.{unsupported, unbuilt}
 use Rattle.lbnf_text.specs.declared.fault.TextFault.{TextFault}
-use Rattle.lbnf_text.specs.declared.fault.TextFault.TheVariants.{Memory, Unbuilt}
+use Rattle.lbnf_text.specs.declared.fault.TextFault.TheVariants as told
 
--- the answer on the file is its definitions, or its first piece that is not built; want of memory is free
+-- the fault of the file that is told, and None where memory ran out
+abbrev pub file_fault_of : TextFault → Option FileFault
+file_fault_of told.Memory = None
+file_fault_of (told.TooLarge count) = Some (too_large count)
+file_fault_of (told.NotUtf8 at) = Some (not_utf8 at)
+file_fault_of (told.Syntax at) = Some (syntax at)
+file_fault_of (told.Unsupported word at) = Some (unsupported word at)
+file_fault_of (told.Unbuilt number) = Some (unbuilt number)
+
+-- the answer on the file is its definitions, or its first fault; want of memory is free
 abbrev pub ReadsDefs : List ℕ → Result (List Def) TextFault → Type 0
 ReadsDefs bytes (Ok defs) = Spells bytes defs
-ReadsDefs bytes (Err Memory) = Unit {0}
-ReadsDefs bytes (Err (Unbuilt number)) = IsFirstUnbuilt bytes number
-ReadsDefs bytes (Err other) = ⊥
+ReadsDefs bytes (Err fault) = IfSome (file_fault_of fault) (IsFirstFault bytes)

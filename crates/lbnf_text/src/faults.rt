@@ -7,9 +7,8 @@ ghost use Rattle.spec_lbnf.specs.Faults.{bare, unbuilt_words, word_fault, piece_
 ghost use Rattle.spec_lbnf.specs.FileDefinitions.{place_of, stuck_fault};
 ghost use Rattle.lbnf_text.specs.Faulting.{identifier, IsFault, IsStart};
 
-use crate::bytes::starts_upper;
 use crate::fault::TextFault;
-use crate::parser::{copy_name, first_of, is_sign};
+use crate::parser::{copy_name, first_of, is_sign, starts_upper};
 use spec_lbnf::{FileToken, PlacedToken, Sign};
 use spec_text::Name;
 use std::alloc::{AllocError, Global};

@@ -1,7 +1,6 @@
 //! Reading a grammar file: from its bytes to its definitions.
 #![tactic(auto)]
 
-mod bytes;
 mod categories;
 mod definition;
 mod definitions;
@@ -11,11 +10,8 @@ mod faults;
 mod items;
 mod labels;
 mod parser;
-mod pieces;
 mod reading;
-mod rule;
 mod scanner;
-mod tokens;
 
 pub use defs::Defs;
 pub use fault::TextFault;

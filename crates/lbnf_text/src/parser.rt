@@ -2,12 +2,12 @@
 ghost use Rattle.std.specs.Prelude.{◌≡◌, ◌<◌, ◌↔◌, [], ◌∷◌, length, IfOk, OnOk, IsTrue};
 ghost use Rattle.std.specs.Prelude.{MatchOption};
 ghost use Rattle.std.specs.Option.{option_copied};
+ghost use Rattle.spec_lbnf.specs.FileBytes.{starts_upper};
 ghost use Rattle.spec_lbnf.specs.FileTokens.{sign_bytes};
 ghost use Rattle.spec_lbnf.specs.FileReading.{is_sign, is_word, upper_name, text_value, number_value};
 ghost use Rattle.spec_lbnf.specs.FileReading.{sign_at, name_at, text_at, number_at};
 ghost use Rattle.lbnf_text.specs.Parsing.{Gives, Splits};
 
-use crate::bytes::starts_upper;
 use spec_lbnf::{FileToken, PlacedToken, Sign};
 use spec_text::Name;
 use std::alloc::{AllocError, Global};
@@ -48,6 +48,16 @@ impl<'a> Model for Parser<'a> {
     ghost Value = { List PlacedToken };
 
     ghost view = { λ parser. parser.rest.now };
+}
+
+/// Whether an upper-case letter comes first.
+pub fn starts_upper(bytes: &[u8]) -> bool
+    ensures { result ≡ starts_upper bytes.now }
+{
+    match bytes {
+        [] => false,
+        [byte, ..] => byte.is_ascii_uppercase(),
+    }
 }
 
 impl<'a> Parser<'a> {

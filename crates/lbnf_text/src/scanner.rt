@@ -4,7 +4,7 @@ ghost use Rattle.std.specs.Prelude.{cond, Some, None, IfSome, MatchOption, encod
 ghost use Rattle.std.specs.Char.{IsScalar};
 ghost use Rattle.std.specs.List.{prefix_len};
 ghost use Rattle.std.specs.Option.{option_map};
-ghost use Rattle.spec_lbnf.specs.FileBytes.{is_white};
+ghost use Rattle.spec_lbnf.specs.FileBytes.{is_white, is_name_byte};
 ghost use Rattle.spec_lbnf.specs.FileTokens.{Begins, is_letter, is_digit, escaped, longer_by};
 ghost use Rattle.spec_lbnf.specs.FileTokens.{Skips, Separates, BeginsWith, IsScan};
 ghost use Rattle.spec_lbnf.specs.Scanning.{is_in_line, behind_line, behind_closing, behind_white};
@@ -13,7 +13,6 @@ ghost use Rattle.spec_lbnf.specs.Scanning.{string_at, character_at, byte_sign, h
 ghost use Rattle.spec_lbnf.specs.Scanning.{sign_at, token_at};
 ghost use Rattle.lbnf_text.specs.LiteralParts.{IsPartOf, IsScalarPart, LeavesFewer};
 
-use crate::bytes::{ByteSort, split_run};
 use spec_lbnf::{FileToken, PlacedToken, Sign};
 use spec_text::Name;
 use std::alloc::{AllocError, Global};
@@ -191,14 +190,29 @@ fn character(text: &str) -> Option<(FileToken, &str)>
     Some((FileToken::Character(scalar), behind))
 }
 
+fn is_name_byte(byte: u8) -> bool
+    ensures { result ≡ is_name_byte byte }
+{
+    byte.is_ascii_alphanumeric() || byte == b'_' || byte == b'\''
+}
+
+/// How many bytes of an identifier the bytes begin with.
+fn name_len(bytes: &[u8]) -> usize
+    ensures { result ≡ prefix_len is_name_byte bytes.now }
+{
+    bytes
+        .iter()
+        .take_while(|byte| is_name_byte(**byte))
+        .count()
+}
+
 /// The identifier at the front of a text that begins with a letter, and what is behind it.
 #[tactic(auto, unfolding(spec_lbnf::specs::Scanning::identifier_at))]
 fn identifier(alloc: Global, text: &str) -> Result<Option<(FileToken, &str)>, AllocError>
     requires { Begins is_letter text.now }
     ensures { IfOk result (λ read. option_map (λ x. (x.0, x.1.now)) read ≡ identifier_at text.now) }
 {
-    let (run, _behind) = split_run(text.as_bytes(), ByteSort::InName);
-    let (name, rest) = text.split_at(run.len());
+    let (name, rest) = text.split_at(name_len(text.as_bytes()));
     if name.len() > MAX_NAME {
         return Ok(None);
     }

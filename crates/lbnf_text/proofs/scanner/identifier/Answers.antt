@@ -4,4 +4,4 @@ use Rattle.lbnf_text.proofs.scanner.identifier.Goals as goal
 
 pub split_at-requires : goal.split_at-requires
 split_at-requires c =
-    rw (c.split_run.ensures.len, c.as_bytes.ensures.value) (name_boundary c.args.text.now c.utf8.text)
+    rw (c.name_len.ensures, c.as_bytes.ensures.value) (name_boundary c.args.text.now c.utf8.text)
