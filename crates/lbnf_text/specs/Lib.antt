@@ -5,3 +5,4 @@ pub mod ItemReading
 pub mod Parsing
 pub mod Faulting
 pub mod LiteralParts
+pub mod WholeFile

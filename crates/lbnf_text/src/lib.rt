@@ -8,6 +8,7 @@ mod definitions;
 mod defs;
 mod fault;
 mod faults;
+mod file;
 mod items;
 mod labels;
 mod parser;

@@ -1,5 +1,5 @@
 //! What each form of definition gives, with answers by hand.
-use super::files::read_file;
+use crate::file::read_file;
 use crate::{CatName, Def, Label, RawItem, RawRule};
 use std::alloc::{AllocError, Global};
 use std::test::*;
