@@ -8,9 +8,9 @@ ghost use Rattle.spec_lbnf.specs.FirstForm.{is_white};
 ghost use Rattle.spec_lbnf.specs.FileTokens.{Begins, is_letter, is_digit, escaped, longer_by};
 ghost use Rattle.spec_lbnf.specs.FileTokens.{Skips, Separates, BeginsWith, IsScan};
 ghost use Rattle.spec_lbnf.specs.Scanning.{is_in_line, behind_line, behind_closing, behind_white};
-ghost use Rattle.spec_lbnf.specs.Scanning.{behind_space, identifier_at, number_at, is_escape};
+ghost use Rattle.spec_lbnf.specs.Scanning.{behind_space, identifier_at, number_token_at, is_escape};
 ghost use Rattle.spec_lbnf.specs.Scanning.{string_at, character_at, byte_sign, has_more};
-ghost use Rattle.spec_lbnf.specs.Scanning.{sign_at, token_at};
+ghost use Rattle.spec_lbnf.specs.Scanning.{sign_token_at, token_at};
 ghost use Rattle.lbnf_text.specs.LiteralParts.{IsPartOf, IsScalarPart, LeavesFewer};
 
 use crate::bytes::{ByteSort, split_run};
@@ -217,10 +217,10 @@ fn digit_count(bytes: &[u8]) -> usize
 }
 
 /// The number at the front of a text that begins with a digit, and what is behind it.
-#[tactic(auto, unfolding(spec_lbnf::specs::Scanning::number_at))]
+#[tactic(auto, unfolding(spec_lbnf::specs::Scanning::number_token_at))]
 fn number(text: &str) -> Option<(FileToken, &str)>
     requires { Begins is_digit text.now }
-    ensures { option_map (λ x. (x.0, x.1.now)) result ≡ number_at text.now }
+    ensures { option_map (λ x. (x.0, x.1.now)) result ≡ number_token_at text.now }
 {
     let (digits, rest) = text.split_at(digit_count(text.as_bytes()));
     if digits.len() > MAX_DIGITS {
@@ -267,9 +267,9 @@ fn goes_on(sign: Sign, text: &str) -> bool
 }
 
 /// The longest sign at the front, and what is behind it.
-#[tactic(auto, unfolding(spec_lbnf::specs::Scanning::sign_at))]
+#[tactic(auto, unfolding(spec_lbnf::specs::Scanning::sign_token_at))]
 fn sign(text: &str) -> Option<(FileToken, &str)>
-    ensures { option_map (λ x. (x.0, x.1.now)) result ≡ sign_at text.now }
+    ensures { option_map (λ x. (x.0, x.1.now)) result ≡ sign_token_at text.now }
 {
     if let Some(rest) = text.strip_prefix("::=") {
         return Some((FileToken::Sign(Sign::Gives), rest));
