@@ -1,16 +1,16 @@
 //! The tokens of a grammar file, each by longest match from behind the one before it.
-ghost use Rattle.std.specs.Prelude.{◌≡◌, ◌≤◌, ◌<◌, ◌⊎◌, ℕ, [], ◌++◌, length, true, false, IfOk, IsUtf8};
-ghost use Rattle.std.specs.Prelude.{cond, Some, None, IfSome, MatchOption, encode_utf8};
+ghost use Rattle.std.specs.Prelude.{◌≡◌, ◌≤◌, ◌<◌, ◌⊎◌, ℕ, [], ◌++◌, length, true, false, cond};
+ghost use Rattle.std.specs.Prelude.{Some, None, IfOk, IfSome, MatchOption, encode_utf8};
 ghost use Rattle.std.specs.Char.{IsScalar};
 ghost use Rattle.std.specs.List.{prefix_len};
 ghost use Rattle.std.specs.Option.{option_map};
 ghost use Rattle.spec_lbnf.specs.FirstForm.{is_white};
 ghost use Rattle.spec_lbnf.specs.FileTokens.{Begins, is_letter, is_digit, escaped, longer_by};
-ghost use Rattle.spec_lbnf.specs.FileTokens.{Skips, Separates, BeginsWith, IsScan};
-ghost use Rattle.spec_lbnf.specs.Scanning.{is_in_line, behind_line, behind_closing, behind_white};
-ghost use Rattle.spec_lbnf.specs.Scanning.{behind_space, identifier_at, number_token_at, is_escape};
-ghost use Rattle.spec_lbnf.specs.Scanning.{string_at, character_at, byte_sign, has_more};
-ghost use Rattle.spec_lbnf.specs.Scanning.{sign_token_at, token_at};
+ghost use Rattle.spec_lbnf.specs.FileTokens.{Skips, IsScan};
+ghost use Rattle.spec_lbnf.specs.Scanning.{behind_line, behind_closing, behind_white, behind_space};
+ghost use Rattle.spec_lbnf.specs.Scanning.{is_escape, string_at, character_at, identifier_at};
+ghost use Rattle.spec_lbnf.specs.Scanning.{number_token_at, byte_sign, has_more, sign_token_at};
+ghost use Rattle.spec_lbnf.specs.Scanning.{token_at};
 ghost use Rattle.lbnf_text.specs.LiteralParts.{IsPartOf, IsScalarPart, LeavesFewer};
 
 use crate::bytes::{ByteSort, split_run};
