@@ -1,7 +1,6 @@
 -- Each token that is read is the next one of the file.
-use Rattle.std.proofs.Common.{◌≡◌, ℕ, List, [], ◌∷◌, ◌++◌, length, Some, None, rules, arith, append_assoc}
+use Rattle.std.proofs.Common.{ℕ, [], length, rules, arith, append_assoc}
 use Rattle.std.proofs.lemmas.List.{append-nil}
-use Rattle.spec_lbnf.specs.Scanning.{token_at}
 use Rattle.spec_lbnf.proofs.ScanLemmas.{skip_shorter}
 use Rattle.lbnf_text.proofs.ScanTextLemmas.{behind_token_is_shorter, token_then, no_token_then}
 use Rattle.lbnf_text.proofs.scanner.scan_file.Goals as goal
@@ -31,6 +30,6 @@ loop-tokens-preserved c =
       utf8 = search rules;
       within = omega (arith, shorter, c.loop-tokens.invariant.within);
       so_far = λ tokens stop more.
-        let next = token_then size c.loop-tokens.rest.now c.skip_spaces-here.result.now c.in-Some.behind.now c.in-Some.token tokens stop c.loop-tokens.invariant.within c.skip_spaces-here.ensures.skips read more in
-        rw (c.in_ok-push.ensures.items, append_assoc) (c.loop-tokens.invariant.so_far _ stop next);
+          let next = token_then size c.loop-tokens.rest.now c.skip_spaces-here.result.now c.in-Some.behind.now c.in-Some.token tokens stop c.loop-tokens.invariant.within c.skip_spaces-here.ensures.skips read more in
+          rw (c.in_ok-push.ensures.items, append_assoc) (c.loop-tokens.invariant.so_far _ stop next);
     }
