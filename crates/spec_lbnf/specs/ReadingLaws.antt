@@ -1,5 +1,7 @@
--- What is true of what a grammar file spells and of its first fault, for every file.
-use Rattle.std.specs.Prelude.{◌≡◌, ℕ, ◌+◌, ◌*◌, ◌<◌, ◌≤◌, ◌⊎◌, List, [], ◌∷◌, length, codes}
+-- What is true of what a grammar file spells and of its first fault: for every file, and for small
+-- files by hand.
+use Rattle.std.specs.Prelude.{◌≡◌, ℕ, ◌+◌, ◌*◌, ◌<◌, ◌≤◌, ◌⊎◌, List, [], ◌∷◌, ◌++◌}
+use Rattle.std.specs.Prelude.{length, codes, replicate}
 use Rattle.std.specs.Prelude.{true, false, sum_by, All}
 use Rattle.spec_grammar.specs.declared.rule.Label.TheVariants.{Named, Wild, Nil, One}
 use Rattle.spec_lbnf.specs.declared.definition.CatName.{CatName}
@@ -85,6 +87,11 @@ SmallDefs = (bytes : List ℕ) (defs : List Def) → Spells bytes defs → All I
 abbrev pub cat : ℕ → List ℕ → CatName
 cat depth name = record { name = name; depth = depth }
 
+-- the file of one rule for a category of so many brackets and this name
+abbrev pub one_category : ℕ → List ℕ → List ℕ
+one_category depth name =
+    codes "_." ++ (replicate depth 91 ++ (name ++ (replicate depth 93 ++ codes "::=")))
+
 -- what small files spell, or their first fault, by hand
 pub record SmallReadings : Type 0 where
   pub nothing_in_it : Spells (codes " ;; ") []
@@ -117,4 +124,7 @@ pub record SmallReadings : Type 0 where
   pub no_token : IsFirstFault (codes "_.S::=S @") (syntax 8)
   pub open_category : IsFirstFault (codes "_.[S::=") (syntax 4)
   pub no_entry : IsFirstFault (codes "entrypoints") (syntax 11)
+  pub deep_category : Spells (one_category 63 (codes "SS"))
+      (Rule (record { label = Wild; cat = cat 63 (codes "SS"); items = [] }) ∷ [])
+  pub too_long_category : IsFirstFault (one_category 63 (codes "SSS")) (syntax 2)
   pub no_utf8 : IsFirstFault (95 ∷ 255 ∷ []) (not_utf8 1)

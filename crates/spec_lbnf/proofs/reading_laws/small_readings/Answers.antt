@@ -1,5 +1,5 @@
 -- The functions of Scanning, FileReading and FileDefinitions compute what is read.
-use Rattle.std.proofs.Common.{◌≡◌, ℕ, ◌≤◌, ◌<◌, List, [], ◌∷◌, codes, length, Bool, true, false, Result, Ok, Err, refl, arith}
+use Rattle.std.proofs.Common.{◌≡◌, ℕ, ◌≤◌, ◌<◌, List, codes, length, true, Ok, Err, refl, arith}
 use Rattle.std.specs.Char.{encode_utf8}
 use Rattle.std.specs.Str.{chars, is_utf8}
 use Rattle.std.specs.Str.Lossy.{utf8_valid_len}
@@ -7,6 +7,7 @@ use Rattle.std.proofs.lemmas.Str.{IsUtf8-from_is_utf8}
 use Rattle.spec_lbnf.specs.declared.definition.Def.{Def}
 use Rattle.spec_lbnf.specs.Scanning.{scan_of, behind_closing, behind_space, identifier_at, number_at, literal_from, string_at, character_at, sign_at as sign_token_at, token_at, tokens_from}
 use Rattle.spec_lbnf.specs.Faults.{FileFault, syntax, Spells, IsFirstFault, is_not_utf8}
+use Rattle.spec_lbnf.specs.ReadingLaws.{one_category}
 use Rattle.spec_lbnf.specs.FileReading.{next_on, take_token, sign_at, name_at, text_at, number_at as count_at, closes_at, bracketed_at, category_at, nil_at, one_at, colon_label_at, paren_label_at, sign_label_at, label_at, item_at, items_at, side_at, rule_at, macro_at, list_macro_at, coercions_at, more_entries_at, entries_at, to_end, def_by, def_at}
 use Rattle.spec_lbnf.specs.FileDefinitions.{piece_def, defs_at, defs_of}
 use Rattle.spec_lbnf.proofs.ScanLemmas.{scanned}
@@ -56,5 +57,7 @@ returns c = record {
   no_token = cut_off (codes "_.S::=S @") _ (omega arith) refl (omega arith) refl;
   open_category = faulty (codes "_.[S::=") _ (omega arith) refl refl;
   no_entry = faulty (codes "entrypoints") _ (omega arith) refl refl;
+  deep_category = spelled (one_category 63 (codes "SS")) _ (omega arith) refl refl refl;
+  too_long_category = faulty (one_category 63 (codes "SSS")) _ (omega arith) refl refl;
   no_utf8 = is_not_utf8 (omega arith) (omega arith) refl;
 }
