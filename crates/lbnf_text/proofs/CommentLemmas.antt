@@ -1,6 +1,6 @@
 -- Comments: what a search of the text finds is where a comment ends.
-use Rattle.std.proofs.Common.{◌≡◌, ℕ, ◌<◌, ◌≤◌, ◌≢◌, List, [], ◌∷◌, ◌++◌, length, get_or, take, drop, codes, Option, Some, None, refl, sym, ap, subst, ◌∙◌, arith, append_assoc, length-append, length-take, take-append-drop, IsUtf8, true, false, cond}
-use Rattle.std.specs.Str.Pattern.{FindsText, HasTextAt, LacksTextAt}
+use Rattle.std.proofs.Common.{◌≡◌, ℕ, ◌<◌, ◌≤◌, ◌≢◌, List, [], ◌∷◌, ◌++◌, length, get_or, take, drop, codes, Option, Some, None, refl, sym, ap, ◌∙◌, arith, append_assoc, length-append, length-take, take-append-drop, IsUtf8, true}
+use Rattle.std.specs.Str.Pattern.{FindsText}
 use Rattle.std.proofs.lemmas.Bool.{ne_eqb, eq-eqb, not_from_true, not_from_false}
 use Rattle.std.proofs.lemmas.Bool.Decides.{nat_tests}
 use Rattle.std.proofs.lemmas.List.{drop_at, drop_all}
@@ -37,7 +37,7 @@ module _ (bytes : List ℕ) where
       let inside : List ℕ = take start bytes in
       let rest : List ℕ = drop end bytes in
       let whole : bytes ≡ (inside ++ codes "-}") ++ rest =
-        sym (take-append-drop start bytes) ∙ ap (λ l. inside ++ l) has.split ∙ sym (append_assoc inside (codes "-}") rest) in
+      sym (take-append-drop start bytes) ∙ ap (λ l. inside ++ l) has.split ∙ sym (append_assoc inside (codes "-}") rest) in
       let ends : EndsFirst (inside ++ codes "-}") (codes "-}") = record { inside = inside; whole = refl; first = by whole } in
       sym (ap behind_closing whole ∙ closing_again inside rest ends)
     where
@@ -47,7 +47,7 @@ module _ (bytes : List ℕ) where
       by whole before (b ∷ behind) e =
           let earlier : length before < start = omega (arith, simp length-append at (ap length e), length-take start bytes) in
           let stands : bytes ≡ before ++ (codes "-}" ++ (b ∷ behind ++ drop end bytes)) =
-            whole ∙ ap (λ l. l ++ drop end bytes) e ∙ append_assoc before (codes "-}" ++ b ∷ behind) (drop end bytes) in
+          whole ∙ ap (λ l. l ++ drop end bytes) e ∙ append_assoc before (codes "-}" ++ b ∷ behind) (drop end bytes) in
           absurd (lacks (length before) earlier (b ∷ behind ++ drop end bytes) (stands_behind before (codes "-}") (b ∷ behind ++ drop end bytes) stands))
 
   -- where none is found, there is none
@@ -60,7 +60,7 @@ module _ (bytes : List ℕ) where
           let read = closing_read bytes rest e in
           let inside : List ℕ = read.1.inside in
           let stands : bytes ≡ inside ++ (codes "-}" ++ rest) =
-            read.2 ∙ ap (λ l. l ++ rest) read.1.whole ∙ append_assoc inside (codes "-}") rest in
+          read.2 ∙ ap (λ l. l ++ rest) read.1.whole ∙ append_assoc inside (codes "-}") rest in
           let within : length inside ≤ length bytes = omega (arith, simp length-append at (ap length stands)) in
           absurd (lacks (length inside) within rest (stands_behind inside (codes "-}") rest stands))
 

@@ -5,3 +5,5 @@ pub mod CommentLemmas
 pub mod PartLemmas
 pub mod RunTextLemmas
 pub mod LiteralLemmas
+pub mod SignTextLemmas
+pub mod ScanTextLemmas

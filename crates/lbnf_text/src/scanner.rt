@@ -1,16 +1,16 @@
 //! The tokens of a grammar file, each by longest match from behind the one before it.
-ghost use Rattle.std.specs.Prelude.{◌≡◌, ◌≤◌, ◌<◌, ◌⊎◌, ℕ, [], ◌++◌, length, true, false, IfOk, IsUtf8};
-ghost use Rattle.std.specs.Prelude.{cond, Some, None, IfSome, MatchOption, encode_utf8};
+ghost use Rattle.std.specs.Prelude.{◌≡◌, ◌≤◌, ◌<◌, ◌⊎◌, ℕ, [], ◌++◌, length, true, false, cond};
+ghost use Rattle.std.specs.Prelude.{Some, None, IfOk, IfSome, MatchOption, encode_utf8};
 ghost use Rattle.std.specs.Char.{IsScalar};
 ghost use Rattle.std.specs.List.{prefix_len};
 ghost use Rattle.std.specs.Option.{option_map};
 ghost use Rattle.spec_lbnf.specs.FirstForm.{is_white};
 ghost use Rattle.spec_lbnf.specs.FileTokens.{Begins, is_letter, is_digit, escaped, longer_by};
-ghost use Rattle.spec_lbnf.specs.FileTokens.{Skips, Separates, BeginsWith, IsScan};
-ghost use Rattle.spec_lbnf.specs.Scanning.{is_in_line, behind_line, behind_closing, behind_white};
-ghost use Rattle.spec_lbnf.specs.Scanning.{behind_space, identifier_at, number_at, is_escape};
-ghost use Rattle.spec_lbnf.specs.Scanning.{string_at, character_at, byte_sign, has_more};
-ghost use Rattle.spec_lbnf.specs.Scanning.{sign_at, token_at};
+ghost use Rattle.spec_lbnf.specs.FileTokens.{Skips, IsScan};
+ghost use Rattle.spec_lbnf.specs.Scanning.{behind_line, behind_closing, behind_white, behind_space};
+ghost use Rattle.spec_lbnf.specs.Scanning.{is_escape, string_at, character_at, identifier_at};
+ghost use Rattle.spec_lbnf.specs.Scanning.{number_token_at, byte_sign, has_more, sign_token_at};
+ghost use Rattle.spec_lbnf.specs.Scanning.{token_at};
 ghost use Rattle.lbnf_text.specs.LiteralParts.{IsPartOf, IsScalarPart, LeavesFewer};
 
 use crate::bytes::{ByteSort, split_run};
@@ -217,10 +217,10 @@ fn digit_count(bytes: &[u8]) -> usize
 }
 
 /// The number at the front of a text that begins with a digit, and what is behind it.
-#[tactic(auto, unfolding(spec_lbnf::specs::Scanning::number_at))]
+#[tactic(auto, unfolding(spec_lbnf::specs::Scanning::number_token_at))]
 fn number(text: &str) -> Option<(FileToken, &str)>
     requires { Begins is_digit text.now }
-    ensures { option_map (λ x. (x.0, x.1.now)) result ≡ number_at text.now }
+    ensures { option_map (λ x. (x.0, x.1.now)) result ≡ number_token_at text.now }
 {
     let (digits, rest) = text.split_at(digit_count(text.as_bytes()));
     if digits.len() > MAX_DIGITS {
@@ -267,9 +267,9 @@ fn goes_on(sign: Sign, text: &str) -> bool
 }
 
 /// The longest sign at the front, and what is behind it.
-#[tactic(auto, unfolding(spec_lbnf::specs::Scanning::sign_at))]
+#[tactic(auto, unfolding(spec_lbnf::specs::Scanning::sign_token_at))]
 fn sign(text: &str) -> Option<(FileToken, &str)>
-    ensures { option_map (λ x. (x.0, x.1.now)) result ≡ sign_at text.now }
+    ensures { option_map (λ x. (x.0, x.1.now)) result ≡ sign_token_at text.now }
 {
     if let Some(rest) = text.strip_prefix("::=") {
         return Some((FileToken::Sign(Sign::Gives), rest));
@@ -283,5 +283,299 @@ fn sign(text: &str) -> Option<(FileToken, &str)>
         None
     } else {
         Some((FileToken::Sign(sign), rest))
+    }
+}
+
+/// The token at the front, by its first byte, and what is behind it.
+#[tactic(auto, unfolding(spec_lbnf::specs::Scanning::token_at))]
+fn token(alloc: Global, text: &str) -> Result<Option<(FileToken, &str)>, AllocError>
+    ensures { IfOk result (λ read. option_map (λ x. (x.0, x.1.now)) read ≡ token_at text.now) }
+{
+    let [byte, ..] = text.as_bytes() else {
+        return Ok(None);
+    };
+    if byte.is_ascii_alphabetic() {
+        identifier(alloc, text)
+    } else if byte.is_ascii_digit() {
+        Ok(number(text))
+    } else if *byte == b'"' {
+        string(alloc, &text[1..])
+    } else if *byte == b'\'' {
+        Ok(character(&text[1..]))
+    } else {
+        Ok(sign(text))
+    }
+}
+
+/// What is behind all white bytes and comments at the front.
+fn skip_spaces(text: &str) -> &str
+    ensures skips { Skips text.now result.now }
+    ensures free { behind_space result.now ≡ None }
+{
+    let mut rest = text;
+    while let Some(behind) = behind_space(rest) {
+        rest = behind;
+    }
+    rest
+}
+
+/// The tokens of a file, up to its end or the first byte at which no token begins. It looks at
+/// each byte a few times, and the memory that it takes is in proportion to the tokens.
+pub(crate) fn scan_file(alloc: Global, text: &str) -> Result<Scan, AllocError>
+    requires { length text.now ≤ 65536 }
+    ensures { IfOk result (λ scan. IsScan text.now scan.tokens.items scan.stop) }
+{
+    let mut tokens = Vec::new(alloc);
+    let mut rest = text;
+    loop {
+        let here = skip_spaces(rest);
+        let place = (text.len() - here.len()) as u32;
+        let Some((token, behind)) = token(alloc, here)? else {
+            return Ok(Scan {
+                tokens,
+                stop: place,
+            });
+        };
+        tokens.push(PlacedToken { token, place })?;
+        rest = behind;
+    }
+}
+
+#[cfg(test)]
+mod tests {
+    use super::*;
+    use crate::MAX_FILE;
+    use std::test::*;
+
+    /// A token as it is expected.
+    #[derive(Clone, Copy, Debug)]
+    enum Seen<'a> {
+        Name(&'a str),
+        Number(u16),
+        Text(&'a str),
+        Char(char),
+        Sign(Sign),
+    }
+
+    fn is_token(token: &FileToken, expected: &Seen<'_>) -> bool {
+        match (token, expected) {
+            (FileToken::Identifier(name), Seen::Name(text)) => name.as_str() == *text,
+            (FileToken::Number(value), Seen::Number(number)) => value == number,
+            (FileToken::Text(value), Seen::Text(text)) => value.as_str() == *text,
+            (FileToken::Character(value), Seen::Char(scalar)) => value == scalar,
+            (FileToken::Sign(value), Seen::Sign(sign)) => value == sign,
+            _ => false,
+        }
+    }
+
+    fn are_tokens(tokens: &[PlacedToken], expected: &[(u32, Seen<'_>)]) -> bool {
+        for (token, (place, seen)) in tokens.iter().zip(expected) {
+            if token.place != *place || !is_token(&token.token, seen) {
+                return false;
+            }
+        }
+        tokens.len() == expected.len()
+    }
+
+    /// Whether the scan of the text has these tokens at their places, and this stop.
+    fn is_scan(
+        alloc: Global,
+        text: &str,
+        expected: &[(u32, Seen<'_>)],
+        stop: u32,
+    ) -> Result<bool, AllocError> {
+        if MAX_FILE < text.len() {
+            return Ok(false);
+        }
+        let scan = scan_file(alloc, text)?;
+        Ok(are_tokens(scan.tokens.as_slice(), expected) && scan.stop == stop)
+    }
+
+    #[test]
+    fn a_rule_is_its_tokens_in_order(rt: HostRuntime) -> Result<(), Fail> {
+        let text = "Add1' . Exp ::= [Exp] \"+ -\" ; -- more\n";
+        let tokens = [
+            (0, Seen::Name("Add1'")),
+            (6, Seen::Sign(Sign::Dot)),
+            (8, Seen::Name("Exp")),
+            (12, Seen::Sign(Sign::Gives)),
+            (16, Seen::Sign(Sign::OpenBracket)),
+            (17, Seen::Name("Exp")),
+            (20, Seen::Sign(Sign::CloseBracket)),
+            (22, Seen::Text("+ -")),
+            (28, Seen::Sign(Sign::Semicolon)),
+        ];
+        assert!(rt; is_scan(rt.alloc(), text, tokens.as_slice(), 38)?);
+        Ok(())
+    }
+
+    #[test]
+    fn each_sign_is_read(rt: HostRuntime) -> Result<(), Fail> {
+        let text = ".;::=:[](){},|*+?-_";
+        let signs = [
+            (0, Seen::Sign(Sign::Dot)),
+            (1, Seen::Sign(Sign::Semicolon)),
+            (2, Seen::Sign(Sign::Gives)),
+            (5, Seen::Sign(Sign::Colon)),
+            (6, Seen::Sign(Sign::OpenBracket)),
+            (7, Seen::Sign(Sign::CloseBracket)),
+            (8, Seen::Sign(Sign::OpenParen)),
+            (9, Seen::Sign(Sign::CloseParen)),
+            (10, Seen::Sign(Sign::OpenBrace)),
+            (11, Seen::Sign(Sign::CloseBrace)),
+            (12, Seen::Sign(Sign::Comma)),
+            (13, Seen::Sign(Sign::Bar)),
+            (14, Seen::Sign(Sign::Star)),
+            (15, Seen::Sign(Sign::Plus)),
+            (16, Seen::Sign(Sign::Question)),
+            (17, Seen::Sign(Sign::Minus)),
+            (18, Seen::Sign(Sign::Underscore)),
+        ];
+        assert!(rt; is_scan(rt.alloc(), text, signs.as_slice(), 19)?);
+        Ok(())
+    }
+
+    #[test]
+    fn each_sort_of_token_is_read(rt: HostRuntime) -> Result<(), Fail> {
+        let cases = [
+            ("", &[][..], 0),
+            (" \t\n\x0b\x0c\r", &[][..], 6),
+            ("a_'9", &[(0, Seen::Name("a_'9"))][..], 4),
+            ("Z", &[(0, Seen::Name("Z"))][..], 1),
+            ("0", &[(0, Seen::Number(0))][..], 1),
+            (" 0042 ", &[(1, Seen::Number(42))][..], 6),
+            ("9999", &[(0, Seen::Number(9999))][..], 4),
+            ("1a", &[(0, Seen::Number(1)), (1, Seen::Name("a"))][..], 2),
+            ("\"\"", &[(0, Seen::Text(""))][..], 2),
+            ("\"a 'é'\"", &[(0, Seen::Text("a 'é'"))][..], 8),
+            (r#""\"\'\\\n\t""#, &[(0, Seen::Text("\"'\\\n\t"))][..], 12),
+            ("\"\t\"", &[(0, Seen::Text("\t"))][..], 3),
+            ("'a'", &[(0, Seen::Char('a'))][..], 3),
+            ("'\"'", &[(0, Seen::Char('"'))][..], 3),
+            ("'é'", &[(0, Seen::Char('é'))][..], 4),
+            ("'\u{1F600}'", &[(0, Seen::Char('\u{1F600}'))][..], 6),
+            (r"'\''", &[(0, Seen::Char('\''))][..], 4),
+            (r"'\\'", &[(0, Seen::Char('\\'))][..], 4),
+            (r"'\n'", &[(0, Seen::Char('\n'))][..], 4),
+            (r"'\t'", &[(0, Seen::Char('\t'))][..], 4),
+            (
+                "\"a\"'b'",
+                &[(0, Seen::Text("a")), (3, Seen::Char('b'))][..],
+                6,
+            ),
+        ];
+        for (text, tokens, stop) in cases {
+            assert!(rt; is_scan(rt.alloc(), text, tokens, stop)?, "at {text}");
+        }
+        Ok(())
+    }
+
+    #[test]
+    fn comments_are_skipped(rt: HostRuntime) -> Result<(), Fail> {
+        let cases = [
+            ("--", &[][..], 2),
+            ("--\r:\n:", &[(5, Seen::Sign(Sign::Colon))][..], 6),
+            (
+                "a--b\nc",
+                &[(0, Seen::Name("a")), (5, Seen::Name("c"))][..],
+                6,
+            ),
+            ("--{-\nb", &[(5, Seen::Name("b"))][..], 6),
+            ("{--}b", &[(4, Seen::Name("b"))][..], 5),
+            ("{-é\n-}b", &[(7, Seen::Name("b"))][..], 8),
+            ("{---}b", &[(5, Seen::Name("b"))][..], 6),
+            (
+                "{-{--}-}",
+                &[
+                    (6, Seen::Sign(Sign::Minus)),
+                    (7, Seen::Sign(Sign::CloseBrace)),
+                ][..],
+                8,
+            ),
+            ("{--}{--}--", &[][..], 10),
+            ("\"--\"", &[(0, Seen::Text("--"))][..], 4),
+            (
+                "a -b",
+                &[
+                    (0, Seen::Name("a")),
+                    (2, Seen::Sign(Sign::Minus)),
+                    (3, Seen::Name("b")),
+                ][..],
+                4,
+            ),
+        ];
+        for (text, tokens, stop) in cases {
+            assert!(rt; is_scan(rt.alloc(), text, tokens, stop)?, "at {text}");
+        }
+        Ok(())
+    }
+
+    #[test]
+    fn the_longest_sign_is_read(rt: HostRuntime) -> Result<(), Fail> {
+        let colon = Seen::Sign(Sign::Colon);
+        let gives = Seen::Sign(Sign::Gives);
+        let brace = Seen::Sign(Sign::OpenBrace);
+        let minus = Seen::Sign(Sign::Minus);
+        let cases = [
+            ("::", &[(0, colon), (1, colon)][..], 2),
+            ("::=", &[(0, gives)][..], 3),
+            (":::=", &[(0, colon), (1, gives)][..], 4),
+            (": :=", &[(0, colon), (2, colon)][..], 3),
+            ("{ -", &[(0, brace), (2, minus)][..], 3),
+        ];
+        for (text, tokens, stop) in cases {
+            assert!(rt; is_scan(rt.alloc(), text, tokens, stop)?, "at {text}");
+        }
+        Ok(())
+    }
+
+    #[test]
+    fn an_identifier_has_at_most_64_bytes(rt: HostRuntime) -> Result<(), Fail> {
+        let longest = "aaaaaaaaaaaaaaaaaaaaaaaaaaaaaaaaaaaaaaaaaaaaaaaaaaaaaaaaaaaaaaaa";
+        assert!(rt; is_scan(rt.alloc(), longest, &[(0, Seen::Name(longest))], 64)?);
+        assert!(rt;
+            is_scan(
+                rt.alloc(),
+                "b aaaaaaaaaaaaaaaaaaaaaaaaaaaaaaaaaaaaaaaaaaaaaaaaaaaaaaaaaaaaaaaaa",
+                &[(0, Seen::Name("b"))],
+                2
+            )?
+        );
+        Ok(())
+    }
+
+    #[test]
+    fn the_scan_stops_where_no_token_begins(rt: HostRuntime) -> Result<(), Fail> {
+        let texts = [
+            " =",
+            " {-}",
+            " {- -",
+            " '",
+            " ''",
+            " '''",
+            " 'ab'",
+            " 'a",
+            " '\n'",
+            " '\\",
+            " '\\'",
+            " '\\a'",
+            " \"",
+            " \"a",
+            " \"a\n\"",
+            " \"\\",
+            " \"\\\"",
+            " \"\\a\"",
+            " \"\\é\"",
+            " 00000",
+            " \u{FEFF}",
+            " \u{A0}",
+            " é",
+            " #",
+            " \0",
+        ];
+        for text in texts {
+            assert!(rt; is_scan(rt.alloc(), text, &[], 1)?, "at {text}");
+        }
+        Ok(())
     }
 }
