@@ -14,7 +14,7 @@ pub use laws::{
     own_symbols, spelled_or_unbuilt, two_bytes_each,
 };
 pub use reading_laws::{
-    defs_or_fault, one_first_fault, one_list_of_defs, small_defs, spelled_or_faulty,
-    two_bytes_for_each,
+    defs_or_fault, one_first_fault, one_list_of_defs, small_defs, small_readings,
+    spelled_or_faulty, two_bytes_for_each,
 };
 pub use token::{FileToken, PlacedToken, Sign};

@@ -2,6 +2,7 @@
 //! its clause is a theorem.
 ghost use Rattle.spec_lbnf.specs.ReadingLaws.{OneListOfDefs, OneFileOfDefs, OneFirstFault};
 ghost use Rattle.spec_lbnf.specs.ReadingLaws.{SpelledOrFaulty, DefsOrFault, TwoBytesForEach, SmallDefs};
+ghost use Rattle.spec_lbnf.specs.ReadingLaws.{SmallReadings};
 
 /// Tokens spell at most one list of definitions, and so does a file.
 pub fn one_list_of_defs()
@@ -34,4 +35,9 @@ pub fn two_bytes_for_each()
 /// is empty.
 pub fn small_defs()
     ensures { SmallDefs }
+{}
+
+/// What small files spell, or their first fault, by hand.
+pub fn small_readings()
+    ensures { SmallReadings }
 {}
