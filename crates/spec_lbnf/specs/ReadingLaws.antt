@@ -103,13 +103,20 @@ pub record SmallReadings : Type 0 where
       }) ∷ [])
   pub two_rules : Spells (codes "_.S::=;(:[]).[S]::=S")
       (Rule (record { label = Wild; cat = cat 0 (codes "S"); items = [] })
-      ∷ Rule (record { label = One; cat = cat 1 (codes "S"); items = Cat (cat 0 (codes "S")) ∷ [] }) ∷ [])
+      ∷ Rule (record {
+        label = One;
+        cat = cat 1 (codes "S");
+        items = Cat (cat 0 (codes "S")) ∷ [];
+      }) ∷ [])
   pub internal : Spells (codes "internal []. S ::= ")
       (Internal (record { label = Nil; cat = cat 0 (codes "S"); items = [] }) ∷ [])
-  pub terminator : Spells (codes "terminator nonempty S \"\"") (Terminator true (cat 0 (codes "S")) [] ∷ [])
-  pub separator : Spells (codes "separator [S] \",\"") (Separator false (cat 1 (codes "S")) (codes ",") ∷ [])
+  pub terminator : Spells (codes "terminator nonempty S \"\"")
+      (Terminator true (cat 0 (codes "S")) [] ∷ [])
+  pub separator : Spells (codes "separator [S] \",\"")
+      (Separator false (cat 1 (codes "S")) (codes ",") ∷ [])
   pub coercions : Spells (codes "coercions S 03") (Coercions (codes "S") 3 ∷ [])
-  pub entries : Spells (codes "entrypoints S, [T]") (Entry (cat 0 (codes "S") ∷ cat 1 (codes "T") ∷ []) ∷ [])
+  pub entries : Spells (codes "entrypoints S, [T]")
+      (Entry (cat 0 (codes "S") ∷ cat 1 (codes "T") ∷ []) ∷ [])
   pub layout : IsFirstFault (codes " layout") (unsupported (codes "layout") 1)
   pub nonempty : IsFirstFault (codes "nonempty") (unsupported (codes "nonempty") 0)
   pub lower_label : IsFirstFault (codes "internal a") (unsupported (codes "a") 9)

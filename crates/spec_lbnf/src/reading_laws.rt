@@ -1,8 +1,8 @@
 //! Laws of what a grammar file spells and of its first fault: each function here does nothing, and
 //! its clause is a theorem.
 ghost use Rattle.spec_lbnf.specs.ReadingLaws.{OneListOfDefs, OneFileOfDefs, OneFirstFault};
-ghost use Rattle.spec_lbnf.specs.ReadingLaws.{SpelledOrFaulty, DefsOrFault, TwoBytesForEach, SmallDefs};
-ghost use Rattle.spec_lbnf.specs.ReadingLaws.{SmallReadings};
+ghost use Rattle.spec_lbnf.specs.ReadingLaws.{SpelledOrFaulty, DefsOrFault, TwoBytesForEach};
+ghost use Rattle.spec_lbnf.specs.ReadingLaws.{SmallDefs, SmallReadings};
 
 /// Tokens spell at most one list of definitions, and so does a file.
 pub fn one_list_of_defs()
