@@ -7,3 +7,4 @@ pub mod RunTextLemmas
 pub mod LiteralLemmas
 pub mod SignTextLemmas
 pub mod ScanTextLemmas
+pub mod FileLemmas

@@ -1,12 +1,11 @@
 -- Strings and characters: what is read part by part is what the text gives.
-use Rattle.std.proofs.Common.{◌≡◌, ℕ, ◌<◌, List, [], ◌∷◌, ◌++◌, length, get_or, Bool, true, false, Option, Some, None, option_map, option_and_then, refl, sym, ap, ◌∙◌, arith, append_assoc, length-append, encode_utf8, chars, Bor}
+use Rattle.std.proofs.Common.{◌≡◌, ℕ, ◌<◌, List, [], ◌++◌, length, get_or, false, Option, Some, None, option_map, option_and_then, refl, ap, ◌∙◌, arith, length-append, encode_utf8, chars, Bor}
 use Rattle.std.specs.Char.{IsScalar}
 use Rattle.std.proofs.lemmas.Bool.{false_from_ne_true}
 use Rattle.std.proofs.lemmas.List.{append-nil}
 use Rattle.std.proofs.lemmas.Str.{encode_same, length-encode, len_utf8_bounds}
-use Rattle.spec_lbnf.specs.declared.token.FileToken.{FileToken}
 use Rattle.spec_lbnf.specs.declared.token.FileToken.TheVariants.{Text, Character}
-use Rattle.spec_lbnf.specs.Scanning.{literal_from, string_of, string_at, is_encoded, character_of, character_at}
+use Rattle.spec_lbnf.specs.Scanning.{literal_from, string_at, is_encoded, character_of, character_at}
 use Rattle.spec_lbnf.proofs.LiteralLemmas.{is_encoded_again, is_encoded_read, first_scalar}
 use Rattle.lbnf_text.specs.declared.scanner.Part.{Part}
 use Rattle.lbnf_text.specs.declared.scanner.Part.TheVariants.{Scalar, Close, Broken}

@@ -1,7 +1,6 @@
 -- Runs of ASCII bytes at the front of a text: where they end the text may be cut, and digits are
 -- parsed.
-use Rattle.std.proofs.Common.{◌≡◌, ℕ, zero, suc, ◌+◌, ◌<◌, ◌≤◌, List, [], ◌∷◌, length, get_or, take, Bool, true, leb, Result, Ok, refl, sym, subst, arith, add-one, one-add, IsUtf8, length-take}
-use Rattle.std.specs.Int.{IsInRange}
+use Rattle.std.proofs.Common.{◌≡◌, ℕ, zero, suc, ◌<◌, ◌≤◌, List, [], ◌∷◌, length, get_or, take, Bool, true, leb, Result, Ok, refl, arith, add-one, one-add, IsUtf8}
 use Rattle.std.specs.List.{prefix_len, AllByRecursion}
 use Rattle.std.specs.Str.{IsCharBoundary}
 use Rattle.std.specs.Str.Parse.{digits_value, ParsesUnsigned}

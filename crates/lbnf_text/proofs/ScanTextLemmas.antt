@@ -1,8 +1,8 @@
 -- Tokens of a file, one by one: what is read of the rest goes on from what was read so far.
-use Rattle.std.proofs.Common.{◌≡◌, ℕ, ◌-◌, ◌<◌, ◌≤◌, List, [], ◌∷◌, length, Some, None, refl, sym, ◌∙◌, arith}
+use Rattle.std.proofs.Common.{◌≡◌, ℕ, ◌-◌, ◌<◌, ◌≤◌, List, [], ◌∷◌, length, Some, None, refl, sym, arith}
 use Rattle.spec_lbnf.specs.declared.token.FileToken.{FileToken}
 use Rattle.spec_lbnf.specs.declared.token.PlacedToken.{PlacedToken}
-use Rattle.spec_lbnf.specs.FileTokens.{Skips, nothing, goes_on, Separates, BeginsWith, AreTokensTo}
+use Rattle.spec_lbnf.specs.FileTokens.{Skips, nothing, goes_on, AreTokensTo}
 use Rattle.spec_lbnf.specs.Scanning.{behind_space, token_at}
 use Rattle.spec_lbnf.proofs.SpaceLemmas.{space_read}
 use Rattle.spec_lbnf.proofs.ScanLemmas.{space_some, skip_shorter, token_read, token_some, nothing_read}

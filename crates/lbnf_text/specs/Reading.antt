@@ -15,7 +15,12 @@ file_fault_of (told.Syntax at) = Some (syntax at)
 file_fault_of (told.Unsupported word at) = Some (unsupported word at)
 file_fault_of (told.Unbuilt number) = Some (unbuilt number)
 
--- the answer on the file is its definitions, or its first fault; want of memory is free
+-- the answer on the file, as it is seen, is its definitions, or its first fault; want of memory is
+-- free
+abbrev pub ReadsFile : {A : Type 0} → (A → List Def) → List ℕ → Result A TextFault → Type 0
+ReadsFile view bytes (Ok defs) = Spells bytes (view defs)
+ReadsFile view bytes (Err fault) = IfSome (file_fault_of fault) (IsFirstFault bytes)
+
+-- the answer on the file is its definitions, or its first fault
 abbrev pub ReadsDefs : List ℕ → Result (List Def) TextFault → Type 0
-ReadsDefs bytes (Ok defs) = Spells bytes defs
-ReadsDefs bytes (Err fault) = IfSome (file_fault_of fault) (IsFirstFault bytes)
+ReadsDefs bytes answer = ReadsFile (λ defs. defs) bytes answer

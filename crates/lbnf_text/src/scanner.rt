@@ -1,16 +1,16 @@
 //! The tokens of a grammar file, each by longest match from behind the one before it.
-ghost use Rattle.std.specs.Prelude.{◌≡◌, ◌≤◌, ◌<◌, ◌⊎◌, ℕ, [], ◌++◌, length, true, false, IfOk, IsUtf8};
-ghost use Rattle.std.specs.Prelude.{cond, Some, None, IfSome, MatchOption, encode_utf8};
+ghost use Rattle.std.specs.Prelude.{◌≡◌, ◌≤◌, ◌<◌, ◌⊎◌, ℕ, [], ◌++◌, length, true, false, cond};
+ghost use Rattle.std.specs.Prelude.{Some, None, IfOk, IfSome, MatchOption, encode_utf8};
 ghost use Rattle.std.specs.Char.{IsScalar};
 ghost use Rattle.std.specs.List.{prefix_len};
 ghost use Rattle.std.specs.Option.{option_map};
 ghost use Rattle.spec_lbnf.specs.FileBytes.{is_white, is_name_byte};
 ghost use Rattle.spec_lbnf.specs.FileTokens.{Begins, is_letter, is_digit, escaped, longer_by};
-ghost use Rattle.spec_lbnf.specs.FileTokens.{Skips, Separates, BeginsWith, IsScan};
-ghost use Rattle.spec_lbnf.specs.Scanning.{is_in_line, behind_line, behind_closing, behind_white};
-ghost use Rattle.spec_lbnf.specs.Scanning.{behind_space, identifier_at, number_at, is_escape};
-ghost use Rattle.spec_lbnf.specs.Scanning.{string_at, character_at, byte_sign, has_more};
-ghost use Rattle.spec_lbnf.specs.Scanning.{sign_at, token_at};
+ghost use Rattle.spec_lbnf.specs.FileTokens.{Skips, IsScan};
+ghost use Rattle.spec_lbnf.specs.Scanning.{behind_line, behind_closing, behind_white, behind_space};
+ghost use Rattle.spec_lbnf.specs.Scanning.{is_escape, string_at, character_at, identifier_at};
+ghost use Rattle.spec_lbnf.specs.Scanning.{number_token_at, byte_sign, has_more, sign_token_at};
+ghost use Rattle.spec_lbnf.specs.Scanning.{token_at};
 ghost use Rattle.lbnf_text.specs.LiteralParts.{IsPartOf, IsScalarPart, LeavesFewer};
 
 use spec_lbnf::{FileToken, PlacedToken, Sign};
@@ -231,10 +231,10 @@ fn digit_count(bytes: &[u8]) -> usize
 }
 
 /// The number at the front of a text that begins with a digit, and what is behind it.
-#[tactic(auto, unfolding(spec_lbnf::specs::Scanning::number_at))]
+#[tactic(auto, unfolding(spec_lbnf::specs::Scanning::number_token_at))]
 fn number(text: &str) -> Option<(FileToken, &str)>
     requires { Begins is_digit text.now }
-    ensures { option_map (λ x. (x.0, x.1.now)) result ≡ number_at text.now }
+    ensures { option_map (λ x. (x.0, x.1.now)) result ≡ number_token_at text.now }
 {
     let (digits, rest) = text.split_at(digit_count(text.as_bytes()));
     if digits.len() > MAX_DIGITS {
@@ -281,9 +281,9 @@ fn goes_on(sign: Sign, text: &str) -> bool
 }
 
 /// The longest sign at the front, and what is behind it.
-#[tactic(auto, unfolding(spec_lbnf::specs::Scanning::sign_at))]
+#[tactic(auto, unfolding(spec_lbnf::specs::Scanning::sign_token_at))]
 fn sign(text: &str) -> Option<(FileToken, &str)>
-    ensures { option_map (λ x. (x.0, x.1.now)) result ≡ sign_at text.now }
+    ensures { option_map (λ x. (x.0, x.1.now)) result ≡ sign_token_at text.now }
 {
     if let Some(rest) = text.strip_prefix("::=") {
         return Some((FileToken::Sign(Sign::Gives), rest));

@@ -16,20 +16,16 @@ use Rattle.spec_lbnf.specs.declared.token.FileToken.{FileToken}
 use Rattle.spec_lbnf.specs.declared.token.FileToken.TheVariants.{Identifier, Number, Text, Character}
 use Rattle.spec_lbnf.specs.declared.token.FileToken.TheVariants.{Sign as SignToken}
 use Rattle.spec_lbnf.specs.Words.{is_empty, words_in}
-use Rattle.spec_lbnf.specs.GrammarFile.{IsUpperName, IsCategory, IsLabel, category_tokens, label_tokens, WrittenItem, category, string, IsWritten, written_tokens, written_items, SpellsRule, entry_tokens, nonempty_tokens, SpellsDef, is_semicolon, pieces_of, AreSpelledBy}
+use Rattle.spec_lbnf.specs.GrammarFile.{IsCategory, IsLabel, category_tokens, label_tokens, WrittenItem, category, string, IsWritten, written_tokens, written_items, SpellsRule, entry_tokens, nonempty_tokens, SpellsDef, is_semicolon, pieces_of, AreSpelledBy}
 use Rattle.spec_lbnf.specs.Faults.{bare}
 use Rattle.spec_lbnf.specs.Limits.{def_size, size_of}
 use Rattle.spec_lbnf.specs.ReadingLaws.{TwoBytesForEach}
+use Rattle.spec_lbnf.proofs.TokenTestLemmas.{name_has_byte}
 use Rattle.spec_lbnf.proofs.BoundaryLemmas.{is_name, bracketed, category_bracketed}
 use Rattle.spec_lbnf.proofs.LeastLemmas.{least, tokens_take}
 use Rattle.std.specs.List.{AllByRecursion}
 use Rattle.std.proofs.lemmas.List.Elements.{recursion_from_All}
 use Rattle.std.proofs.lemmas.List.Sums.{sum_by-cons}
-
--- an upper-case name has a byte
-upper_some : (name : List ℕ) → IsUpperName name → 0 < length name
-upper_some [] upper = absurd (false≢true upper)
-upper_some (b ∷ name) upper = omega arith
 
 -- behind a name tokens take no less
 least_behind : (tokens : List FileToken) → least false tokens ≤ least true tokens
@@ -68,7 +64,7 @@ least_category cat behind_name tokens upper =
     omega (
       arith,
       ap (least behind_name) (category_bracketed cat tokens),
-      least_bracketed cat.depth cat.name behind_name closes (upper_some cat.name upper),
+      least_bracketed cat.depth cat.name behind_name closes (name_has_byte cat.name upper),
       least_closes cat.depth true tokens,
     )
 
@@ -79,7 +75,7 @@ least_item : (cat : CatName) (tokens : List FileToken) (count : ℕ) → IsCateg
 least_item cat tokens count upper few behind = by cat.depth refl
   where
     some : 0 < length cat.name
-    some = upper_some cat.name upper
+    some = name_has_byte cat.name upper
 
     by : (depth : ℕ) → cat.depth ≡ depth
         → (2 + count ≤ least false (category_tokens cat ++ tokens) + 1) × (2 + count ≤ least true (category_tokens cat ++ tokens))
@@ -157,7 +153,7 @@ items_least (string text ∷ written) each =
 
 -- a label takes a byte at least
 least_label : (label : Label) (tokens : List FileToken) → IsLabel label → 1 + least false tokens ≤ least false (label_tokens label ++ tokens)
-least_label (Named name) tokens upper = omega (arith, upper_some name upper, least_behind tokens)
+least_label (Named name) tokens upper = omega (arith, name_has_byte name upper, least_behind tokens)
 least_label Wild tokens is = omega arith
 least_label Nil tokens is = omega arith
 least_label Cons tokens is = omega arith

@@ -435,9 +435,9 @@ module _ (bytes : List ℕ) (all : List PlacedToken) (stop : ℕ) (ends : (stop 
       → Outcome bytes all stop defs (defs_at turns number tokens stop)
 
   -- behind the last token the definitions are those of the file
-  tell_end : (turns number : ℕ) (open_for_more : Bool) (earlier : List PlacedToken) (defs : List Def)
+  tell_end : (open_for_more : Bool) (earlier : List PlacedToken) (defs : List Def)
       → IsDone open_for_more earlier defs → all ≡ earlier ++ [] → Outcome bytes all stop defs (Ok [])
-  tell_end turns number open_for_more earlier defs done whole =
+  tell_end open_for_more earlier defs done whole =
       let is_all : all ≡ earlier = whole ∙ append-nil earlier in
       let cut : pieces_of (bare all) ≡ done.pieces
       = ap (λ ts. pieces_of (bare ts)) is_all ∙ ap pieces_of (sym (append-nil (bare earlier)))
@@ -483,7 +483,7 @@ module _ (bytes : List ℕ) (all : List PlacedToken) (stop : ℕ) (ends : (stop 
   tell_all : (turns : ℕ) → TellsAll turns
   unfolding defs_at
   tell_all turns number open_for_more earlier [] defs done fits whole is_number few short =
-      tell_end turns number open_for_more earlier defs done whole
+      tell_end open_for_more earlier defs done whole
   tell_all zero number open_for_more earlier (token ∷ tokens) defs done fits whole is_number few short =
       absurd (omega (arith, few))
   tell_all (suc turns) number open_for_more earlier (token ∷ tokens) defs done fits whole is_number few short =

@@ -261,11 +261,6 @@ one_coercions = one_change CoercionsParts CoercionsOf
 some_levels : (name : List ℕ) → GoesOn IsAny (Gives (Coercions name) (TokenOf number_value)) []
 some_levels name = some_gives IsAny (Coercions name) (TokenOf number_value) (token_some number_value (Number 0) 0 refl)
 
--- some coercions can be read
-pub some_coercions : GoesOn IsAny CoercionsOf []
-some_coercions =
-    (Coercions (codes "A") 0, Identifier (codes "A") ∷ Number 0 ∷ [], λ others may. (codes "A", 0, refl, refl, refl))
-
 -- the reader of coercions tells of them
 pub coercions_tell : (tokens : List PlacedToken) → HaveShortNames tokens → Tells IsAny CoercionsOf tokens (coercions_at tokens)
 unfolding coercions_at
@@ -418,12 +413,6 @@ pub one_entries : IsOne EntriesOf
 one_entries = one_change EntriesParts EntriesOf
     (one_then Category BehindCommaCategory one_category (λ cat. one_gives (λ cats. cat ∷ cats) MoreOf one_more))
     entries_back
-
--- some entry points can be read
-pub some_entries : GoesOn IsNothing EntriesOf []
-some_entries =
-    let parts = some_behind_comma in
-    (parts.0, parts.1, λ others none. entries_forth parts.0 (parts.1 ++ others) others (parts.2 others none))
 
 -- the reader of entry points tells of them
 pub entries_tell : (tokens : List PlacedToken) → HaveShortNames tokens → Tells IsNothing EntriesOf tokens (entries_at tokens)

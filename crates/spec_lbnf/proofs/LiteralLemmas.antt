@@ -126,37 +126,37 @@ module _ (quote : ℕ) where
   parts_read (byte ∷ bytes) true value rest e = elim (cases_Bool (is_escape byte)) [
     | inr h ↦ absurd (none-some _ (rw h at e))
     | inl h ↦
-      let split = split_before (escaped byte) (literal_from quote false bytes) value rest (rw h at e) in
-      record {
-        byte = byte;
-        behind = bytes;
-        value_behind = split.0;
-        is_escape = any_read escapes byte h;
-        whole = refl;
-        means = split.2;
-        reads = parts_read bytes false split.0 rest split.1;
-      }
+        let split = split_before (escaped byte) (literal_from quote false bytes) value rest (rw h at e) in
+        record {
+          byte = byte;
+          behind = bytes;
+          value_behind = split.0;
+          is_escape = any_read escapes byte h;
+          whole = refl;
+          means = split.2;
+          reads = parts_read bytes false split.0 rest split.1;
+        }
   ]
   parts_read (byte ∷ bytes) false value rest e = elim (cases_Bool (eqb byte quote)) [
     | inl h ↦
-      let parts = some_pair_parts [] value bytes rest (rw h at e) in
-      record {
-        parts = [];
-        each = tt;
-        whole = (λ i. eqb-true byte quote h i ∷ parts.1 i);
-        means = sym parts.0;
-      }
+        let parts = some_pair_parts [] value bytes rest (rw h at e) in
+        record {
+          parts = [];
+          each = tt;
+          whole = (λ i. eqb-true byte quote h i ∷ parts.1 i);
+          means = sym parts.0;
+        }
     | inr h ↦ elim (cases_Bool (eqb byte 92)) [
       | inl k ↦
-        let reads = parts_read bytes true value rest (rw (h, k) at e) in
-        backslash_before byte bytes value rest (eqb-true byte 92 k) reads
+          let reads = parts_read bytes true value rest (rw (h, k) at e) in
+          backslash_before byte bytes value rest (eqb-true byte 92 k) reads
       | inr k ↦ elim (cases_Bool (eqb byte 10)) [
         | inl m ↦ absurd (none-some _ (rw (h, k, m) at e))
         | inr m ↦
-          let split = split_before byte (literal_from quote false bytes) value rest (rw (h, k, m) at e) in
-          let reads = parts_read bytes false split.0 rest split.1 in
-          let stands : StandsPlain quote byte = record { no_quote = h; no_backslash = k; no_line_end = m } in
-          plain_before byte bytes value split.0 rest stands split.2 reads
+            let split = split_before byte (literal_from quote false bytes) value rest (rw (h, k, m) at e) in
+            let reads = parts_read bytes false split.0 rest split.1 in
+            let stands : StandsPlain quote byte = record { no_quote = h; no_backslash = k; no_line_end = m } in
+            plain_before byte bytes value split.0 rest stands split.2 reads
       ]
     ]
   ]
@@ -244,5 +244,5 @@ character_read bytes token rest e = of (literal_from 39 false bytes) refl e
         let is = is_encoded_read scalar read.0 split.0 in
         let reads = literal_read 39 read.0 bytes read.1 k in
         let begins : BeginsWith (Character scalar) (39 ∷ bytes) read.1 =
-          (is.0, subst (λ v. IsLiteral 39 v (39 ∷ bytes) read.1) (sym is.1) reads) in
+        (is.0, subst (λ v. IsLiteral 39 v (39 ∷ bytes) read.1) (sym is.1) reads) in
         subst (λ r. BeginsWith r.0 (39 ∷ bytes) r.1) split.1 begins

@@ -159,10 +159,6 @@ one_token value_of a b tokens rest other is_a is_b =
     let tail : rest ≡ other = cc same in
     (same_Some a b (sym is_a.1 ∙ ap value_of head ∙ is_b.1), tail)
 
--- a value at the end is one
-pub one_end : {A : Type 0} (a : A) → IsOne (AtEnd a)
-one_end a b c tokens rest other is_b is_c = (is_b.0 ∙ sym is_c.0, is_b.2 ∙ sym is_c.2)
-
 -- a spelling in the words of another that has one value has one value
 pub one_change : {A : Type 0} (first second : Spelling A) → IsOne first
     → ((a : A) (tokens rest : List FileToken) → second a tokens rest → first a tokens rest) → IsOne second

@@ -11,7 +11,7 @@ use Rattle.spec_lbnf.specs.declared.token.FileToken.{FileToken}
 use Rattle.spec_lbnf.specs.declared.token.FileToken.TheVariants.{Identifier, Number}
 use Rattle.spec_lbnf.specs.FileBytes.{is_name_byte}
 use Rattle.spec_lbnf.specs.FileTokens.{is_letter, is_digit, Begins, IsIdentifier, IsNumber, BeginsWith}
-use Rattle.spec_lbnf.specs.Scanning.{identifier_at, number_at}
+use Rattle.spec_lbnf.specs.Scanning.{identifier_at, number_token_at}
 use Rattle.spec_lbnf.proofs.RunLemmas.{run_len, run_take, run_drop, run_passes, run_stops, run_whole}
 
 -- an identifier is read
@@ -54,8 +54,8 @@ identifier_read byte bytes token rest letter e =
 
 -- a number is read
 pub number_again : (value : ℕ) (bytes rest : List ℕ) → BeginsWith (Number value) bytes rest
-    → number_at bytes ≡ Some (Number value, rest)
-unfolding number_at
+    → number_token_at bytes ≡ Some (Number value, rest)
+unfolding number_token_at
 number_again value bytes rest (digits, is, stops, e, means) =
     let each = recursion_from_All (λ b. is_digit b ≡ true) digits is.each in
     rw (
@@ -74,8 +74,8 @@ some_run byte bytes h = rw (h, one-add) (omega arith)
 
 -- what is read of a number is one
 pub number_read : (byte : ℕ) (bytes : List ℕ) (token : FileToken) (rest : List ℕ) → is_digit byte ≡ true
-    → number_at (byte ∷ bytes) ≡ Some (token, rest) → BeginsWith token (byte ∷ bytes) rest
-unfolding number_at
+    → number_token_at (byte ∷ bytes) ≡ Some (token, rest) → BeginsWith token (byte ∷ bytes) rest
+unfolding number_token_at
 number_read byte bytes token rest digit e =
     let here : List ℕ = byte ∷ bytes in
     let n : ℕ = prefix_len is_digit here in

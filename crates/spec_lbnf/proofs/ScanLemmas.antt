@@ -13,7 +13,7 @@ use Rattle.spec_lbnf.specs.declared.token.PlacedToken.{PlacedToken}
 use Rattle.spec_lbnf.specs.FileBytes.{is_white}
 use Rattle.spec_lbnf.specs.FileTokens.{is_letter, is_digit, Begins, BeginsWith, sign_bytes, Separates, Skips, nothing, goes_on, IsStuck, AreTokensTo, IsScan}
 use Rattle.spec_lbnf.specs.FileLaws.{RiseTo}
-use Rattle.spec_lbnf.specs.Scanning.{has_front, behind_space, identifier_at, number_at, byte_sign, longest_of, sign_at, token_at, tokens_by, tokens_from, scan_of}
+use Rattle.spec_lbnf.specs.Scanning.{has_front, behind_space, identifier_at, number_token_at, byte_sign, longest_of, sign_token_at, token_at, tokens_by, tokens_from, scan_of}
 use Rattle.spec_lbnf.proofs.SpaceLemmas.{space_again, space_read}
 use Rattle.spec_lbnf.proofs.LiteralLemmas.{string_again, string_read, character_again, character_read}
 use Rattle.spec_lbnf.proofs.SignLemmas.{sign_again, sign_read}
@@ -30,12 +30,12 @@ digit_is_no_letter : (byte : ℕ) → is_digit byte ≡ true → is_letter byte 
 digit_is_no_letter byte h = grind (arith, nat_tests)
 
 -- bytes that begin with a digit are read as a number
-digit_first : (byte : ℕ) (bytes : List ℕ) → is_digit byte ≡ true → token_at (byte ∷ bytes) ≡ number_at (byte ∷ bytes)
+digit_first : (byte : ℕ) (bytes : List ℕ) → is_digit byte ≡ true → token_at (byte ∷ bytes) ≡ number_token_at (byte ∷ bytes)
 unfolding token_at
 digit_first byte bytes h = rw (digit_is_no_letter byte h, h) refl
 
 -- bytes that begin with a sign are read as one
-sign_first : (sign : Sign) (bytes rest : List ℕ) → bytes ≡ sign_bytes sign ++ rest → token_at bytes ≡ sign_at bytes
+sign_first : (sign : Sign) (bytes rest : List ℕ) → bytes ≡ sign_bytes sign ++ rest → token_at bytes ≡ sign_token_at bytes
 unfolding token_at
 sign_first Dot bytes rest e = rw e refl
 sign_first Semicolon bytes rest e = rw e refl
@@ -61,7 +61,7 @@ number_token_again : (value : ℕ) (bytes rest : List ℕ) → BeginsWith (Numbe
 number_token_again value bytes rest ([], is, stops, e, means) = absurd (omega (arith, is.some))
 number_token_again value bytes rest (digit ∷ digits, is, stops, e, means) =
     ap token_at e ∙ digit_first digit (digits ++ rest) (is.each 0 0 (omega arith))
-    ∙ ap number_at (sym e) ∙ number_again value bytes rest (digit ∷ digits, is, stops, e, means)
+    ∙ ap number_token_at (sym e) ∙ number_again value bytes rest (digit ∷ digits, is, stops, e, means)
 
 -- a string that stands before a rest is read
 string_token_again : (value bytes rest : List ℕ) → BeginsWith (Text value) bytes rest
@@ -101,12 +101,12 @@ token_read (byte ∷ bytes) token rest e = elim (cases_Bool (is_letter byte)) [
     | inl digit ↦ number_read byte bytes token rest digit (rw (h, digit) at e)
     | inr k ↦ elim (cases_Bool (eqb byte 34)) [
       | inl m ↦
-        let reads = string_read bytes token rest (rw (h, k, m) at e) in
-        subst (λ b. BeginsWith token (b ∷ bytes) rest) (sym (eqb-true byte 34 m)) reads
+          let reads = string_read bytes token rest (rw (h, k, m) at e) in
+          subst (λ b. BeginsWith token (b ∷ bytes) rest) (sym (eqb-true byte 34 m)) reads
       | inr m ↦ elim (cases_Bool (eqb byte 39)) [
         | inl n ↦
-          let reads = character_read bytes token rest (rw (h, k, m, n) at e) in
-          subst (λ b. BeginsWith token (b ∷ bytes) rest) (sym (eqb-true byte 39 n)) reads
+            let reads = character_read bytes token rest (rw (h, k, m, n) at e) in
+            subst (λ b. BeginsWith token (b ∷ bytes) rest) (sym (eqb-true byte 39 n)) reads
         | inr n ↦ sign_read (byte ∷ bytes) token rest (rw (h, k, m, n) at e)
       ]
     ]
@@ -123,14 +123,27 @@ white_no_sign : (byte : ℕ) → is_white byte ≡ true → byte_sign byte ≡ N
 white_no_sign byte h =
     let apart = λ (code : ℕ) (plain : is_white code ≡ false). white_apart byte code h plain in
     rw (
-      apart 46 refl, apart 59 refl, apart 58 refl, apart 91 refl, apart 93 refl, apart 40 refl,
-      apart 41 refl, apart 123 refl, apart 125 refl, apart 44 refl, apart 124 refl, apart 42 refl,
-      apart 43 refl, apart 63 refl, apart 45 refl, apart 95 refl,
+      apart 46 refl,
+      apart 59 refl,
+      apart 58 refl,
+      apart 91 refl,
+      apart 93 refl,
+      apart 40 refl,
+      apart 41 refl,
+      apart 123 refl,
+      apart 125 refl,
+      apart 44 refl,
+      apart 124 refl,
+      apart 42 refl,
+      apart 43 refl,
+      apart 63 refl,
+      apart 45 refl,
+      apart 95 refl,
     ) refl
 
 -- a white byte begins no sign
-white_no_longest : (byte : ℕ) (bytes : List ℕ) → is_white byte ≡ true → sign_at (byte ∷ bytes) ≡ None
-unfolding sign_at
+white_no_longest : (byte : ℕ) (bytes : List ℕ) → is_white byte ≡ true → sign_token_at (byte ∷ bytes) ≡ None
+unfolding sign_token_at
 white_no_longest byte bytes h =
     let apart : has_front (codes "::=") (byte ∷ bytes) ≡ false = and_left (eqb byte 58) _ (white_apart byte 58 h refl) in
     cond-false _ (Some (SignToken Gives, drop 2 bytes)) _ apart
@@ -147,7 +160,7 @@ white_no_token byte bytes h =
 
 -- what begins with what separates tokens begins with no token
 no_token_in_space : (bytes rest : List ℕ) → Separates bytes rest → token_at bytes ≡ None
-unfolding token_at sign_at
+unfolding token_at sign_token_at
 no_token_in_space bytes rest (inl (byte, white, e)) = ap token_at e ∙ white_no_token byte rest white
 no_token_in_space bytes rest (inr (inl is)) = rw is.whole refl
 no_token_in_space bytes rest (inr (inr is)) = rw is.whole refl

@@ -7,7 +7,7 @@ use Rattle.spec_lbnf.specs.declared.token.Sign.TheVariants.{Dot, Semicolon, Give
 use Rattle.spec_lbnf.specs.declared.token.FileToken.{FileToken}
 use Rattle.spec_lbnf.specs.declared.token.FileToken.TheVariants.{Sign as SignToken}
 use Rattle.spec_lbnf.specs.FileTokens.{BeginsAs, BeginsWith, sign_bytes, longer_by, IsLongestSign}
-use Rattle.spec_lbnf.specs.Scanning.{has_front, byte_sign, has_more, longest_of, sign_at}
+use Rattle.spec_lbnf.specs.Scanning.{has_front, byte_sign, has_more, longest_of, sign_token_at}
 use Rattle.spec_lbnf.proofs.SpaceLemmas.{front_read, front_not, not_found}
 
 -- what a sign would need to be longer is told
@@ -24,8 +24,8 @@ more_not (Some more) rest h = front_not more rest h
 
 -- the longest sign is read
 pub sign_again : (sign : Sign) (bytes rest : List ℕ) → IsLongestSign sign rest → bytes ≡ sign_bytes sign ++ rest
-    → sign_at bytes ≡ Some (SignToken sign, rest)
-unfolding sign_at
+    → sign_token_at bytes ≡ Some (SignToken sign, rest)
+unfolding sign_token_at
 sign_again Dot bytes rest longest e = rw e refl
 sign_again Semicolon bytes rest longest e = rw e refl
 sign_again Gives bytes rest longest e = rw e refl
@@ -67,19 +67,19 @@ byte_sign_read byte sign =
     (λ e. absurd (none-some sign e)))))))))))))))))
 
 -- what is read of a sign is the longest one
-pub sign_read : (bytes : List ℕ) (token : FileToken) (rest : List ℕ) → sign_at bytes ≡ Some (token, rest)
+pub sign_read : (bytes : List ℕ) (token : FileToken) (rest : List ℕ) → sign_token_at bytes ≡ Some (token, rest)
     → BeginsWith token bytes rest
-unfolding sign_at
+unfolding sign_token_at
 sign_read [] token rest e = absurd (none-some _ e)
 sign_read (byte ∷ bytes) token rest e = elim (cases_Bool (has_front (codes "::=") (byte ∷ bytes))) [
   | inl h ↦
-    let same = same_Some (SignToken Gives, drop 2 bytes) (token, rest) (rw h at e) in
-    let begins : BeginsWith (SignToken Gives) (byte ∷ bytes) (drop 2 bytes) =
+      let same = same_Some (SignToken Gives, drop 2 bytes) (token, rest) (rw h at e) in
+      let begins : BeginsWith (SignToken Gives) (byte ∷ bytes) (drop 2 bytes) =
       (tt, front_read (codes "::=") (byte ∷ bytes) h) in
-    subst (λ r. BeginsWith r.0 (byte ∷ bytes) r.1) same begins
+      subst (λ r. BeginsWith r.0 (byte ∷ bytes) r.1) same begins
   | inr h ↦ option_and_then_some (longest_of bytes) (byte_sign byte) (token, rest) (rw h at e) (λ sign is read.
-    let split = cond_some (not (has_more (longer_by sign) bytes)) (SignToken sign, bytes) (token, rest) read in
-    let begins : BeginsWith (SignToken sign) (byte ∷ bytes) bytes =
+      let split = cond_some (not (has_more (longer_by sign) bytes)) (SignToken sign, bytes) (token, rest) read in
+      let begins : BeginsWith (SignToken sign) (byte ∷ bytes) bytes =
       (more_not (longer_by sign) bytes (not-true _ split.0), ap (λ l. l ++ bytes) (sym (byte_sign_read byte sign is))) in
-    subst (λ r. BeginsWith r.0 (byte ∷ bytes) r.1) split.1 begins)
+      subst (λ r. BeginsWith r.0 (byte ∷ bytes) r.1) split.1 begins)
 ]

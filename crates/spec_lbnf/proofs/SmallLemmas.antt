@@ -1,7 +1,7 @@
 -- The categories of a file's definitions are shallow, and no word of its items is empty.
-use Rattle.std.proofs.Common.{◌≡◌, ℕ, ◌<◌, List, [], ◌∷◌, ◌++◌, length, map, filter, not, nat_eq, Bool, true, false, cond, codes, All, ◌⊎◌, inl, inr, refl, sym, ap, subst, ◌∙◌, append_assoc, arith}
+use Rattle.std.proofs.Common.{◌≡◌, ℕ, List, [], ◌∷◌, ◌++◌, length, map, filter, not, nat_eq, Bool, true, false, cond, codes, All, ◌⊎◌, inl, inr, refl, sym, ap, subst, ◌∙◌, append_assoc, arith}
 use Rattle.std.specs.List.{flat_map, slice_split, onto_first, AllByRecursion}
-use Rattle.std.proofs.lemmas.Bool.{false≢true, cases_lt}
+use Rattle.std.proofs.lemmas.Bool.{cases_lt}
 use Rattle.std.proofs.lemmas.List.{append-nil}
 use Rattle.std.proofs.lemmas.List.Elements.{All-from_recursion, recursion_from_All}
 use Rattle.spec_lbnf.specs.declared.definition.CatName.{CatName}
@@ -16,11 +16,12 @@ use Rattle.spec_lbnf.specs.declared.token.FileToken.TheVariants.{Text}
 use Rattle.spec_lbnf.specs.declared.token.FileToken.TheVariants.{Sign as SignToken}
 use Rattle.spec_lbnf.specs.Expansion.{category_text}
 use Rattle.spec_lbnf.specs.Words.{is_empty, words_in}
-use Rattle.spec_lbnf.specs.GrammarFile.{IsUpperName, IsCategory, category_tokens, label_tokens, WrittenItem, category, string, IsWritten, written_tokens, written_items, SpellsRule, entry_tokens, nonempty_tokens, keyword, SpellsDef, is_semicolon, pieces_of, AreSpelledBy}
+use Rattle.spec_lbnf.specs.GrammarFile.{IsCategory, category_tokens, label_tokens, WrittenItem, category, string, IsWritten, written_tokens, written_items, SpellsRule, entry_tokens, nonempty_tokens, keyword, SpellsDef, is_semicolon, pieces_of, AreSpelledBy}
 use Rattle.spec_lbnf.specs.Faults.{bare, EndsOpen, Spells}
 use Rattle.spec_lbnf.specs.Limits.{IsShallow, IsSmallItem, IsSmall, size_of, AreWithinLimits}
 use Rattle.spec_lbnf.specs.ReadingLaws.{DefsWithinLimits}
 use Rattle.spec_lbnf.proofs.DefSizeLemmas.{two_bytes_for_each}
+use Rattle.spec_lbnf.proofs.TokenTestLemmas.{name_has_byte}
 use Rattle.spec_lbnf.proofs.BoundaryLemmas.{LacksLong, long_behind, long_before, nothing_of, nothing_closed, category_len}
 use Rattle.spec_lbnf.proofs.CategoryLemmas.{category_no_open}
 use Rattle.spec_lbnf.proofs.PieceLemmas.{cut_of}
@@ -51,11 +52,6 @@ peel_last : (xs : List FileToken) (x : FileToken) (ys : List FileToken) → (x �
 peel_last xs x ys no_open lacks =
     peel (xs ++ x ∷ []) ys (λ ends. no_open (ends_last xs x ends)) (subst LacksLong (sym (append_assoc xs (x ∷ []) ys)) lacks)
 
--- an upper-case name has a byte
-upper_some : (name : List ℕ) → IsUpperName name → 0 < length name
-upper_some [] upper = absurd (false≢true upper)
-upper_some (b ∷ name) upper = omega arith
-
 -- a category that stands first is shallow, if none is too long
 shallow_first : (cat : CatName) (rest : List FileToken) → IsCategory cat → LacksLong (category_tokens cat ++ rest) → IsShallow cat
 shallow_first cat rest upper lacks = elim (cases_lt 128 (length (category_text cat))) [
@@ -67,7 +63,7 @@ shallow_first cat rest upper lacks = elim (cases_lt 128 (length (category_text c
     whole = nothing_closed.no_open;
     long = more;
   }))
-  | inr few ↦ omega (arith, few, category_len cat, upper_some cat.name upper)
+  | inr few ↦ omega (arith, few, category_len cat, name_has_byte cat.name upper)
 ]
 
 -- the parts that are not empty have a byte each

@@ -69,9 +69,9 @@ closing_read [] rest e = absurd (none-some rest e)
 closing_read (byte ∷ bytes) rest e = elim (cases_Bool (has_front (codes "-}") (byte ∷ bytes))) [
   | inl h ↦ (codes "-}", first_in_itself (codes "-}"), front_read (codes "-}") (byte ∷ bytes) h ∙ ap (λ l. codes "-}" ++ l) (same_Some _ _ (rw h at e)))
   | inr h ↦
-    let found = closing_read bytes rest (rw h at e) in
-    let apart = front_not (codes "-}") (byte ∷ bytes) h in
-    (byte ∷ found.0, first_behind byte found.0 rest found.1 (λ b. apart (b.0, ap (λ l. byte ∷ l) found.2 ∙ b.1)), ap (λ l. byte ∷ l) found.2)
+      let found = closing_read bytes rest (rw h at e) in
+      let apart = front_not (codes "-}") (byte ∷ bytes) h in
+      (byte ∷ found.0, first_behind byte found.0 rest found.1 (λ b. apart (b.0, ap (λ l. byte ∷ l) found.2 ∙ b.1)), ap (λ l. byte ∷ l) found.2)
 ]
 
 -- the closing text is not at the front of a block that has more inside
@@ -94,7 +94,7 @@ unfolding behind_closing
 closing_again [] rest ends = refl
 closing_again (byte ∷ inside) rest ends =
     let apart : has_front (codes "-}") (byte ∷ (inside ++ codes "-}") ++ rest) ≡ false =
-      not_found (codes "-}") (byte ∷ (inside ++ codes "-}") ++ rest) (not_at_front byte inside rest ends) in
+    not_found (codes "-}") (byte ∷ (inside ++ codes "-}") ++ rest) (not_at_front byte inside rest ends) in
     rw apart (closing_again inside rest (record {
       inside = inside;
       whole = refl;
@@ -106,7 +106,7 @@ block_again : (bytes rest : List ℕ) → IsBlockComment bytes rest → behind_s
 unfolding behind_space
 block_again bytes rest is =
     let ends : EndsFirst (is.closed.inside ++ codes "-}") (codes "-}") =
-      subst (λ block. EndsFirst block (codes "-}")) is.closed.whole is.closed in
+    subst (λ block. EndsFirst block (codes "-}")) is.closed.whole is.closed in
     let found = closing_again is.closed.inside rest ends in
     rw (is.whole, is.closed.whole) found
 
@@ -115,7 +115,7 @@ line_again : (bytes rest : List ℕ) → IsLineComment bytes rest → behind_spa
 unfolding behind_space
 line_again bytes rest is =
     let each : AllByRecursion (λ b. is_in_line b ≡ true) is.line =
-      recursion_from_All (λ b. is_in_line b ≡ true) is.line (λ k d h. not_from_false _ (is.on_line k d h)) in
+    recursion_from_All (λ b. is_in_line b ≡ true) is.line (λ k d h. not_from_false _ (is.on_line k d h)) in
     rw is.whole (ap Some (run_drop is_in_line is.line rest each is.stops))
 
 -- a white byte does not begin a comment
@@ -165,8 +165,8 @@ pub space_read : (bytes rest : List ℕ) → behind_space bytes ≡ Some rest �
 unfolding behind_space
 space_read bytes rest e = elim (cases_Bool (has_front (codes "--") bytes)) [
   | inl h ↦
-    let same : behind_line (drop 2 bytes) ≡ rest = same_Some _ _ (rw h at e) in
-    inr (inl (subst (IsLineComment bytes) same (line_read bytes h)))
+      let same : behind_line (drop 2 bytes) ≡ rest = same_Some _ _ (rw h at e) in
+      inr (inl (subst (IsLineComment bytes) same (line_read bytes h)))
   | inr h ↦ elim (cases_Bool (has_front (codes "{-") bytes)) [
     | inl k ↦ inr (inr (block_read bytes rest k (rw (h, k) at e)))
     | inr k ↦ inl (white_read bytes rest (rw (h, k) at e))

@@ -1,5 +1,5 @@
 -- Tests of a token tell which token it is.
-use Rattle.std.proofs.Common.{◌≡◌, ℕ, List, true, false, cond, Some, None, codes, refl, sym, ap, subst, ◌∙◌}
+use Rattle.std.proofs.Common.{◌≡◌, ℕ, List, true, false, cond, Some, None, codes, refl, sym, ap, subst, ◌∙◌, ◌<◌, [], ◌∷◌, length, arith}
 use Rattle.std.specs.Str.{bytes_eq}
 use Rattle.std.proofs.lemmas.Bool.{false≢true}
 use Rattle.std.proofs.lemmas.Option.{cond_some, same_Some, none-some}
@@ -125,3 +125,8 @@ number_some (SignToken other) number h = absurd (none-some number h)
 number_some (Text value) number h = absurd (none-some number h)
 number_some (Identifier value) number h = absurd (none-some number h)
 number_some (Character value) number h = absurd (none-some number h)
+
+-- an upper-case name has a byte
+pub name_has_byte : (name : List ℕ) → IsUpperName name → 0 < length name
+name_has_byte [] upper = absurd (false≢true upper)
+name_has_byte (b ∷ name) upper = omega arith

@@ -251,7 +251,7 @@ def_by token rest =
     (cond (is_word (codes "separator") token.token) (list_macro_at Separator rest)
     (cond (is_word (codes "coercions") token.token) (coercions_at rest)
     (cond (is_word (codes "entrypoints") token.token)
-      ((entries_at >>= (λ cats. pure (Entry cats))) rest)
+    ((entries_at >>= (λ cats. pure (Entry cats))) rest)
     ((rule_at >>= (λ rule. pure (Rule rule))) (token ∷ rest))))))
 
 -- the definition that all of the tokens are

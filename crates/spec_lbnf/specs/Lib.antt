@@ -13,3 +13,4 @@ pub mod Scanning
 pub mod FileLaws
 pub mod ScanExamples
 pub mod ReadingLaws
+pub mod ReadingExamples

@@ -15,6 +15,7 @@ at place token = record { token = token; place = place }
 -- the identifier a, and the identifier b
 abbrev pub a : FileToken
 a = Identifier (codes "a")
+
 abbrev pub b : FileToken
 b = Identifier (codes "b")
 

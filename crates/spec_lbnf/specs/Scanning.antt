@@ -1,7 +1,7 @@
 -- Scanning a grammar file: a function for each sort of token and of what separates tokens. Serves
 -- the proofs alone: what tokens are is said in FileTokens.
-use Rattle.std.specs.Prelude.{ℕ, zero, suc, ◌-◌, List, [], ◌∷◌, length, take, drop, codes, Bool, true, false}
-use Rattle.std.specs.Prelude.{cond, not, ◌&&◌, nat_eq, nat_le, bytes_eq, Option, Some, None, chars}
+use Rattle.std.specs.Prelude.{ℕ, zero, suc, ◌-◌, List, [], ◌∷◌, length, take, drop, codes, Bool}
+use Rattle.std.specs.Prelude.{true, false, cond, not, ◌&&◌, nat_eq, nat_le, bytes_eq, Option, Some, None, chars}
 use Rattle.std.specs.Prelude.{option_map, option_and_then, slice_index}
 use Rattle.std.specs.Char.{encode_utf8}
 use Rattle.std.specs.List.{prefix_len, list_any}
@@ -61,8 +61,8 @@ identifier_at bytes =
     only_if (nat_le n 64) (Identifier (take n bytes), drop n bytes)
 
 -- the number at the front of bytes that begin with a digit, and what is behind it
-unfoldable pub number_at : List ℕ → Option (FileToken × List ℕ)
-number_at bytes =
+unfoldable pub number_token_at : List ℕ → Option (FileToken × List ℕ)
+number_token_at bytes =
     let n : ℕ = prefix_len is_digit bytes in
     only_if (nat_le n 4) (Number (digits_value 10 (take n bytes)), drop n bytes)
 
@@ -130,9 +130,9 @@ abbrev pub longest_of : List ℕ → Sign → Option (FileToken × List ℕ)
 longest_of rest sign = only_if (not (has_more (longer_by sign) rest)) (SignToken sign, rest)
 
 -- the sign at the front, and what is behind it
-unfoldable pub sign_at : List ℕ → Option (FileToken × List ℕ)
-sign_at [] = None
-sign_at (byte ∷ bytes) =
+unfoldable pub sign_token_at : List ℕ → Option (FileToken × List ℕ)
+sign_token_at [] = None
+sign_token_at (byte ∷ bytes) =
     cond (has_front (codes "::=") (byte ∷ bytes)) (Some (SignToken Gives, drop 2 bytes))
     (option_and_then (longest_of bytes) (byte_sign byte))
 
@@ -141,9 +141,9 @@ unfoldable pub token_at : List ℕ → Option (FileToken × List ℕ)
 token_at [] = None
 token_at (byte ∷ bytes) =
     cond (is_letter byte) (identifier_at (byte ∷ bytes))
-    (cond (is_digit byte) (number_at (byte ∷ bytes))
+    (cond (is_digit byte) (number_token_at (byte ∷ bytes))
     (cond (nat_eq byte 34) (string_at bytes)
-    (cond (nat_eq byte 39) (character_at bytes) (sign_at (byte ∷ bytes)))))
+    (cond (nat_eq byte 39) (character_at bytes) (sign_token_at (byte ∷ bytes)))))
 
 -- the token before the tokens that are read
 abbrev pub token_before : PlacedToken → List PlacedToken × ℕ → List PlacedToken × ℕ

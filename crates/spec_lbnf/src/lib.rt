@@ -13,7 +13,7 @@ pub use laws::{
     acyclic_or_cyclic, distinct_names, fit_or_unfit, numbers_name_back, own_entry, own_symbols,
 };
 pub use reading_laws::{
-    defs_or_fault, defs_within_limits, one_first_fault, one_list_of_defs, spelled_or_faulty,
-    two_bytes_for_each,
+    defs_or_fault, defs_within_limits, one_first_fault, one_list_of_defs, small_readings,
+    spelled_or_faulty, two_bytes_for_each,
 };
 pub use token::{FileToken, PlacedToken, Sign};

@@ -3,6 +3,7 @@
 ghost use Rattle.spec_lbnf.specs.ReadingLaws.{OneListOfDefs, OneFileOfDefs, OneFirstFault};
 ghost use Rattle.spec_lbnf.specs.ReadingLaws.{SpelledOrFaulty, DefsOrFault, TwoBytesForEach};
 ghost use Rattle.spec_lbnf.specs.ReadingLaws.{DefsWithinLimits};
+ghost use Rattle.spec_lbnf.specs.ReadingExamples.{SmallReadings};
 
 /// Tokens spell at most one list of definitions, and so does a file.
 pub fn one_list_of_defs()
@@ -36,4 +37,9 @@ pub fn two_bytes_for_each()
 /// word of an item is empty.
 pub fn defs_within_limits()
     ensures { DefsWithinLimits }
+{}
+
+/// What small files spell, or their first fault, by hand.
+pub fn small_readings()
+    ensures { SmallReadings }
 {}

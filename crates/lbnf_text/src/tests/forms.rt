@@ -1,6 +1,5 @@
 //! What each form of definition gives, with answers by hand.
-use super::files::read_file;
-use crate::{CatName, Def, Label, RawItem, RawRule};
+use crate::{CatName, Def, Label, RawItem, RawRule, read_defs};
 use std::alloc::{AllocError, Global};
 use std::test::*;
 
@@ -109,7 +108,7 @@ fn show_def(alloc: Global, out: &mut Vec<u8>, def: &Def) -> Result<(), AllocErro
 /// The definitions of the file, each with a bar behind it, and nothing where it cannot be read.
 fn shown(alloc: Global, text: &str) -> Result<Vec<u8>, AllocError> {
     let mut out = Vec::new(alloc);
-    if let Ok(defs) = read_file(alloc, text.as_bytes()) {
+    if let Ok(defs) = read_defs(alloc, text.as_bytes()) {
         for def in defs.as_slice() {
             show_def(alloc, &mut out, def)?;
             out.push(b'|')?;

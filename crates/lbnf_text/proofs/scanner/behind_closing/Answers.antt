@@ -1,5 +1,5 @@
 -- The text is split at its first closing text.
-use Rattle.std.proofs.Common.{Option, Some, ap, ◌∙◌, arith}
+use Rattle.std.proofs.Common.{Some, ap, ◌∙◌, arith}
 use Rattle.lbnf_text.proofs.CommentLemmas.{closing_found, closing_none}
 use Rattle.lbnf_text.proofs.scanner.behind_closing.Goals as goal
 

@@ -1,5 +1,5 @@
 -- A number is ASCII, and its digits are parsed.
-use Rattle.std.proofs.Common.{◌≡◌, ◌≤◌, ℕ, List, take, length, Ok, sym, ap, ◌∙◌, arith}
+use Rattle.std.proofs.Common.{◌≡◌, ◌≤◌, ℕ, List, take, length, sym, ap, ◌∙◌, arith}
 use Rattle.std.specs.List.{prefix_len}
 use Rattle.std.specs.Result.{result_ok}
 use Rattle.std.proofs.lemmas.Option.{none-some}

@@ -5,7 +5,7 @@ use Rattle.std.specs.Str.{chars}
 use Rattle.spec_lbnf.specs.declared.token.FileToken.TheVariants.{Identifier}
 use Rattle.spec_lbnf.specs.FileTokens.{IsScan}
 use Rattle.spec_lbnf.specs.ScanExamples.{at}
-use Rattle.spec_lbnf.specs.Scanning.{behind_closing, behind_space, identifier_at, number_at, literal_from, string_at, character_at, sign_at, token_at, tokens_from}
+use Rattle.spec_lbnf.specs.Scanning.{behind_closing, behind_space, identifier_at, number_token_at, literal_from, string_at, character_at, sign_token_at, token_at, tokens_from}
 use Rattle.spec_lbnf.proofs.ScanLemmas.{scanned}
 use Rattle.spec_lbnf.proofs.file_laws.small_scans.Goals as goal
 
@@ -19,7 +19,7 @@ unfolding behind_closing behind_space identifier_at token_at tokens_from
 too_long_name = scanned (replicate 65 97)
 
 pub returns : goal.returns
-unfolding encode_utf8 chars behind_closing behind_space identifier_at number_at literal_from string_at character_at sign_at token_at tokens_from
+unfolding encode_utf8 chars behind_closing behind_space identifier_at number_token_at literal_from string_at character_at sign_token_at token_at tokens_from
 returns c = record {
   empty_file = scanned (codes "");
   white_file = scanned (codes " \t\r\n ");
