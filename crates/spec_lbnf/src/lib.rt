@@ -7,7 +7,7 @@ mod laws;
 mod token;
 
 pub use definition::{CatName, Def, RawItem, RawRule};
-pub use file_laws::{one_scan, small_scans, some_scan, tokens_rise};
+pub use file_laws::{one_scan, one_token_or_space, small_scans, some_scan, tokens_rise};
 pub use laws::{
     acyclic_or_cyclic, distinct_names, fit_or_unknown, numbers_name_back, one_spelling,
     own_symbols, spelled_or_unbuilt, two_bytes_each,
