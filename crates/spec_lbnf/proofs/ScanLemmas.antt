@@ -113,6 +113,16 @@ token_read (byte ∷ bytes) token rest e = elim (cases_Bool (is_letter byte)) [
   ]
 ]
 
+-- bytes begin with one token
+pub one_token : (bytes : List ℕ) (a b : FileToken) (r s : List ℕ) → BeginsWith a bytes r → BeginsWith b bytes s
+    → (a ≡ b) × (r ≡ s)
+one_token bytes a b r s first second =
+    some_pair_parts a b r s (sym (token_again a bytes r first) ∙ token_again b bytes s second)
+
+-- bytes begin with one space
+pub one_space : (bytes r s : List ℕ) → Separates bytes r → Separates bytes s → r ≡ s
+one_space bytes r s first second = same_Some r s (sym (space_again bytes r first) ∙ space_again bytes s second)
+
 -- a white byte is none that is not white
 white_apart : (byte code : ℕ) → is_white byte ≡ true → is_white code ≡ false → eqb byte code ≡ false
 white_apart byte code white plain =
@@ -225,7 +235,7 @@ one_skip bytes here there (nothing _ _ e) (goes_on _ behind _ space skips) free 
 one_skip bytes here there (goes_on _ behind _ space skips) (nothing _ _ f) free free' =
     absurd (free' behind (subst (λ l. Separates l behind) f space))
 one_skip bytes here there (goes_on _ behind _ space skips) (goes_on _ other _ space' skips') free free' =
-    let same : behind ≡ other = same_Some behind other (sym (space_again bytes behind space) ∙ space_again bytes other space') in
+    let same : behind ≡ other = one_space bytes behind other space space' in
     one_skip behind here there skips (rw same skips') free free'
 
 -- what is skipped leaves no more bytes

@@ -1,7 +1,24 @@
--- What is true of the tokens of a grammar file: a file has one scan, and its places rise.
+-- What is true of the tokens of a grammar file: what stands at the front of bytes is one token or one
+-- space, so that a file has one scan, and the places of its tokens rise.
 use Rattle.std.specs.Prelude.{◌≡◌, ℕ, ◌+◌, ◌≤◌, List, [], ◌∷◌, length}
+use Rattle.spec_lbnf.specs.declared.token.FileToken.{FileToken}
 use Rattle.spec_lbnf.specs.declared.token.PlacedToken.{PlacedToken}
-use Rattle.spec_lbnf.specs.FileTokens.{IsScan}
+use Rattle.spec_lbnf.specs.FileTokens.{BeginsWith, Separates, IsScan}
+
+-- bytes begin with at most one longest token, and one rest is behind it
+abbrev pub HasOneToken : Type 0
+HasOneToken =
+    (bytes : List ℕ) (a b : FileToken) (r s : List ℕ) → BeginsWith a bytes r → BeginsWith b bytes s
+    → (a ≡ b) × (r ≡ s)
+
+-- bytes begin with at most one white byte or comment, so that one rest is behind it
+abbrev pub HasOneSpace : Type 0
+HasOneSpace = (bytes r s : List ℕ) → Separates bytes r → Separates bytes s → r ≡ s
+
+-- no token begins where a white byte or a comment does
+abbrev pub HasTokenOrSpace : Type 0
+HasTokenOrSpace =
+    (token : FileToken) (bytes r s : List ℕ) → BeginsWith token bytes r → Separates bytes s → ⊥
 
 -- a file has tokens, up to some place
 abbrev pub HasSomeScan : Type 0

@@ -1,6 +1,14 @@
 //! Laws of the tokens of a grammar file. Each is the contract of a function with an empty body.
+ghost use Rattle.spec_lbnf.specs.FileLaws.{HasOneToken, HasOneSpace, HasTokenOrSpace};
 ghost use Rattle.spec_lbnf.specs.FileLaws.{HasOneScan, HasSomeScan, HasRisingPlaces};
 ghost use Rattle.spec_lbnf.specs.ScanExamples.{SmallScans};
+
+/// Bytes begin with at most one longest token, or else with at most one white byte or comment.
+pub fn one_token_or_space()
+    ensures token { HasOneToken }
+    ensures space { HasOneSpace }
+    ensures either { HasTokenOrSpace }
+{}
 
 /// A file has at most one list of tokens, up to one place.
 pub fn one_scan()

@@ -8,7 +8,7 @@ mod reading_laws;
 mod token;
 
 pub use definition::{CatName, Def, RawItem, RawRule};
-pub use file_laws::{one_scan, small_scans, some_scan, tokens_rise};
+pub use file_laws::{one_scan, one_token_or_space, small_scans, some_scan, tokens_rise};
 pub use laws::{
     acyclic_or_cyclic, distinct_names, fit_or_unfit, numbers_name_back, own_entry, own_symbols,
 };
