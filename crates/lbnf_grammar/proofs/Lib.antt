@@ -7,3 +7,5 @@ pub mod NullableLemmas
 pub mod CycleLemmas
 pub mod StepLinkLemmas
 pub mod RankLemmas
+pub mod CountLemmas
+pub mod LabelLemmas

@@ -1,8 +1,9 @@
 //! How many rules definitions give, counted without making them.
 ghost use Rattle.std.specs.Prelude.{◌≡◌, ◌≤◌, length};
 ghost use Rattle.spec_lbnf.specs.FirstForm.{size_of};
+ghost use Rattle.spec_lbnf.specs.declared.definition.CatName.{CatName};
 ghost use Rattle.spec_lbnf.specs.Words.{is_empty};
-ghost use Rattle.spec_lbnf.specs.Expansion.{word_items, rules_of_def, rules_of};
+ghost use Rattle.spec_lbnf.specs.Expansion.{word_items, separator_rules, rules_of_def, rules_of};
 ghost use Rattle.spec_lbnf.specs.Checks.{HasFewRules, AtCount};
 ghost use Rattle.lbnf_grammar.specs.Checking.{Checks};
 

@@ -1,5 +1,5 @@
 //! The check of labels, and of the levels of coercions.
-ghost use Rattle.std.specs.Prelude.{◌≡◌, ◌≤◌, ◌↔◌, map, IsTrue, IfOk, All};
+ghost use Rattle.std.specs.Prelude.{◌≡◌, ◌≤◌, ◌↔◌, [], ◌∷◌, ◌++◌, map, IsTrue, IfOk, OnOk, All};
 ghost use Rattle.spec_lbnf.specs.FirstForm.{size_of};
 ghost use Rattle.spec_lbnf.specs.Checks.{categories_in, AreElementAndList, IsOneElement};
 ghost use Rattle.spec_lbnf.specs.Checks.{IsBadLabel, IsBadWild, IsBadListRule};
@@ -19,16 +19,24 @@ pub(crate) enum LabelFault {
     List,
 }
 
+/// Adds the item, if it is no word.
+fn add_category<'a>(cats: &mut Vec<&'a CatName>, item: &'a RawItem) -> Result<(), AllocError>
+    ensures { OnOk result (map (λ cat. cat.now) cats.new.items
+        ≡ map (λ cat. cat.now) cats.old.items ++ categories_in (item.now ∷ [])) }
+{
+    match item {
+        RawItem::Cat(cat) => Ok(cats.push(cat)?),
+        RawItem::Word(_) => Ok(()),
+    }
+}
+
 /// The items that are no words.
 fn categories_in(alloc: Global, items: &[RawItem]) -> Result<Vec<&CatName>, AllocError>
     ensures { IfOk result (λ cats. map (λ cat. cat.now) cats.items ≡ categories_in items.now) }
 {
     let mut cats = Vec::new(alloc);
     for item in items {
-        match item {
-            RawItem::Cat(cat) => cats.push(cat)?,
-            RawItem::Word(_) => {}
-        }
+        add_category(&mut cats, item)?;
     }
     Ok(cats)
 }

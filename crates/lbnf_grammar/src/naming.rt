@@ -1,5 +1,5 @@
 //! The categories that definitions give rules for, and those that they name.
-ghost use Rattle.std.specs.Prelude.{◌≡◌, ◌++◌, map, flat_map, IfOk, OnOk, All};
+ghost use Rattle.std.specs.Prelude.{◌≡◌, [], ◌∷◌, ◌++◌, map, flat_map, IfOk, OnOk, All};
 ghost use Rattle.spec_lbnf.specs.declared.definition.RawRule.{RawRule};
 ghost use Rattle.spec_lbnf.specs.Limits.{IsShallow};
 ghost use Rattle.spec_lbnf.specs.Expansion.{category_text, item_categories, internal_category};
@@ -50,15 +50,23 @@ pub(crate) fn all_own_categories(alloc: Global, defs: &[Def]) -> Result<Vec<Name
     Ok(names)
 }
 
+/// Adds the text of the item, if it is a category.
+fn add_item(alloc: Global, names: &mut Vec<Name>, item: &RawItem) -> Result<(), AllocError>
+    ensures { OnOk result
+        (names.new.items ≡ names.old.items ++ item_categories (item.now ∷ [])) }
+{
+    match item {
+        RawItem::Cat(cat) => Ok(names.push(category_text(alloc, cat)?)?),
+        RawItem::Word(_) => Ok(()),
+    }
+}
+
 /// Adds the texts of the categories among the items.
 fn add_items(alloc: Global, names: &mut Vec<Name>, items: &[RawItem]) -> Result<(), AllocError>
     ensures { OnOk result (names.new.items ≡ names.old.items ++ item_categories items.now) }
 {
     for item in items {
-        match item {
-            RawItem::Cat(cat) => names.push(category_text(alloc, cat)?)?,
-            RawItem::Word(_) => {}
-        }
+        add_item(alloc, names, item)?;
     }
     Ok(())
 }

@@ -1,0 +1,58 @@
+-- How many rules definitions give, and that their rules, categories and words are few.
+use Rattle.std.proofs.Common.{◌≡◌, ℕ, ◌+◌, ◌*◌, ◌<◌, ◌≤◌, ◌^◌, ◌⊎◌, List, [], ◌∷◌, ◌++◌, length, map, Bool, true, false, not, ◌&&◌, refl, sym, ap, ◌∙◌, inl, inr, arith, length-append, take, Some, slice_get, get_or, nat_eq}
+use Rattle.std.specs.List.{flat_map, filter, slice_split, onto_first, list_all}
+use Rattle.std.proofs.lemmas.Bool.{cases_Bool}
+use Rattle.std.proofs.lemmas.List.{length-map, take_more}
+use Rattle.std.proofs.lemmas.List.Sums.{sum_by-cons}
+use Rattle.spec_lbnf.specs.declared.definition.RawItem.TheVariants.{Word}
+use Rattle.spec_lbnf.specs.declared.definition.Def.{Def}
+use Rattle.spec_lbnf.specs.declared.definition.Def.TheVariants.{Rule, Internal, Terminator, Separator, Coercions, Entry}
+use Rattle.spec_lbnf.specs.FirstForm.{def_size, size_of}
+use Rattle.spec_lbnf.specs.Words.{is_empty, words_in}
+use Rattle.spec_lbnf.specs.Expansion.{word_items}
+
+-- a definition has a size of one or more
+some_size : (def : Def) → 0 < def_size def
+some_size (Rule rule) = omega arith
+some_size (Internal rule) = omega arith
+some_size (Terminator nonempty cat word) = omega arith
+some_size (Separator nonempty cat word) = omega arith
+some_size (Coercions name levels) = omega arith
+some_size (Entry cats) = omega arith
+
+-- there are no more definitions than definitions and items
+pub few_defs : (defs : List Def) → length defs ≤ size_of defs
+few_defs [] = omega arith
+few_defs (def ∷ defs) = omega (arith, sum_by-cons def_size def defs, some_size def, few_defs defs)
+
+-- the byte is a space
+abbrev is_space : ℕ → Bool
+is_space byte = nat_eq byte 32
+
+-- a byte before the first part leaves some part that is not empty
+onto_first_some : (byte : ℕ) (parts : List (List ℕ)) → list_all is_empty (onto_first byte parts) ≡ false
+onto_first_some byte [] = refl
+onto_first_some byte (part ∷ parts) = refl
+
+-- all bytes are spaces where all parts between spaces are empty
+spaces_alone : (text : List ℕ) → list_all is_space text ≡ list_all is_empty (slice_split is_space text)
+spaces_alone [] = refl
+spaces_alone (byte ∷ text) = elim (cases_Bool (is_space byte)) [
+  | inl e ↦ rw e (spaces_alone text)
+  | inr e ↦ rw (e, onto_first_some byte (slice_split is_space text)) refl
+]
+
+-- no part is kept where all are empty
+none_kept : (parts : List (List ℕ)) → is_empty (filter (λ part. not (is_empty part)) parts) ≡ list_all is_empty parts
+none_kept [] = refl
+none_kept ([] ∷ parts) = none_kept parts
+none_kept ((byte ∷ part) ∷ parts) = refl
+
+-- a list is as empty as its images
+empty_images : {A B : Type 0} (f : A → B) (xs : List A) → is_empty (map f xs) ≡ is_empty xs
+empty_images f [] = refl
+empty_images f (x ∷ xs) = refl
+
+-- a string has no words where all its bytes are spaces
+pub wordless : (text : List ℕ) → list_all is_space text ≡ is_empty (word_items text)
+wordless text = spaces_alone text ∙ sym (none_kept (slice_split is_space text)) ∙ sym (empty_images Word (words_in text))
