@@ -1,15 +1,16 @@
 -- How many rules definitions give, and that their rules, categories and words are few.
 use Rattle.std.proofs.Common.{◌≡◌, ℕ, ◌+◌, ◌*◌, ◌<◌, ◌≤◌, ◌^◌, ◌⊎◌, List, [], ◌∷◌, ◌++◌, length, map, Bool, true, false, not, ◌&&◌, refl, sym, ap, ◌∙◌, inl, inr, arith, length-append, take, Some, slice_get, get_or, nat_eq}
-use Rattle.std.specs.List.{flat_map, filter, slice_split, onto_first, list_all}
+use Rattle.std.specs.List.{flat_map, filter, slice_split, onto_first, list_all, range_with_len}
 use Rattle.std.proofs.lemmas.Bool.{cases_Bool}
 use Rattle.std.proofs.lemmas.List.{length-map, take_more}
+use Rattle.std.proofs.lemmas.List.FromFn.{length-map-range_with_len}
 use Rattle.std.proofs.lemmas.List.Sums.{sum_by-cons}
 use Rattle.spec_lbnf.specs.declared.definition.RawItem.TheVariants.{Word}
 use Rattle.spec_lbnf.specs.declared.definition.Def.{Def}
 use Rattle.spec_lbnf.specs.declared.definition.Def.TheVariants.{Rule, Internal, Terminator, Separator, Coercions, Entry}
 use Rattle.spec_lbnf.specs.FirstForm.{def_size, size_of}
 use Rattle.spec_lbnf.specs.Words.{is_empty, words_in}
-use Rattle.spec_lbnf.specs.Expansion.{word_items}
+use Rattle.spec_lbnf.specs.Expansion.{word_items, level_rule, bracket_rule, coercion_rules}
 
 -- a definition has a size of one or more
 some_size : (def : Def) → 0 < def_size def
@@ -56,3 +57,9 @@ empty_images f (x ∷ xs) = refl
 -- a string has no words where all its bytes are spaces
 pub wordless : (text : List ℕ) → list_all is_space text ≡ is_empty (word_items text)
 wordless text = spaces_alone text ∙ sym (none_kept (slice_split is_space text)) ∙ sym (empty_images Word (words_in text))
+
+-- coercions give a rule for each level and one more
+pub coercion_count : (name : List ℕ) (levels : ℕ) → length (coercion_rules name levels) ≡ levels + 1
+coercion_count name levels =
+    length-append (map (level_rule name) (range_with_len 0 levels)) (bracket_rule name levels ∷ [])
+    ∙ ap (λ n. n + 1) (length-map-range_with_len (level_rule name) 0 levels)

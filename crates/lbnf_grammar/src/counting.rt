@@ -22,7 +22,9 @@ fn is_wordless(text: &[u8]) -> bool
 
 /// How many rules a separator gives.
 fn separator_count(nonempty: bool, word: &[u8]) -> usize
-    ensures { (cat : CatName) → result ≡ length (separator_rules nonempty cat (word_items word.now)) }
+    ensures count { (cat : CatName)
+        → result ≡ length (separator_rules nonempty cat (word_items word.now)) }
+    ensures few { result ≤ 3 }
 {
     if nonempty || is_wordless(word) { 2 } else { 3 }
 }
