@@ -9,3 +9,4 @@ pub mod StepLinkLemmas
 pub mod RankLemmas
 pub mod CountLemmas
 pub mod LabelLemmas
+pub mod FaultLemmas
