@@ -10,3 +10,4 @@ pub mod RankLemmas
 pub mod CountLemmas
 pub mod LabelLemmas
 pub mod FaultLemmas
+pub mod EntryLemmas

@@ -79,17 +79,6 @@ internal_behind rules defs =
     sym (fold-append with_name [] (flat_map met_categories rules) (flat_map internal_category defs))
     ∙ names_distinct (flat_map met_categories rules ++ flat_map internal_category defs)
 
--- the internal categories of the first definitions, and that of the next
-pub internal_more : (names : List (List ℕ)) (defs : List Def) (i : ℕ) (def : Def) → slice_get defs i ≡ Some def
-    → with_names names (flat_map internal_category (take (i + 1) defs))
-    ≡ with_names (with_names names (flat_map internal_category (take i defs))) (internal_category def)
-internal_more names defs i def at =
-    let more : flat_map internal_category (take (i + 1) defs) ≡ flat_map internal_category (take i defs) ++ internal_category def
-    = ap (flat_map internal_category) (take_next defs i def at)
-      ∙ flat_map-append internal_category (take i defs) (def ∷ [])
-      ∙ ap (λ own. flat_map internal_category (take i defs) ++ own) (append-nil (internal_category def)) in
-    ap (with_names names) more ∙ fold-append with_name names (flat_map internal_category (take i defs)) (internal_category def)
-
 -- what is numbered by the tables of the definitions is the grammar that they stand for
 pub expansion_is : (defs : List Def) (tables : Tables) (rules : List Rule) (names : List (List ℕ)) (kinds : List KindDef) (entry : Option Symbol)
     → tables.categories ≡ categories_of defs → tables.words ≡ words_of (rules_of defs)
