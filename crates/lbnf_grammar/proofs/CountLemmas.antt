@@ -17,6 +17,7 @@ use Rattle.spec_lbnf.specs.FirstForm.{def_size, size_of}
 use Rattle.spec_lbnf.specs.Words.{is_empty, words_in}
 use Rattle.spec_lbnf.specs.Expansion.{word_items, list_of, terminator_rules, separator_rules, level_rule, bracket_rule, coercion_rules, rules_of_def, rules_of, item_categories, item_words, met_categories, internal_category, distinct, categories_of, words_of, symbol_of, numbered_rule, item_count}
 use Rattle.spec_lbnf.specs.Checks.{HasFewRules}
+use Rattle.lbnf_grammar.specs.Numbering.{AreFew}
 use Rattle.lbnf_grammar.proofs.DistinctLemmas.{names_distinct, with_names_length}
 
 -- a definition has a size of one or more
@@ -253,14 +254,6 @@ few_items categories words (rule ∷ rules) =
 -- the list without repetitions is no longer than the list
 few_distinct : (names : List (List ℕ)) → length (distinct names) ≤ length names
 few_distinct names = rw (← names_distinct names) (omega (arith, with_names_length [] names))
-
--- rules, categories and words can be numbered
-pub record AreFew (defs : List Def) : Type 0 where
-  pub rules : length (rules_of defs) < 2 ^ 16
-  pub categories : length (categories_of defs) < 2 ^ 16
-  pub words : length (words_of (rules_of defs)) < 2 ^ 16
-  pub items : (categories words : List (List ℕ))
-      → item_count (map (numbered_rule categories words) (rules_of defs)) < 2 ^ 31
 
 -- those of definitions of the size that is read, which give few rules, can be numbered
 pub are_few : (defs : List Def) → size_of defs ≤ 32768 → HasFewRules defs → AreFew defs

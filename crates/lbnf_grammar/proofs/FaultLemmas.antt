@@ -25,3 +25,21 @@ pub unknown_tells : (defs : List Def) (name : List ℕ) (number : ℕ) → IsFir
     → (fault : GrammarFault) → Tells (λ why. why ≡ unknown_fault name number) fault → Tells (AtUnknown defs) fault
 unknown_tells defs name number first =
     tells_weaker (λ why. why ≡ unknown_fault name number) (AtUnknown defs) (λ why is. (name, number, first, is))
+
+-- the answer of the check for cycles, on the grammar that definitions stand for, is the answer on
+-- the definitions, if they pass the other checks
+pub expands : (defs : List Def) → All IsWellLabelled defs → HasFewRules defs → HasOwnNames defs → AreAllKnown defs
+    → (g : Expansion) → g ≡ expansion_of defs → (result : Result Expansion GrammarFault) → PassesCycles g result → Expands defs result
+expands defs labelled few free known g is (Ok kept) passes = (
+  record {
+    labelled = labelled;
+    few = few;
+    own_names = free;
+    known = known;
+    acyclic = subst (λ (x : Expansion). IsAcyclic x.rules) is passes.0;
+  },
+  passes.1 ∙ is,
+)
+expands defs labelled few free known g is (Err fault) tells =
+    tells_weaker (AtCycleOf g) (IsUnfit defs)
+    (λ why at. inr (labelled, inr (few, inr (free, inr (known, subst (λ (x : Expansion). AtCycleOf x why) is at))))) fault tells

@@ -4,7 +4,6 @@ pub mod DistinctLemmas
 pub mod TableLemmas
 pub mod CheckingLemmas
 pub mod NullableLemmas
-pub mod CycleLemmas
 pub mod StepLinkLemmas
 pub mod RankLemmas
 pub mod CountLemmas

@@ -1,12 +1,12 @@
 //! Expanding definitions: the checks, then the numbers.
-ghost use Rattle.std.specs.Prelude.{◌≡◌, ◌≤◌, map, IfOk, All};
-ghost use Rattle.spec_lbnf.specs.FirstForm.{size_of};
-ghost use Rattle.spec_lbnf.specs.Limits.{IsShallow, AreWithinLimits};
-ghost use Rattle.spec_lbnf.specs.Expansion.{expansion_of};
+ghost use Rattle.std.specs.Prelude.{◌≡◌, map, IfOk};
+ghost use Rattle.spec_lbnf.specs.Limits.{AreWithinLimits};
+ghost use Rattle.spec_lbnf.specs.Expansion.{rules_of, categories_of, words_of, expansion_of};
 ghost use Rattle.spec_lbnf.specs.Checks.{HasFewRules, AreAllKnown};
 ghost use Rattle.spec_lexing.specs.declared.kind_def.KindDef.TheVariants.{Word as WordKind};
 ghost use Rattle.lbnf_grammar.specs.Grammars.{Expands, Tells};
 ghost use Rattle.lbnf_grammar.specs.Checking.{PassesCycles, AtCycleOf};
+ghost use Rattle.lbnf_grammar.specs.Numbering.{AreFew};
 ghost use Rattle.lbnf_grammar.specs.Ranks.{IsLeastCyclic};
 
 use crate::chains::{Chains, chains_of};
@@ -21,7 +21,7 @@ use crate::numbering::numbered_rules;
 use crate::parts::GrammarParts;
 use crate::tables::{Tables, tables_of};
 use crate::texts::copy_name;
-use lbnf_text::{Def, Defs};
+use lbnf_text::{Def, Defs, RawRule};
 use spec_lexing::KindDef;
 use spec_text::Name;
 use std::alloc::{AllocError, Global};
@@ -36,21 +36,37 @@ fn kinds_of(alloc: Global, words: Vec<Name>) -> Result<Vec<KindDef>, AllocError>
         .collect(alloc)
 }
 
+/// The parts of the grammar that the definitions stand for, by their rules and tables.
+fn parts_by(
+    alloc: Global,
+    defs: &[Def],
+    raw: &[RawRule],
+    tables: Tables,
+) -> Result<GrammarParts, AllocError>
+    requires raw { raw.now ≡ rules_of defs.now }
+    requires categories { tables.categories ≡ categories_of defs.now }
+    requires words { tables.words ≡ words_of (rules_of defs.now) }
+    requires few { AreFew defs.now }
+    requires known { AreAllKnown defs.now }
+    ensures { IfOk result (λ parts. parts ≡ expansion_of defs.now) }
+{
+    let rules = numbered_rules(alloc, &tables, raw)?;
+    let entry = entry_symbol(alloc, &tables, defs, raw)?;
+    let Tables { categories, words } = tables;
+    let kinds = kinds_of(alloc, words.into_list())?;
+    Ok(GrammarParts::of(rules, categories.into_list(), kinds, entry))
+}
+
 /// The parts of the grammar that the definitions stand for.
 fn numbered_parts(alloc: Global, defs: &[Def]) -> Result<GrammarParts, AllocError>
-    requires few { size_of defs.now ≤ 32768 }
-    requires shallow { All IsShallow defs.now }
+    requires limits { AreWithinLimits defs.now }
     requires few_rules { HasFewRules defs.now }
     requires known { AreAllKnown defs.now }
     ensures { IfOk result (λ parts. parts ≡ expansion_of defs.now) }
 {
     let raw = rules_of(alloc, defs)?;
     let tables = tables_of(alloc, defs, raw.as_slice())?;
-    let rules = numbered_rules(alloc, &tables, raw.as_slice())?;
-    let entry = entry_symbol(alloc, &tables, defs, raw.as_slice())?;
-    let Tables { categories, words } = tables;
-    let kinds = kinds_of(alloc, words.into_list())?;
-    Ok(GrammarParts::of(rules, categories.into_list(), kinds, entry))
+    parts_by(alloc, defs, raw.as_slice(), tables)
 }
 
 /// That the category reaches itself, or that memory ran out.

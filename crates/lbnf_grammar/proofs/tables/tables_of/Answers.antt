@@ -5,7 +5,7 @@ use Rattle.std.proofs.lemmas.Option.{slice_get_read}
 use Rattle.spec_lbnf.specs.Expansion.{met_categories, internal_category}
 use Rattle.lbnf_grammar.specs.declared.tables.Tables.{Tables}
 use Rattle.lbnf_grammar.specs.Numbering.{with_names}
-use Rattle.lbnf_grammar.proofs.TableLemmas.{internal_behind, internal_more}
+use Rattle.lbnf_grammar.proofs.TableLemmas.{internal_behind}
 use Rattle.lbnf_grammar.proofs.tables.tables_of.Goals as goal
 
 pub returns-clause-categories : goal.returns-clause-categories
