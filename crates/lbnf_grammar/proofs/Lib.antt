@@ -4,6 +4,9 @@ pub mod DistinctLemmas
 pub mod TableLemmas
 pub mod CheckingLemmas
 pub mod NullableLemmas
-pub mod CycleLemmas
 pub mod StepLinkLemmas
 pub mod RankLemmas
+pub mod CountLemmas
+pub mod LabelLemmas
+pub mod FaultLemmas
+pub mod EntryLemmas

@@ -1,57 +1,64 @@
--- The check of the categories that definitions name. Serves the proofs alone.
-use Rattle.std.specs.Prelude.{◌≡◌, ℕ, List, ◌∷◌, ◌++◌, true, false, Option, Some, None, Result, Ok}
-use Rattle.std.specs.Prelude.{Err, All, MatchOption, bytes_eq}
+-- The checks of definitions, one by one. Serves the proofs alone.
+use Rattle.std.specs.Prelude.{◌≡◌, ℕ, List, true, false, Option, Some, None, Result, Ok, Err, All}
+use Rattle.std.specs.Prelude.{MatchOption, bytes_eq, length, ◌≢◌}
 use Rattle.std.specs.List.{list_any}
 use Rattle.spec_grammar.specs.Cycles.{IsAcyclic}
+use Rattle.spec_grammar.specs.declared.rule.Label.{Label}
+use Rattle.spec_grammar.specs.declared.rule.Label.TheVariants.{Wild}
+use Rattle.spec_lbnf.specs.declared.definition.CatName.{CatName}
+use Rattle.spec_lbnf.specs.declared.definition.RawRule.{RawRule}
 use Rattle.spec_lbnf.specs.declared.definition.Def.{Def}
-use Rattle.spec_lbnf.specs.declared.definition.Def.TheVariants.{Rule as RuleDef}
-use Rattle.spec_lbnf.specs.Expansion.{Expansion, category_text, item_categories}
-use Rattle.spec_lbnf.specs.Checks.{AreAllKnown, IsFirstUnknown, IsFirstCyclic}
+use Rattle.spec_lbnf.specs.Expansion.{Expansion}
+use Rattle.spec_lbnf.specs.Checks.{Unfitness, cyclic_category, IsFirstName, IsFirstCyclic}
+use Rattle.spec_lbnf.specs.Checks.{IsWellLabelled, IsBadCoercion, IsBadList}
+use Rattle.spec_lbnf.specs.Checks.{IsBadWild, IsBadListRule}
 use Rattle.lbnf_grammar.specs.declared.fault.GrammarFault.{GrammarFault}
-use Rattle.lbnf_grammar.specs.declared.fault.GrammarFault.TheVariants.{Memory, UnknownCategory, Cyclic}
-use Rattle.lbnf_grammar.specs.Grammars.{IsWellFormed}
-use Rattle.lbnf_grammar.specs.Numbering.{with_name}
+use Rattle.lbnf_grammar.specs.declared.labels.LabelFault.{LabelFault}
+use Rattle.lbnf_grammar.specs.declared.labels.LabelFault.TheVariants.{Coercion, List as ListFault}
+use Rattle.lbnf_grammar.specs.Grammars.{IsWellFormed, Tells}
 
--- the names with the category of the definition's rule
-abbrev pub with_own : List (List ℕ) → Def → List (List ℕ)
-with_own names (RuleDef rule) = with_name names (category_text rule.cat)
+-- the check is passed with what it gives, or the fault tells such an unfitness
+abbrev pub Checks : {A : Type 0} → (A → Type 0) → (Unfitness → Type 0) → Result A GrammarFault → Type 0
+Checks Passes IsSuch (Ok given) = Passes given
+Checks Passes IsSuch (Err fault) = Tells IsSuch fault
 
--- the categories that the definition names among its items
-abbrev pub def_categories : Def → List (List ℕ)
-def_categories (RuleDef rule) = item_categories rule.items
+-- what is wrong with the definition's label or levels, and None exactly where nothing is
+abbrev pub FindsLabelFault : Def → Option LabelFault → Type 0
+FindsLabelFault def None = IsWellLabelled def
+FindsLabelFault def (Some Coercion) = IsBadCoercion def
+FindsLabelFault def (Some ListFault) = IsBadList def
+
+-- the label is none of the rule's own, and the items that are no words are not one
+abbrev pub IsBadWildOf : Label → List CatName → Type 0
+IsBadWildOf label items = (label ≡ Wild) × (length items ≢ 1)
+
+-- what is wrong with the rule's label, and None exactly where nothing is
+abbrev pub FindsRuleFault : RawRule → Option LabelFault → Type 0
+FindsRuleFault rule None = (IsBadWild rule → ⊥) × (IsBadListRule rule → ⊥)
+FindsRuleFault rule (Some Coercion) = IsBadWild rule
+FindsRuleFault rule (Some ListFault) = IsBadListRule rule
 
 -- the name is listed
 abbrev pub IsListed : List (List ℕ) → List ℕ → Type 0
 IsListed known name = list_any (bytes_eq name) known ≡ true
 
--- the name is the first of these that is not listed: some are before it, and all of them are listed
-pub record IsFirstUnlisted (known names : List (List ℕ)) (name : List ℕ) : Type 0 where
-  pub before : List (List ℕ)
-  pub behind : List (List ℕ)
-  pub is_name : names ≡ before ++ (name ∷ behind)
-  pub unlisted : list_any (bytes_eq name) known ≡ false
-  pub listed_before : All (IsListed known) before
+-- the name is not listed
+abbrev pub IsUnlisted : List (List ℕ) → List ℕ → Type 0
+IsUnlisted known name = list_any (bytes_eq name) known ≡ false
 
 -- the first of the names that is not listed, and None where all are
 abbrev pub FindsUnlisted : List (List ℕ) → List (List ℕ) → Option (List ℕ) → Type 0
 FindsUnlisted known names found =
-    MatchOption found (All (IsListed known) names) (IsFirstUnlisted known names)
+    MatchOption found (All (IsListed known) names)
+    (IsFirstName (IsUnlisted known) (IsListed known) names)
 
--- the answer of the check: all categories are known, or the first that is not; want of memory is
--- free
-abbrev pub ChecksDefs : List Def → Result (Unit {0}) GrammarFault → Type 0
-ChecksDefs defs (Ok done) = AreAllKnown defs
-ChecksDefs defs (Err Memory) = Unit {0}
-ChecksDefs defs (Err (UnknownCategory name number)) = IsFirstUnknown defs name number
-ChecksDefs defs (Err (Cyclic name)) = ⊥
+-- the first cyclic category of the grammar is at fault
+abbrev pub AtCycleOf : Expansion → Unfitness → Type 0
+AtCycleOf g fault = (name : List ℕ) × IsFirstCyclic g name × (fault ≡ cyclic_category name)
 
--- the grammar has no cycle and is kept, or its first cyclic category is told; want of memory is
--- free
+-- the grammar has no cycle and is kept, or its first cyclic category is told
 abbrev pub PassesCycles : Expansion → Result Expansion GrammarFault → Type 0
-PassesCycles g (Ok kept) = IsAcyclic g.rules × (kept ≡ g)
-PassesCycles g (Err Memory) = Unit {0}
-PassesCycles g (Err (UnknownCategory name number)) = ⊥
-PassesCycles g (Err (Cyclic name)) = IsFirstCyclic g name
+PassesCycles g result = Checks (λ (kept : Expansion). IsAcyclic g.rules × (kept ≡ g)) (AtCycleOf g) result
 
 -- these parts, and None exactly where they are not well formed
 abbrev pub GivesParts : Expansion → Option Expansion → Type 0

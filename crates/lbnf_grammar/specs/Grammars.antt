@@ -1,25 +1,51 @@
--- What a caller sees of expanding definitions, of making a grammar, of its entry, and of looking a
--- category up.
-use Rattle.std.specs.Prelude.{◌≡◌, ◌<◌, ◌^◌, ◌⊎◌, ℕ, List, [], Option, Some, None, Result, Ok}
-use Rattle.std.specs.Prelude.{Err, length, slice_get, Contains, MatchOption}
+-- What a caller sees of making grammars, from definitions and from parts.
+use Rattle.std.specs.Prelude.{◌≡◌, ◌<◌, ◌^◌, ◌⊎◌, ℕ, List, [], ◌∷◌, Option, Some, None, Result, Ok}
+use Rattle.std.specs.Prelude.{Err, length, slice_get, Contains, MatchOption, IfSome}
 use Rattle.spec_grammar.specs.Cycles.{IsCyclic, IsAcyclic}
 use Rattle.spec_grammar.specs.declared.rule.Rule.{Rule}
 use Rattle.spec_grammar.specs.declared.rule.Symbol.{Symbol}
 use Rattle.spec_grammar.specs.declared.rule.Symbol.TheVariants.{Category}
+use Rattle.spec_lexing.specs.declared.kind_def.KindDef.{KindDef}
 use Rattle.spec_lbnf.specs.declared.definition.Def.{Def}
 use Rattle.spec_lbnf.specs.Expansion.{Expansion, expansion_of, HasOwnSymbols, item_count}
-use Rattle.spec_lbnf.specs.Checks.{AreAllKnown, IsFirstUnknown, IsFirstCyclic}
+use Rattle.spec_lbnf.specs.Checks.{AreFit, IsUnfit, Unfitness, bad_coercion, bad_list}
+use Rattle.spec_lbnf.specs.Checks.{too_many_rules, repeated_token, unknown_category, unbuilt_name}
+use Rattle.spec_lbnf.specs.Checks.{cyclic_category}
 use Rattle.lbnf_grammar.specs.declared.fault.GrammarFault.{GrammarFault}
-use Rattle.lbnf_grammar.specs.declared.fault.GrammarFault.TheVariants.{Memory, UnknownCategory, Cyclic}
+use Rattle.lbnf_grammar.specs.declared.fault.GrammarFault.TheVariants.{Memory, BadCoercion, BadList}
+use Rattle.lbnf_grammar.specs.declared.fault.GrammarFault.TheVariants.{TooManyRules, RepeatedToken}
+use Rattle.lbnf_grammar.specs.declared.fault.GrammarFault.TheVariants.{UnknownCategory, Unbuilt}
+use Rattle.lbnf_grammar.specs.declared.fault.GrammarFault.TheVariants.{Cyclic}
 
--- the answer on the definitions is the grammar that they stand for, or their first unknown
--- category; want of memory is free
+-- the unfitness that the fault tells, and None where memory ran out
+abbrev pub unfitness_of : GrammarFault → Option Unfitness
+unfitness_of Memory = None
+unfitness_of (BadCoercion number) = Some (bad_coercion number)
+unfitness_of (BadList number) = Some (bad_list number)
+unfitness_of (TooManyRules count) = Some (too_many_rules count)
+unfitness_of (RepeatedToken name) = Some (repeated_token name)
+unfitness_of (UnknownCategory name number) = Some (unknown_category name number)
+unfitness_of (Unbuilt number) = Some (unbuilt_name number)
+unfitness_of (Cyclic name) = Some (cyclic_category name)
+
+-- the fault tells such an unfitness; want of memory is free
+abbrev pub Tells : (Unfitness → Type 0) → GrammarFault → Type 0
+Tells IsSuch fault = IfSome (unfitness_of fault) IsSuch
+
+-- the answer on the definitions is the grammar that they stand for, and they are fit, or it tells
+-- why they are unfit
 abbrev pub Expands : List Def → Result Expansion GrammarFault → Type 0
-Expands defs (Ok grammar) =
-    AreAllKnown defs × IsAcyclic grammar.rules × (grammar ≡ expansion_of defs)
-Expands defs (Err Memory) = Unit {0}
-Expands defs (Err (UnknownCategory name number)) = IsFirstUnknown defs name number
-Expands defs (Err (Cyclic name)) = AreAllKnown defs × IsFirstCyclic (expansion_of defs) name
+Expands defs (Ok grammar) = AreFit defs × (grammar ≡ expansion_of defs)
+Expands defs (Err fault) = Tells (IsUnfit defs) fault
+
+-- the grammar of these parts
+abbrev pub of_parts : List Rule → List (List ℕ) → List KindDef → Option Symbol → Expansion
+of_parts rules categories kinds entry =
+    record { rules = rules; categories = categories; kinds = kinds; entry = entry }
+
+-- the grammar of these symbols and no rules
+abbrev pub symbols_of : List (List ℕ) → List KindDef → Expansion
+symbols_of categories kinds = of_parts [] categories kinds None
 
 -- numbers of rules, categories and kinds have 16 bits, there are fewer than 2 ^ 31 items, and the
 -- rules have symbols of the grammar
@@ -30,17 +56,16 @@ pub record IsWellFormed (g : Expansion) : Type 0 where
   pub few_items : item_count g.rules < 2 ^ 31
   pub own : HasOwnSymbols g
 
+-- the category of the first rule, as the entry of rules that are given without one
+abbrev pub first_symbol : List Rule → Option Symbol
+first_symbol [] = None
+first_symbol (rule ∷ rules) = Some (Category rule.category)
+
 -- the grammar of these parts, and None exactly where they are not well formed or some category
 -- reaches itself
 abbrev pub MakesGrammar : Expansion → Option Expansion → Type 0
 MakesGrammar parts (Some g) = IsWellFormed parts × IsAcyclic parts.rules × (g ≡ parts)
 MakesGrammar parts None = (IsWellFormed parts → ⊥) ⊎ ((c : ℕ) × IsCyclic parts.rules c)
-
--- the entry is this symbol, the category of the first rule: None exactly where there is no rule
-abbrev pub FindsEntry : List Rule → Option Symbol → Type 0
-FindsEntry rules found =
-    MatchOption found (rules ≡ [])
-    (λ symbol. (rule : Rule) × (slice_get rules 0 ≡ Some rule) × (symbol ≡ Category rule.category))
 
 -- the category of the text is this symbol: None exactly where no category has the text
 abbrev pub FindsCategory : List (List ℕ) → List ℕ → Option Symbol → Type 0

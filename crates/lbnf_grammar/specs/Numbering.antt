@@ -1,6 +1,8 @@
--- Names in the order of first meeting. Serves the proofs alone.
-use Rattle.std.specs.Prelude.{ℕ, List, [], ◌∷◌, ◌++◌, cond, fold, bytes_eq}
+-- Names in the order of first meeting, and how many there are. Serves the proofs alone.
+use Rattle.std.specs.Prelude.{ℕ, ◌<◌, ◌^◌, List, [], ◌∷◌, ◌++◌, cond, fold, bytes_eq, length, map}
 use Rattle.std.specs.List.{list_any}
+use Rattle.spec_lbnf.specs.declared.definition.Def.{Def}
+use Rattle.spec_lbnf.specs.Expansion.{rules_of, categories_of, words_of, numbered_rule, item_count}
 
 -- the names, and this one behind them, if it is none of them
 abbrev pub with_name : List (List ℕ) → List ℕ → List (List ℕ)
@@ -9,3 +11,11 @@ with_name names name = cond (list_any (bytes_eq name) names) names (names ++ nam
 -- the names, and those of the others that are new
 abbrev pub with_names : List (List ℕ) → List (List ℕ) → List (List ℕ)
 with_names names others = fold with_name names others
+
+-- rules, categories and words can be numbered
+pub record AreFew (defs : List Def) : Type 0 where
+  pub rules : length (rules_of defs) < 2 ^ 16
+  pub categories : length (categories_of defs) < 2 ^ 16
+  pub words : length (words_of (rules_of defs)) < 2 ^ 16
+  pub items : (categories words : List (List ℕ))
+      → item_count (map (numbered_rule categories words) (rules_of defs)) < 2 ^ 31

@@ -1,14 +1,12 @@
 -- The tables of categories and words, filled item by item. Serves the proofs alone.
-use Rattle.std.specs.Prelude.{fold}
-use Rattle.spec_grammar.specs.declared.rule.Rule.{Rule}
+use Rattle.std.specs.Prelude.{List, fold}
 use Rattle.spec_lbnf.specs.declared.definition.RawItem.{RawItem}
 use Rattle.spec_lbnf.specs.declared.definition.RawItem.TheVariants.{Cat, Word}
 use Rattle.spec_lbnf.specs.declared.definition.RawRule.{RawRule}
 use Rattle.spec_lbnf.specs.declared.definition.Def.{Def}
-use Rattle.spec_lbnf.specs.declared.definition.Def.TheVariants.{Rule as RuleDef}
-use Rattle.spec_lbnf.specs.Expansion.{category_text, numbered_rule}
+use Rattle.spec_lbnf.specs.Expansion.{category_text, internal_category}
 use Rattle.lbnf_grammar.specs.declared.tables.Tables.{Tables}
-use Rattle.lbnf_grammar.specs.Numbering.{with_name}
+use Rattle.lbnf_grammar.specs.Numbering.{with_name, with_names}
 
 -- the tables with the item's category or word
 abbrev pub with_item : Tables → RawItem → Tables
@@ -30,10 +28,9 @@ with_rule tables rule =
     } in
     fold with_item start rule.items
 
--- the tables with the definition's rule
-abbrev pub with_def : Tables → Def → Tables
-with_def tables (RuleDef rule) = with_rule tables rule
-
--- the definition's rule, numbered by the tables
-abbrev pub numbered_def : Tables → Def → Rule
-numbered_def tables (RuleDef rule) = numbered_rule tables.categories tables.words rule
+-- the tables with the category of the definition, if it is an internal rule
+abbrev pub with_internal : Tables → Def → Tables
+with_internal tables def = record {
+  categories = with_names tables.categories (internal_category def);
+  words = tables.words;
+}

@@ -1,73 +1,115 @@
-//! The check that each category that is named has a rule.
-ghost use Rattle.std.specs.Prelude.{◌≡◌, ◌≤◌, [], ◌∷◌, fold, IfOk};
-ghost use Rattle.spec_lbnf.specs.Limits.{size_of};
-ghost use Rattle.spec_lbnf.specs.Expansion.{item_categories};
-ghost use Rattle.lbnf_grammar.specs.Checking.{with_own, def_categories, FindsUnlisted, ChecksDefs};
+//! The checks of names: no predefined name has rules, and each category that is named has some.
+ghost use Rattle.std.specs.Prelude.{◌≡◌, ◌≤◌, [], flat_map, bytes_eq, All, MatchOption};
+ghost use Rattle.std.specs.List.{list_any};
+ghost use Rattle.spec_lbnf.specs.FirstForm.{size_of, predefined_names};
+ghost use Rattle.spec_lbnf.specs.Limits.{IsSmall};
+ghost use Rattle.spec_lbnf.specs.Checks.{own_categories, IsFirstName, IsPredefined, IsFree};
+ghost use Rattle.spec_lbnf.specs.Checks.{repeated_token, unknown_fault, HasOwnNames};
+ghost use Rattle.spec_lbnf.specs.Checks.{AtOwnName, AreAllKnown, AtUnknown};
+ghost use Rattle.lbnf_grammar.specs.Grammars.{Tells};
+ghost use Rattle.lbnf_grammar.specs.Numbering.{with_names};
+ghost use Rattle.lbnf_grammar.specs.Checking.{Checks, IsListed, IsUnlisted};
 
 use crate::fault::GrammarFault;
 use crate::names::Names;
-use crate::texts::category_text;
-use spec_lbnf::{Def, RawItem};
+use crate::naming::{all_own_categories, named_categories};
+use crate::texts::copy_name;
+use spec_lbnf::Def;
 use spec_text::Name;
-use std::alloc::{AllocError, Global};
+use std::alloc::Global;
 
-/// The categories that rules have.
-fn own_categories(alloc: Global, defs: &[Def]) -> Result<Names, AllocError>
-    ensures { IfOk result (λ names. names ≡ fold with_own [] defs.now) }
+fn is_predefined(text: &[u8]) -> bool
+    ensures { result ≡ list_any (bytes_eq text.now) predefined_names }
 {
-    let mut names = Names::new(alloc);
-    for def in defs {
-        let Def::Rule(rule) = def;
-        names.add(alloc, category_text(alloc, &rule.cat)?)?;
-    }
-    Ok(names)
+    text == b"Integer".as_slice()
+        || text == b"Double".as_slice()
+        || text == b"Ident".as_slice()
+        || text == b"String".as_slice()
+        || text == b"Char".as_slice()
 }
 
-fn unlisted_item(alloc: Global, known: &Names, item: &RawItem) -> Result<Option<Name>, AllocError>
-    ensures { IfOk result (FindsUnlisted known.now (item_categories (item.now ∷ []))) }
+/// The first of the names that is predefined.
+fn first_predefined(names: &[Name]) -> Option<&Name>
+    ensures { MatchOption result (All IsFree names.now)
+        (λ name. IsFirstName IsPredefined IsFree names.now name.now) }
 {
-    match item {
-        RawItem::Word(_) => Ok(None),
-        RawItem::Cat(cat) => {
-            let text = category_text(alloc, cat)?;
-            if known.has(text.as_slice()) {
-                return Ok(None);
-            }
-            Ok(Some(text))
+    for name in names {
+        if is_predefined(name.as_slice()) {
+            return Some(name);
         }
     }
+    None
 }
 
-/// The first category among the items that is not listed.
-fn unlisted(alloc: Global, known: &Names, items: &[RawItem]) -> Result<Option<Name>, AllocError>
-    ensures { IfOk result (FindsUnlisted known.now (item_categories items.now)) }
+/// That rules are given for the predefined name, or that memory ran out.
+fn repeated(alloc: Global, name: &Name) -> GrammarFault
+    ensures { Tells (λ why. why ≡ repeated_token name.now) result }
 {
-    for item in items {
-        if let Some(name) = unlisted_item(alloc, known, item)? {
-            return Ok(Some(name));
+    match copy_name(alloc, name) {
+        Ok(name) => GrammarFault::RepeatedToken { name },
+        Err(_) => GrammarFault::Memory,
+    }
+}
+
+/// The categories that the definitions give rules for, or the first of them that is predefined.
+pub(crate) fn check_own_names(alloc: Global, defs: &[Def]) -> Result<Names, GrammarFault>
+    requires { All IsSmall defs.now }
+    ensures { Checks
+        (λ known. HasOwnNames defs.now × (known ≡ with_names [] (flat_map own_categories defs.now)))
+        (AtOwnName defs.now) result }
+{
+    let Ok(list) = all_own_categories(alloc, defs) else {
+        return Err(GrammarFault::Memory);
+    };
+    if let Some(name) = first_predefined(list.as_slice()) {
+        return Err(repeated(alloc, name));
+    }
+    let mut known = Names::new(alloc);
+    match known.add_all(alloc, list) {
+        Ok(()) => Ok(known),
+        Err(_) => Err(GrammarFault::Memory),
+    }
+}
+
+/// The first of the names that is not listed.
+fn first_unlisted<'a>(known: &Names, names: &'a [Name]) -> Option<&'a Name>
+    ensures { MatchOption result (All (IsListed known.now) names.now)
+        (λ name. IsFirstName (IsUnlisted known.now) (IsListed known.now) names.now name.now) }
+{
+    for name in names {
+        if !known.has(name.as_slice()) {
+            return Some(name);
         }
     }
-    Ok(None)
+    None
 }
 
-fn unlisted_in(alloc: Global, known: &Names, def: &Def) -> Result<Option<Name>, AllocError>
-    ensures { IfOk result (FindsUnlisted known.now (def_categories def.now)) }
+/// That the definition names an unknown category, or a predefined one, or that memory ran out.
+fn unknown(alloc: Global, name: &Name, def: u32) -> GrammarFault
+    ensures { Tells (λ why. why ≡ unknown_fault name.now def) result }
 {
-    let Def::Rule(rule) = def;
-    unlisted(alloc, known, rule.items.as_slice())
+    if is_predefined(name.as_slice()) {
+        return GrammarFault::Unbuilt { def };
+    }
+    match copy_name(alloc, name) {
+        Ok(name) => GrammarFault::UnknownCategory { name, def },
+        Err(_) => GrammarFault::Memory,
+    }
 }
 
-/// Tells the first category that no rule has.
-pub fn check(alloc: Global, defs: &[Def]) -> Result<(), GrammarFault>
-    requires { size_of defs.now ≤ 32768 }
-    ensures { ChecksDefs defs.now result }
+/// Tells the first category that is named and that no rule has.
+pub(crate) fn check_named(alloc: Global, defs: &[Def], known: &Names) -> Result<(), GrammarFault>
+    requires few { size_of defs.now ≤ 32768 }
+    requires small { All IsSmall defs.now }
+    requires known { known.now ≡ with_names [] (flat_map own_categories defs.now) }
+    ensures { Checks (λ done. AreAllKnown defs.now) (AtUnknown defs.now) result }
 {
-    let known = own_categories(alloc, defs).map_err(|_| GrammarFault::Memory)?;
-    for (number, definition) in defs.iter().enumerate() {
-        let found = unlisted_in(alloc, &known, definition).map_err(|_| GrammarFault::Memory)?;
-        if let Some(name) = found {
-            let def = number as u32;
-            return Err(GrammarFault::UnknownCategory { name, def });
+    for (number, def) in defs.iter().enumerate() {
+        let Ok(names) = named_categories(alloc, def) else {
+            return Err(GrammarFault::Memory);
+        };
+        if let Some(name) = first_unlisted(known, names.as_slice()) {
+            return Err(unknown(alloc, name, number as u32));
         }
     }
     Ok(())

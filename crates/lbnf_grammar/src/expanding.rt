@@ -1,21 +1,27 @@
-//! Expanding definitions: the check of their categories, then the numbers.
-ghost use Rattle.std.specs.Prelude.{◌≡◌, ◌≤◌, map, Err, IfOk};
-ghost use Rattle.spec_lbnf.specs.Limits.{size_of};
-ghost use Rattle.spec_lbnf.specs.Expansion.{expansion_of};
+//! Expanding definitions: the checks, then the numbers.
+ghost use Rattle.std.specs.Prelude.{◌≡◌, map, IfOk};
+ghost use Rattle.spec_lbnf.specs.Limits.{AreWithinLimits};
+ghost use Rattle.spec_lbnf.specs.Expansion.{rules_of, categories_of, words_of, expansion_of};
+ghost use Rattle.spec_lbnf.specs.Checks.{HasFewRules, AreAllKnown};
 ghost use Rattle.spec_lexing.specs.declared.kind_def.KindDef.TheVariants.{Word as WordKind};
-ghost use Rattle.lbnf_grammar.specs.Grammars.{Expands};
-ghost use Rattle.lbnf_grammar.specs.Checking.{PassesCycles};
+ghost use Rattle.lbnf_grammar.specs.Grammars.{Expands, Tells};
+ghost use Rattle.lbnf_grammar.specs.Checking.{PassesCycles, AtCycleOf};
+ghost use Rattle.lbnf_grammar.specs.Numbering.{AreFew};
 ghost use Rattle.lbnf_grammar.specs.Ranks.{IsLeastCyclic};
 
 use crate::chains::{Chains, chains_of};
-use crate::checking::check;
+use crate::checking::{check_named, check_own_names};
+use crate::counting::check_count;
+use crate::entry::entry_symbol;
 use crate::fault::GrammarFault;
 use crate::grammar::Grammar;
+use crate::labels::check_labels;
+use crate::macros::rules_of;
 use crate::numbering::numbered_rules;
 use crate::parts::GrammarParts;
 use crate::tables::{Tables, tables_of};
 use crate::texts::copy_name;
-use lbnf_text::{Def, Defs};
+use lbnf_text::{Def, Defs, RawRule};
 use spec_lexing::KindDef;
 use spec_text::Name;
 use std::alloc::{AllocError, Global};
@@ -30,22 +36,43 @@ fn kinds_of(alloc: Global, words: Vec<Name>) -> Result<Vec<KindDef>, AllocError>
         .collect(alloc)
 }
 
-/// The parts of the grammar that the definitions stand for.
-fn numbered_parts(alloc: Global, defs: &[Def]) -> Result<GrammarParts, AllocError>
-    requires few { size_of defs.now ≤ 32768 }
+/// The parts of the grammar that the definitions stand for, by their rules and tables.
+fn parts_by(
+    alloc: Global,
+    defs: &[Def],
+    raw: &[RawRule],
+    tables: Tables,
+) -> Result<GrammarParts, AllocError>
+    requires raw { raw.now ≡ rules_of defs.now }
+    requires categories { tables.categories ≡ categories_of defs.now }
+    requires words { tables.words ≡ words_of (rules_of defs.now) }
+    requires few { AreFew defs.now }
+    requires known { AreAllKnown defs.now }
     ensures { IfOk result (λ parts. parts ≡ expansion_of defs.now) }
 {
-    let tables = tables_of(alloc, defs)?;
-    let rules = numbered_rules(alloc, &tables, defs)?;
+    let rules = numbered_rules(alloc, &tables, raw)?;
+    let entry = entry_symbol(alloc, &tables, defs, raw)?;
     let Tables { categories, words } = tables;
     let kinds = kinds_of(alloc, words.into_list())?;
-    Ok(GrammarParts::of(rules, categories.into_list(), kinds))
+    Ok(GrammarParts::of(rules, categories.into_list(), kinds, entry))
+}
+
+/// The parts of the grammar that the definitions stand for.
+fn numbered_parts(alloc: Global, defs: &[Def]) -> Result<GrammarParts, AllocError>
+    requires limits { AreWithinLimits defs.now }
+    requires few_rules { HasFewRules defs.now }
+    requires known { AreAllKnown defs.now }
+    ensures { IfOk result (λ parts. parts ≡ expansion_of defs.now) }
+{
+    let raw = rules_of(alloc, defs)?;
+    let tables = tables_of(alloc, defs, raw.as_slice())?;
+    parts_by(alloc, defs, raw.as_slice(), tables)
 }
 
 /// That the category reaches itself, or that memory ran out.
 fn cyclic(alloc: Global, parts: &GrammarParts, category: u16) -> GrammarFault
     requires first { IsLeastCyclic parts.now category }
-    ensures { PassesCycles parts.now (Err result) }
+    ensures { Tells (AtCycleOf parts.now) result }
 {
     match copy_name(alloc, &parts.categories()[category as usize]) {
         Ok(name) => GrammarFault::Cyclic { name },
@@ -64,17 +91,31 @@ fn acyclic(alloc: Global, parts: GrammarParts) -> Result<Grammar, GrammarFault>
     }
 }
 
-/// The grammar that the definitions stand for, or the first category, in file order, that no rule
-/// has, or else the category of least number that reaches itself by steps. Categories and words are
-/// numbered from 0 as the rules meet them, each rule's own category first. Names are copied; it
-/// takes one look-up for each item, and then what `Grammar::of_rules` takes for chains of steps.
-pub fn expand(alloc: Global, defs: &Defs) -> Result<Grammar, GrammarFault>
+/// The grammar that the definitions stand for, or why they are unfit.
+fn expand_defs(alloc: Global, defs: &[Def]) -> Result<Grammar, GrammarFault>
+    requires { AreWithinLimits defs.now }
     ensures { Expands defs.now result }
 {
-    let list = defs.as_slice();
-    check(alloc, list)?;
-    let Ok(parts) = numbered_parts(alloc, list) else {
+    check_labels(alloc, defs)?;
+    check_count(defs)?;
+    let known = check_own_names(alloc, defs)?;
+    check_named(alloc, defs, &known)?;
+    let Ok(parts) = numbered_parts(alloc, defs) else {
         return Err(GrammarFault::Memory);
     };
     acyclic(alloc, parts)
+}
+
+/// The grammar that the definitions stand for, or why they are unfit: the first, in this order, of a
+/// bad label or bad levels, too many rules, a predefined name that has rules, a category that no rule
+/// has, and a category that reaches itself. Rules are counted before any is made.
+///
+/// Categories and words are numbered from 0 as the rules meet them, each rule's own category first,
+/// and the categories that only internal rules have are behind them. Names are copied; it makes the
+/// rules three times and takes one look-up for each item of them, and then what `Grammar::of_rules`
+/// takes for chains of steps.
+pub fn expand(alloc: Global, defs: &Defs) -> Result<Grammar, GrammarFault>
+    ensures { Expands defs.now result }
+{
+    expand_defs(alloc, defs.as_slice())
 }

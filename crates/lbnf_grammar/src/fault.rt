@@ -2,16 +2,34 @@
 use spec_text::Name;
 use thiserror::Error;
 
-/// Why definitions give no grammar.
+/// Why definitions give no grammar, in the order of the checks. Definitions are numbered from 0.
 #[derive(Debug, Drop, Error)]
 pub enum GrammarFault {
     /// Memory ran out. It may come at any definitions.
     #[error("out of memory")]
     Memory,
-    /// The first category, in file order, that no rule has: its text, and the number of the
-    /// definition that names it. Definitions are numbered from 0.
+    /// The first definition with a bad label or bad levels is a rule, internal or not, labelled
+    /// `_`, that has not exactly one item that is no word, or coercions of no level: its number.
+    #[error("definition {def} is a bad coercion")]
+    BadCoercion { def: u32 },
+    /// The first definition with a bad label or bad levels is a rule, internal or not, whose label
+    /// is one of lists and is at odds with its category or its items: its number.
+    #[error("definition {def} is a bad list")]
+    BadList { def: u32 },
+    /// The definitions give more than 1,024 rules: so many.
+    #[error("the definitions give {count} rules")]
+    TooManyRules { count: u64 },
+    /// The first predefined name, in file order, that a definition gives rules for.
+    #[error("a predefined name has rules")]
+    RepeatedToken { name: Name },
+    /// The first category, in file order, that no rule has: its text, which is no predefined name,
+    /// and the number of the definition that names it.
     #[error("definition {def} names an unknown category")]
     UnknownCategory { name: Name, def: u32 },
+    /// The first category, in file order, that no rule has has a predefined name: the number of the
+    /// definition that names it. Predefined kinds are not built.
+    #[error("definition {def} names a predefined kind")]
+    Unbuilt { def: u32 },
     /// The category of least number that reaches itself by steps: its text. A category steps to an
     /// item of one of its rules where each other item of that rule derives the empty span.
     #[error("a category reaches itself")]

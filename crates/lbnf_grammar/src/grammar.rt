@@ -3,7 +3,7 @@ ghost use Rattle.std.specs.Prelude.{◌≡◌, ◌<◌, ◌^◌, length, slice_g
 ghost use Rattle.std.specs.Prelude.{MatchOption};
 ghost use Rattle.spec_grammar.specs.Cycles.{IsAcyclic, IsRank};
 ghost use Rattle.spec_lbnf.specs.Expansion.{HasOwnSymbols, IsSymbolOf, item_count};
-ghost use Rattle.lbnf_grammar.specs.Grammars.{FindsCategory, FindsEntry};
+ghost use Rattle.lbnf_grammar.specs.Grammars.{FindsCategory};
 ghost use Rattle.lbnf_grammar.specs.Ranks.{AreRanks};
 
 use crate::parts::GrammarParts;
@@ -73,13 +73,12 @@ impl Grammar {
         &self.parts.rules()[r as usize]
     }
 
-    /// The entry, which is the category of the first rule, and `None` where there is no rule.
+    /// The entry: the symbol that is asked for where none is named, and `None` where there is none.
     pub fn entry(&self) -> Option<Symbol>
-        ensures entry { FindsEntry self.now.rules result }
+        ensures entry { result ≡ self.now.entry }
         ensures own { IfSome result (IsSymbolOf self.now) }
     {
-        let rule = self.parts.rules().first()?;
-        Some(Symbol::Category(rule.category))
+        self.parts.entry()
     }
 
     /// How many categories there are.

@@ -3,13 +3,17 @@
 
 mod chains;
 mod checking;
+mod counting;
 mod cycles;
+mod entry;
 mod expanding;
 mod fault;
 mod grammar;
+mod labels;
 mod macros;
 mod making;
 mod names;
+mod naming;
 mod nullable;
 mod numbering;
 mod parts;

@@ -1,14 +1,14 @@
 //! The rules that a definition gives.
 ghost use Rattle.std.specs.Prelude.{◌≡◌, ◌≤◌, ◌<◌, ◌∷◌, ◌^◌, IfOk, All};
 ghost use Rattle.spec_lbnf.specs.declared.definition.RawItem.TheVariants.{Cat, Word};
-ghost use Rattle.spec_lbnf.specs.Limits.{IsShallow};
+ghost use Rattle.spec_lbnf.specs.Limits.{IsSmall};
 ghost use Rattle.spec_lbnf.specs.Expansion.{list_of, nil_rule, one_rule, cons_rule};
 ghost use Rattle.spec_lbnf.specs.Expansion.{terminator_rules, separator_rules, coercion_rules};
 ghost use Rattle.spec_lbnf.specs.Expansion.{level_category, level_rule, bracket_rule};
 ghost use Rattle.spec_lbnf.specs.Expansion.{rules_of_def, rules_of};
 
 use crate::texts::{copy_category, copy_items, copy_name, copy_rule, numbered_name};
-use crate::words::words;
+use crate::words::{word_item, words};
 use spec_grammar::Label;
 use spec_lbnf::{CatName, Def, RawItem, RawRule};
 use spec_text::Name;
@@ -38,11 +38,7 @@ fn nil_rule(alloc: Global, cat: &CatName) -> Result<RawRule, AllocError>
 }
 
 /// The category, and these items behind it.
-fn element(
-    alloc: Global,
-    cat: &CatName,
-    behind: &[RawItem],
-) -> Result<Items<RawItem>, AllocError>
+fn element(alloc: Global, cat: &CatName, behind: &[RawItem]) -> Result<Items<RawItem>, AllocError>
     ensures { IfOk result (λ items. items ≡ Cat cat.now ∷ behind.now) }
 {
     let mut items = Items::new(alloc);
@@ -145,22 +141,15 @@ fn level_rule(alloc: Global, name: &Name, level: u32) -> Result<RawRule, AllocEr
     })
 }
 
-fn word(alloc: Global, text: &str) -> Result<RawItem, AllocError>
-    ensures { IfOk result (λ item. item ≡ Word text.now) }
-{
-    let bytes = Vec::from_slice(alloc, text.as_bytes())?;
-    Ok(RawItem::Word(Name::of(bytes)))
-}
-
 /// The rule from the last level to the first, in brackets.
 fn bracket_rule(alloc: Global, name: &Name, level: u32) -> Result<RawRule, AllocError>
     ensures { IfOk result (λ rule. rule ≡ bracket_rule name.now level) }
 {
     let first = level_category(alloc, name, 0)?;
     let mut items = Items::new(alloc);
-    items.push(word(alloc, "(")?)?;
+    items.push(word_item(alloc, "(")?)?;
     items.push(RawItem::Cat(first))?;
-    items.push(word(alloc, ")")?)?;
+    items.push(word_item(alloc, ")")?)?;
     Ok(RawRule {
         label: Label::Wild,
         cat: level_category(alloc, name, level)?,
@@ -182,7 +171,7 @@ fn coercion_rules(alloc: Global, name: &Name, levels: u16) -> Result<Vec<RawRule
 
 /// The rules that the definition gives, in order.
 pub fn rules_of_def(alloc: Global, def: &Def) -> Result<Vec<RawRule>, AllocError>
-    requires { IsShallow def.now }
+    requires { IsSmall def.now }
     ensures { IfOk result (λ rules. rules.items ≡ rules_of_def def.now) }
 {
     match def {
@@ -204,7 +193,7 @@ pub fn rules_of_def(alloc: Global, def: &Def) -> Result<Vec<RawRule>, AllocError
 
 /// The rules that the definitions give, in file order.
 pub fn rules_of(alloc: Global, defs: &[Def]) -> Result<Vec<RawRule>, AllocError>
-    requires { All IsShallow defs.now }
+    requires { All IsSmall defs.now }
     ensures { IfOk result (λ rules. rules.items ≡ rules_of defs.now) }
 {
     let mut rules = Vec::new(alloc);

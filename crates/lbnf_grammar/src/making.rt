@@ -1,6 +1,7 @@
 //! Grammars of numbered rules, made from their parts.
-ghost use Rattle.std.specs.Prelude.{◌≡◌, ◌<◌, ◌^◌, ◌↔◌, [], IsTrue, All, IfOk, length};
+ghost use Rattle.std.specs.Prelude.{◌≡◌, ◌<◌, ◌^◌, ◌↔◌, IsTrue, All, IfOk, length};
 ghost use Rattle.spec_lbnf.specs.Expansion.{IsSymbolOf, HasSymbolsOf, HasOwnSymbols, item_count};
+ghost use Rattle.lbnf_grammar.specs.Grammars.{of_parts, symbols_of, first_symbol};
 ghost use Rattle.lbnf_grammar.specs.Grammars.{IsWellFormed, MakesGrammar};
 ghost use Rattle.lbnf_grammar.specs.Checking.{GivesParts};
 
@@ -20,7 +21,7 @@ const ITEMS: usize = 2_147_483_648;
 
 fn is_own(categories: &[Name], kinds: &[KindDef], symbol: Symbol) -> bool
     ensures { IsTrue result ↔ IsSymbolOf
-        (record { rules = []; categories = categories.now; kinds = kinds.now }) symbol }
+        (symbols_of categories.now kinds.now) symbol }
 {
     match symbol {
         Symbol::Category(c) => (c as usize) < categories.len(),
@@ -30,7 +31,7 @@ fn is_own(categories: &[Name], kinds: &[KindDef], symbol: Symbol) -> bool
 
 fn are_own(categories: &[Name], kinds: &[KindDef], items: &[Symbol]) -> bool
     ensures { IsTrue result ↔ All (IsSymbolOf
-        (record { rules = []; categories = categories.now; kinds = kinds.now })) items.now }
+        (symbols_of categories.now kinds.now)) items.now }
 {
     for item in items {
         if !is_own(categories, kinds, *item) {
@@ -42,7 +43,7 @@ fn are_own(categories: &[Name], kinds: &[KindDef], items: &[Symbol]) -> bool
 
 fn has_own(categories: &[Name], kinds: &[KindDef], rule: &Rule) -> bool
     ensures { IsTrue result ↔ HasSymbolsOf
-        (record { rules = []; categories = categories.now; kinds = kinds.now }) rule.now }
+        (symbols_of categories.now kinds.now) rule.now }
 {
     is_own(categories, kinds, Symbol::Category(rule.category))
         && are_own(categories, kinds, rule.items.as_slice())
@@ -50,7 +51,7 @@ fn has_own(categories: &[Name], kinds: &[KindDef], rule: &Rule) -> bool
 
 fn have_own(categories: &[Name], kinds: &[KindDef], rules: &[Rule]) -> bool
     ensures { IsTrue result ↔ HasOwnSymbols
-        (record { rules = rules.now; categories = categories.now; kinds = kinds.now }) }
+        (of_parts rules.now categories.now kinds.now (first_symbol rules.now)) }
 {
     for rule in rules {
         if !has_own(categories, kinds, rule) {
@@ -76,13 +77,21 @@ fn have_few_items(rules: &[Rule]) -> bool
 
 fn is_well_formed(rules: &[Rule], categories: &[Name], kinds: &[KindDef]) -> bool
     ensures { IsTrue result ↔ IsWellFormed
-        (record { rules = rules.now; categories = categories.now; kinds = kinds.now }) }
+        (of_parts rules.now categories.now kinds.now (first_symbol rules.now)) }
 {
     rules.len() < NUMBERS
         && categories.len() < NUMBERS
         && kinds.len() < NUMBERS
         && have_few_items(rules)
         && have_own(categories, kinds, rules)
+}
+
+/// The category of the first rule.
+fn first_symbol(rules: &[Rule]) -> Option<Symbol>
+    ensures { result ≡ first_symbol rules.now }
+{
+    let rule = rules.first()?;
+    Some(Symbol::Category(rule.category))
 }
 
 /// These parts, and `None` where they are not well formed. It looks at each item once and takes no
@@ -93,20 +102,20 @@ pub(crate) fn parts_of(
     kinds: Vec<KindDef>,
 ) -> Option<GrammarParts>
     ensures { GivesParts
-        (record { rules = rules.items; categories = categories.items; kinds = kinds.items })
-        result }
+        (of_parts rules.items categories.items kinds.items (first_symbol rules.items)) result }
 {
     if !is_well_formed(rules.as_slice(), categories.as_slice(), kinds.as_slice()) {
         return None;
     }
-    Some(GrammarParts::of(rules, categories, kinds))
+    let entry = first_symbol(rules.as_slice());
+    Some(GrammarParts::of(rules, categories, kinds, entry))
 }
 
 impl Grammar {
     /// The grammar of these rules, which may be one that no file spells. `None` where a rule has a
     /// symbol that is not there, where there are 65,536 rules, categories or kinds or more, or 2^31
     /// items or more, and where some category reaches itself. Categories may share a name, of which
-    /// `find` then knows the first.
+    /// `find` then knows the first. The entry is the category of the first rule.
     ///
     /// It looks at each item once, and then at the chains of steps: it passes over the items for
     /// the nullable categories, at most once more than there are of them, looks at each item twice
@@ -120,7 +129,7 @@ impl Grammar {
         kinds: Vec<KindDef>,
     ) -> Result<Option<Grammar>, AllocError>
         ensures { IfOk result (MakesGrammar
-            (record { rules = rules.items; categories = categories.items; kinds = kinds.items })) }
+            (of_parts rules.items categories.items kinds.items (first_symbol rules.items))) }
     {
         let Some(parts) = parts_of(rules, categories, kinds) else {
             return Ok(None);

@@ -3,7 +3,7 @@ ghost use Rattle.std.specs.Prelude.{◌≡◌, [], ◌∷◌, ◌++◌, ◌<◌,
 ghost use Rattle.std.specs.Prelude.{OnOk, bytes_eq};
 ghost use Rattle.std.specs.List.{list_any};
 ghost use Rattle.spec_lbnf.specs.Expansion.{number_of};
-ghost use Rattle.lbnf_grammar.specs.Numbering.{with_name};
+ghost use Rattle.lbnf_grammar.specs.Numbering.{with_name, with_names};
 
 use indexmap::IndexSet;
 use spec_text::Name;
@@ -65,6 +65,16 @@ impl Names {
         self.list.reserve(1)?;
         self.places.insert(key)?;
         push_within(&mut self.list, name);
+        Ok(())
+    }
+
+    /// Adds those of the names that are new.
+    pub fn add_all(&mut self, alloc: Global, names: Vec<Name>) -> Result<(), AllocError>
+        ensures { OnOk result (self.new ≡ with_names self.old names.items) }
+    {
+        for name in names {
+            self.add(alloc, name)?;
+        }
         Ok(())
     }
 

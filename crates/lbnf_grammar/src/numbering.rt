@@ -1,11 +1,11 @@
 //! The numbers of a rule's symbols.
 ghost use Rattle.std.specs.Prelude.{◌≡◌, ◌<◌, ◌^◌, map, length, IfOk};
-ghost use Rattle.spec_lbnf.specs.Expansion.{rules_of, symbol_of, numbered_rule};
+ghost use Rattle.spec_lbnf.specs.Expansion.{symbol_of, numbered_rule};
 
 use crate::tables::Tables;
 use crate::texts::{category_text, copy_label};
 use spec_grammar::{Rule, Symbol};
-use spec_lbnf::{Def, RawItem, RawRule};
+use spec_lbnf::{RawItem, RawRule};
 use sqlite_items::Items;
 use std::alloc::{AllocError, Global};
 
@@ -62,18 +62,20 @@ fn numbered_rule(alloc: Global, tables: &Tables, rule: &RawRule) -> Result<Rule,
     })
 }
 
-/// The rules of the definitions, numbered by the tables.
-pub fn numbered_rules(alloc: Global, tables: &Tables, defs: &[Def]) -> Result<Vec<Rule>, AllocError>
+/// The rules, numbered by the tables.
+pub(crate) fn numbered_rules(
+    alloc: Global,
+    tables: &Tables,
+    rules: &[RawRule],
+) -> Result<Vec<Rule>, AllocError>
     requires categories { length tables.now.categories < 2 ^ 16 }
     requires words { length tables.now.words < 2 ^ 16 }
-    ensures { IfOk result (λ rules.
-        rules.items
-        ≡ map (numbered_rule tables.now.categories tables.now.words) (rules_of defs.now)) }
+    ensures { IfOk result (λ numbered. numbered.items
+        ≡ map (numbered_rule tables.now.categories tables.now.words) rules.now) }
 {
-    let mut rules = Vec::new(alloc);
-    for def in defs {
-        let Def::Rule(rule) = def;
-        rules.push(numbered_rule(alloc, tables, rule)?)?;
+    let mut numbered = Vec::new(alloc);
+    for rule in rules {
+        numbered.push(numbered_rule(alloc, tables, rule)?)?;
     }
-    Ok(rules)
+    Ok(numbered)
 }

@@ -1,55 +1,62 @@
-//! Rules, categories and kinds that fit together, before the check for cycles.
-ghost use Rattle.std.specs.Prelude.{◌≡◌, ◌<◌, ◌^◌, length};
-ghost use Rattle.spec_lbnf.specs.Expansion.{HasOwnSymbols, item_count};
+//! Rules, categories, kinds and an entry that fit together, before the check for cycles.
+ghost use Rattle.std.specs.Prelude.{◌≡◌, ◌<◌, ◌^◌, length, IfSome};
+ghost use Rattle.spec_lbnf.specs.Expansion.{HasOwnSymbols, IsSymbolOf, item_count};
+ghost use Rattle.lbnf_grammar.specs.Grammars.{of_parts};
 
-use spec_grammar::Rule;
+use spec_grammar::{Rule, Symbol};
 use spec_lexing::KindDef;
 use spec_text::Name;
 use std::marker::Model;
 
-/// Rules, categories and kinds, each numbered from 0. The rules have symbols of these alone, and a
-/// category may reach itself.
+/// Rules, categories and kinds, each numbered from 0, and the entry. The rules have symbols of these
+/// alone, the entry is one of them, and a category may reach itself.
 #[derive(Debug, Drop)]
 pub(crate) struct GrammarParts {
     rules: Vec<Rule>,
     categories: Vec<Name>,
     kinds: Vec<KindDef>,
+    entry: Option<Symbol>,
 }
 
 impl Model for GrammarParts {
-    ghost use Rattle.std.specs.Prelude.{◌<◌, ◌^◌, length};
-    ghost use Rattle.spec_lbnf.specs.Expansion.{Expansion, HasOwnSymbols, item_count};
+    ghost use Rattle.std.specs.Prelude.{◌<◌, ◌^◌, length, IfSome};
+    ghost use Rattle.spec_lbnf.specs.Expansion.{Expansion, HasOwnSymbols, IsSymbolOf, item_count};
+    ghost use Rattle.lbnf_grammar.specs.Grammars.{of_parts};
 
     ghost Value = { Expansion };
 
-    ghost view = { λ g. record { rules = g.rules.items; categories = g.categories.items; kinds = g.kinds.items } };
+    ghost view = { λ g. of_parts g.rules.items g.categories.items g.kinds.items g.entry };
 
     ghost invariant = { λ g. (length g.rules.items < 2 ^ 16)
         × (length g.categories.items < 2 ^ 16)
         × (length g.kinds.items < 2 ^ 16)
         × (item_count g.rules.items < 2 ^ 31)
-        × HasOwnSymbols (record {
-          rules = g.rules.items;
-          categories = g.categories.items;
-          kinds = g.kinds.items;
-        }) };
+        × HasOwnSymbols (of_parts g.rules.items g.categories.items g.kinds.items g.entry)
+        × IfSome g.entry
+        (IsSymbolOf (of_parts g.rules.items g.categories.items g.kinds.items g.entry)) };
 }
 
 impl GrammarParts {
-    pub(crate) fn of(rules: Vec<Rule>, categories: Vec<Name>, kinds: Vec<KindDef>) -> GrammarParts
+    pub(crate) fn of(
+        rules: Vec<Rule>,
+        categories: Vec<Name>,
+        kinds: Vec<KindDef>,
+        entry: Option<Symbol>,
+    ) -> GrammarParts
         requires rules { length rules.items < 2 ^ 16 }
         requires categories { length categories.items < 2 ^ 16 }
         requires kinds { length kinds.items < 2 ^ 16 }
         requires few { item_count rules.items < 2 ^ 31 }
-        requires known { HasOwnSymbols
-            (record { rules = rules.items; categories = categories.items; kinds = kinds.items }) }
-        ensures { result
-            ≡ record { rules = rules.items; categories = categories.items; kinds = kinds.items } }
+        requires known { HasOwnSymbols (of_parts rules.items categories.items kinds.items entry) }
+        requires entry { IfSome entry
+            (IsSymbolOf (of_parts rules.items categories.items kinds.items entry)) }
+        ensures { result ≡ of_parts rules.items categories.items kinds.items entry }
     {
         GrammarParts {
             rules,
             categories,
             kinds,
+            entry,
         }
     }
 
@@ -80,5 +87,12 @@ impl GrammarParts {
         ensures { result ≡ length self.now.categories }
     {
         self.categories.len() as u16
+    }
+
+    pub(crate) fn entry(&self) -> Option<Symbol>
+        ensures entry { result ≡ self.now.entry }
+        ensures own { IfSome result (IsSymbolOf self.now) }
+    {
+        self.entry
     }
 }

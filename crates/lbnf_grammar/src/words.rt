@@ -1,31 +1,45 @@
 //! The words of a string, as items.
-ghost use Rattle.std.specs.Prelude.{◌≡◌, map, IfOk};
-ghost use Rattle.spec_lbnf.specs.Words.{words_in};
+ghost use Rattle.std.specs.Prelude.{◌≡◌, map, not, IfOk};
+ghost use Rattle.spec_lbnf.specs.Words.{is_empty, words_in};
 ghost use Rattle.spec_lbnf.specs.Expansion.{word_items};
+ghost use Rattle.spec_lbnf.specs.declared.definition.RawItem.TheVariants.{Word};
 
 use spec_lbnf::RawItem;
 use spec_text::Name;
 use sqlite_items::Items;
 use std::alloc::{AllocError, Global};
 
-/// The parts of a string between its spaces, without empty ones.
-fn word_parts(alloc: Global, text: &[u8]) -> Result<Vec<&[u8]>, AllocError>
-    ensures { IfOk result (λ parts. map (λ p. p.now) parts.items ≡ words_in text.now) }
+fn has_bytes(part: &str) -> bool
+    ensures { result ≡ not (is_empty part.now) }
 {
-    text.split(|byte| *byte == b' ')
-        .filter(|word| !word.is_empty())
+    !part.is_empty()
+}
+
+/// The parts of a string between its spaces, without empty ones.
+fn word_parts(alloc: Global, text: &str) -> Result<Vec<&str>, AllocError>
+    ensures { IfOk result (λ parts. map (λ part. part.now) parts.items ≡ words_in text.now) }
+{
+    text.split(' ')
+        .filter(|part| has_bytes(*part))
         .collect(alloc)
+}
+
+/// A word, as an item.
+pub fn word_item(alloc: Global, word: &str) -> Result<RawItem, AllocError>
+    ensures { IfOk result (λ item. item ≡ Word word.now) }
+{
+    let bytes = Vec::from_slice(alloc, word.as_bytes())?;
+    Ok(RawItem::Word(Name::of(bytes)))
 }
 
 /// The words of a string, as items.
 pub fn words(alloc: Global, text: &Name) -> Result<Items<RawItem>, AllocError>
     ensures { IfOk result (λ items. items ≡ word_items text.now) }
 {
-    let parts = word_parts(alloc, text.as_slice())?;
+    let parts = word_parts(alloc, text.as_str())?;
     let mut items = Items::new(alloc);
     for part in parts.iter() {
-        let word = Vec::from_slice(alloc, part)?;
-        items.push(RawItem::Word(Name::of(word)))?;
+        items.push(word_item(alloc, *part)?)?;
     }
     Ok(items)
 }

@@ -1,7 +1,7 @@
 use Rattle.std.proofs.Common.{◌≡◌, map, take}
-use Rattle.lbnf_grammar.specs.Tables.{numbered_def}
+use Rattle.spec_lbnf.specs.Expansion.{numbered_rule}
 use Rattle.lbnf_grammar.proofs.numbering.numbered_rules.Given as goal
 
--- the rules are those of the definitions so far
-abbrev pub invariant-loop-def : goal.invariant-loop-def
-invariant-loop-def l = l.rules.items ≡ map (numbered_def l.tables) (take l.def-index l.defs)
+-- the rules so far are numbered
+abbrev pub invariant-loop-rule : goal.invariant-loop-rule
+invariant-loop-rule l = l.numbered.items ≡ map (numbered_rule l.tables.categories l.tables.words) (take l.rule-index l.rules)

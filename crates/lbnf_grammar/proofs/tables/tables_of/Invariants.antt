@@ -1,10 +1,13 @@
-use Rattle.std.proofs.Common.{◌≡◌, [], fold, take}
-use Rattle.lbnf_grammar.specs.declared.tables.Tables.{Tables}
-use Rattle.lbnf_grammar.specs.Tables.{with_def}
+use Rattle.std.proofs.Common.{◌≡◌, [], take}
+use Rattle.std.specs.List.{flat_map}
+use Rattle.spec_lbnf.specs.Expansion.{met_categories, internal_category, words_of}
+use Rattle.lbnf_grammar.specs.Numbering.{with_names}
 use Rattle.lbnf_grammar.proofs.tables.tables_of.Given as goal
 
--- the tables have the definitions so far
+-- the internal categories of the definitions so far are behind those that the rules meet
 abbrev pub invariant-loop-def : goal.invariant-loop-def
-invariant-loop-def l =
-    let start : Tables = record { categories = []; words = [] } in
-    l.tables ≡ fold with_def start (take l.def-index l.defs)
+invariant-loop-def l = record {
+  categories : l.tables.categories
+  ≡ with_names (with_names [] (flat_map met_categories l.rules)) (flat_map internal_category (take l.def-index l.defs));
+  words : l.tables.words ≡ words_of l.rules;
+}

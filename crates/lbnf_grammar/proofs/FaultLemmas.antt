@@ -1,0 +1,45 @@
+-- What faults tell of definitions, from what each check tells.
+use Rattle.std.proofs.Common.{◌≡◌, ℕ, List, Option, Some, None, Ok, Err, Result, All, refl, sym, ap, subst, ◌∙◌, inl, inr}
+use Rattle.std.specs.Option.{IfSome}
+use Rattle.spec_grammar.specs.Cycles.{IsAcyclic}
+use Rattle.spec_lbnf.specs.declared.definition.Def.{Def}
+use Rattle.spec_lbnf.specs.Expansion.{Expansion, expansion_of}
+use Rattle.spec_lbnf.specs.Checks.{Unfitness, AtLabels, AtCount, AtOwnName, AtUnknown, AtCycle, IsUnfit, AreFit, IsWellLabelled, HasFewRules, HasOwnNames, AreAllKnown, IsFirstUnknown, unknown_fault, IsFirstCyclic}
+use Rattle.lbnf_grammar.specs.declared.fault.GrammarFault.{GrammarFault}
+use Rattle.lbnf_grammar.specs.Grammars.{unfitness_of, Tells, Expands}
+use Rattle.lbnf_grammar.specs.Checking.{AtCycleOf, PassesCycles}
+
+-- what is there is such, if it is another such thing
+some_weaker : (IsOne IsOther : Unfitness → Type 0) → ((why : Unfitness) → IsOne why → IsOther why)
+    → (told : Option Unfitness) → IfSome told IsOne → IfSome told IsOther
+some_weaker IsOne IsOther gives None is = tt
+some_weaker IsOne IsOther gives (Some why) is = gives why is
+
+-- a fault that tells one unfitness tells another that follows
+pub tells_weaker : (IsOne IsOther : Unfitness → Type 0) → ((why : Unfitness) → IsOne why → IsOther why)
+    → (fault : GrammarFault) → Tells IsOne fault → Tells IsOther fault
+tells_weaker IsOne IsOther gives fault tells = some_weaker IsOne IsOther gives (unfitness_of fault) tells
+
+-- a fault that tells of the first unknown category tells that one is at fault
+pub unknown_tells : (defs : List Def) (name : List ℕ) (number : ℕ) → IsFirstUnknown defs name number
+    → (fault : GrammarFault) → Tells (λ why. why ≡ unknown_fault name number) fault → Tells (AtUnknown defs) fault
+unknown_tells defs name number first =
+    tells_weaker (λ why. why ≡ unknown_fault name number) (AtUnknown defs) (λ why is. (name, number, first, is))
+
+-- the answer of the check for cycles, on the grammar that definitions stand for, is the answer on
+-- the definitions, if they pass the other checks
+pub expands : (defs : List Def) → All IsWellLabelled defs → HasFewRules defs → HasOwnNames defs → AreAllKnown defs
+    → (g : Expansion) → g ≡ expansion_of defs → (result : Result Expansion GrammarFault) → PassesCycles g result → Expands defs result
+expands defs labelled few free known g is (Ok kept) passes = (
+  record {
+    labelled = labelled;
+    few = few;
+    own_names = free;
+    known = known;
+    acyclic = subst (λ (x : Expansion). IsAcyclic x.rules) is passes.0;
+  },
+  passes.1 ∙ is,
+)
+expands defs labelled few free known g is (Err fault) tells =
+    tells_weaker (AtCycleOf g) (IsUnfit defs)
+    (λ why at. inr (labelled, inr (few, inr (free, inr (known, subst (λ (x : Expansion). AtCycleOf x why) is at))))) fault tells

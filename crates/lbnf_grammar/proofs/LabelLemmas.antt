@@ -1,0 +1,52 @@
+-- The first definition that is not well labelled, and what holds of all definitions up to one.
+use Rattle.std.proofs.Common.{below_more, ◌≡◌, ℕ, ◌+◌, ◌<◌, ◌≤◌, List, [], ◌∷◌, ◌++◌, length, take, get_or, Some, All, slice_get, refl, sym, ap, subst, ◌∙◌, inl, inr}
+use Rattle.std.proofs.lemmas.List.{take_more}
+use Rattle.std.proofs.lemmas.Option.{slice_get-get_or, slice_get_within, get_or_from_slice_get, same_Some}
+use Rattle.spec_lbnf.specs.declared.definition.CatName.{CatName}
+use Rattle.spec_lbnf.specs.declared.definition.RawItem.{RawItem}
+use Rattle.spec_lbnf.specs.declared.definition.RawItem.TheVariants.{Cat, Word}
+use Rattle.spec_lbnf.specs.declared.definition.Def.{Def}
+use Rattle.spec_lbnf.specs.Checks.{categories_in, IsWellLabelled, IsFirstBad, IsBadCoercion, IsBadList, AtLabels, bad_coercion, bad_list}
+
+-- the categories of items side by side
+pub categories_in-append : (items others : List RawItem)
+    → categories_in (items ++ others) ≡ categories_in items ++ categories_in others
+categories_in-append [] others = refl
+categories_in-append (Cat cat ∷ items) others = ap (λ l. cat ∷ l) (categories_in-append items others)
+categories_in-append (Word word ∷ items) others = categories_in-append items others
+
+-- the first items, and the next
+pub take_next : {A : Type 0} (xs : List A) (i : ℕ) (x : A) → slice_get xs i ≡ Some x → take (i + 1) xs ≡ take i xs ++ x ∷ []
+take_next xs i x at =
+    let within : i < length xs = slice_get_within xs i x at in
+    take_more xs i x within ∙ ap (λ y. take i xs ++ y ∷ []) (get_or_from_slice_get xs i x x at)
+
+-- the categories among the first items, and that of the next
+pub categories_more : (items : List RawItem) (i : ℕ) (item : RawItem) → slice_get items i ≡ Some item
+    → categories_in (take (i + 1) items) ≡ categories_in (take i items) ++ categories_in (item ∷ [])
+categories_more items i item at = ap categories_in (take_next items i item at) ∙ categories_in-append (take i items) (item ∷ [])
+
+module _ (P : Def → Type 0) (defs : List Def) where
+  -- what holds of the first definitions holds with the next
+  pub more_hold : (n : ℕ) (next : Def) → slice_get defs n ≡ Some next → P next
+      → ((k : ℕ) (def : Def) → k < n → slice_get defs k ≡ Some def → P def)
+      → (k : ℕ) (def : Def) → k < n + 1 → slice_get defs k ≡ Some def → P def
+  more_hold n next at holds each k def lt at_k =
+      below_more (λ m. (other : Def) → slice_get defs m ≡ Some other → P other) n
+      (λ m earlier other at_m. each m other earlier at_m)
+      (λ other at_n. subst P (same_Some next other (sym at ∙ at_n)) holds) k lt def at_k
+
+  -- what holds of each definition holds of all
+  pub all_hold : ((k : ℕ) (def : Def) → k < length defs → slice_get defs k ≡ Some def → P def) → All P defs
+  all_hold each k d lt = each k (get_or defs k d) lt (slice_get-get_or defs k d lt)
+
+module _ (defs : List Def) (number : ℕ) (def : Def) (at : slice_get defs number ≡ Some def)
+  (earlier : (k : ℕ) (other : Def) → k < number → slice_get defs k ≡ Some other → IsWellLabelled other) where
+
+  -- a bad coercion behind definitions that are well labelled is at fault
+  pub coercion_first : IsBadCoercion def → AtLabels defs (bad_coercion number)
+  coercion_first bad = (number, inl (record { def = def; is_def = at; bad = bad; earlier = earlier }, refl))
+
+  -- so is a bad list
+  pub list_first : IsBadList def → AtLabels defs (bad_list number)
+  list_first bad = (number, inr (record { def = def; is_def = at; bad = bad; earlier = earlier }, refl))

@@ -1,0 +1,15 @@
+use Rattle.std.proofs.Common.{◌≡◌, [], All, MatchOption, subst, ◌∙◌, ap, rules}
+use Rattle.std.specs.List.{flat_map}
+use Rattle.spec_lbnf.specs.Checks.{own_categories, IsPredefined, IsFree, IsFirstName, HasOwnNames}
+use Rattle.lbnf_grammar.specs.Numbering.{with_names}
+use Rattle.lbnf_grammar.proofs.checking.check_own_names.Goals as goal
+
+pub returns-in-Ok-add_all : goal.returns-in-Ok-add_all
+returns-in-Ok-add_all c =
+    let defs = c.args.defs.now in
+    let list = c.as_slice.result.now in
+    let are : list ≡ flat_map own_categories defs = search rules in
+    let items : c.in-Ok.list.items ≡ flat_map own_categories defs = search rules in
+    let free : All IsFree list
+    = subst (λ found. MatchOption found (All IsFree list) (λ name. IsFirstName IsPredefined IsFree list name.now)) c.in_default-first_predefined.is c.first_predefined.ensures in
+    (subst (All IsFree) are free, c.in-Ok-add_all.ensures ∙ ap (λ names. with_names names c.in-Ok.list.items) c.new-known.ensures ∙ ap (with_names []) items)

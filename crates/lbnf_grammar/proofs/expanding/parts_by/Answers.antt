@@ -1,0 +1,33 @@
+use Rattle.std.proofs.Common.{◌≡◌, map, subst, sym, ap, ◌∙◌, rules}
+use Rattle.std.specs.Option.{option_map, IfSome}
+use Rattle.spec_lexing.specs.declared.kind_def.KindDef.TheVariants.{Word as WordKind}
+use Rattle.spec_lbnf.specs.Expansion.{Expansion, HasOwnSymbols, IsSymbolOf, rules_of, numbered_rule, category_symbol, entry_text, expansion_of}
+use Rattle.spec_lbnf.proofs.SymbolLemmas.{own_symbols}
+use Rattle.spec_lbnf.proofs.EntryLemmas.{own_entry}
+use Rattle.lbnf_grammar.specs.Grammars.{of_parts}
+use Rattle.lbnf_grammar.proofs.TableLemmas.{expansion_is}
+use Rattle.lbnf_grammar.proofs.expanding.parts_by.Goals as goal
+
+pub numbered_rules-requires-clause-categories : goal.numbered_rules-requires-clause-categories
+numbered_rules-requires-clause-categories c = rw c.requires.categories c.requires.few.categories
+
+pub numbered_rules-requires-clause-words : goal.numbered_rules-requires-clause-words
+numbered_rules-requires-clause-words c = rw c.requires.words c.requires.few.words
+
+-- the parts are those of the grammar that the definitions stand for
+parts_are : (c : goal.After-into_list-2) → of_parts c.in_ok-rules.rules.items c.into_list-2.result.items c.in_ok-kinds.kinds.items c.in_ok-entry.entry ≡ expansion_of c.args.defs.now
+parts_are c =
+    let tables = c.args.tables in
+    let numbered : c.in_ok-rules.rules.items ≡ map (numbered_rule tables.categories tables.words) (rules_of c.args.defs.now) = search rules in
+    let listed : c.into_list-2.result.items ≡ tables.categories = search rules in
+    let told : c.in_ok-kinds.kinds.items ≡ map WordKind tables.words = search rules in
+    let first : c.in_ok-entry.entry ≡ option_map (category_symbol tables.categories) (entry_text c.args.defs.now) = search rules in
+    expansion_is c.args.defs.now tables c.in_ok-rules.rules.items c.into_list-2.result.items c.in_ok-kinds.kinds.items c.in_ok-entry.entry
+    c.requires.categories c.requires.words numbered listed told first
+
+pub of-requires-clause-known : goal.of-requires-clause-known
+of-requires-clause-known c = subst HasOwnSymbols (sym (parts_are c)) (own_symbols c.args.defs.now)
+
+pub of-requires-clause-entry : goal.of-requires-clause-entry
+of-requires-clause-entry c =
+    subst (λ (g : Expansion). IfSome g.entry (IsSymbolOf g)) (sym (parts_are c)) (own_entry c.args.defs.now c.requires.known)

@@ -1,0 +1,14 @@
+use Rattle.std.proofs.Common.{◌≡◌, List, ℕ, Bor, map, ap, ◌∙◌, rules}
+use Rattle.std.proofs.lemmas.List.{take_all}
+use Rattle.spec_lbnf.specs.declared.definition.RawItem.TheVariants.{Word}
+use Rattle.spec_lbnf.specs.Words.{words_in}
+use Rattle.lbnf_grammar.proofs.TextLemmas.{words_of_parts}
+use Rattle.lbnf_grammar.proofs.words.words.Goals as goal
+
+pub returns : goal.returns
+returns c =
+    let parts : List (Bor (List ℕ)) = c.deref-part-items.result.now in
+    let texts : map (λ part. part.now) parts ≡ words_in c.args.text.now = search rules in
+    c.loop-part.invariant
+    ∙ ap (map (λ part. Word part.now)) (take_all c.loop-part.part-index parts c.loop-part-test.false)
+    ∙ words_of_parts parts ∙ ap (map Word) texts
