@@ -14,7 +14,7 @@ use Rattle.std.proofs.lemmas.Slice.Eq.{bytes_eq-Decides}
 use Rattle.spec_lbnf.specs.declared.definition.RawItem.{RawItem}
 use Rattle.spec_lbnf.specs.declared.definition.RawItem.TheVariants.{Cat, Word}
 use Rattle.spec_lbnf.specs.declared.definition.Def.{Def}
-use Rattle.spec_lbnf.specs.FirstForm.{predefined_names}
+use Rattle.spec_lbnf.specs.Checks.{predefined_names}
 use Rattle.spec_lbnf.specs.Expansion.{category_text, item_categories}
 use Rattle.spec_lbnf.specs.Checks.{own_categories, named_categories, IsPredefined, IsFree, IsFirstName, IsKnown, IsUnknown, NamesKnown, IsFirstUnknown}
 use Rattle.lbnf_grammar.specs.Numbering.{with_name, with_names}

@@ -1,7 +1,8 @@
 //! The checks of names: no predefined name has rules, and each category that is named has some.
 ghost use Rattle.std.specs.Prelude.{◌≡◌, ◌≤◌, [], flat_map, bytes_eq, All, MatchOption};
 ghost use Rattle.std.specs.List.{list_any};
-ghost use Rattle.spec_lbnf.specs.FirstForm.{size_of, predefined_names};
+ghost use Rattle.spec_lbnf.specs.Limits.{size_of};
+ghost use Rattle.spec_lbnf.specs.Checks.{predefined_names};
 ghost use Rattle.spec_lbnf.specs.Limits.{IsSmall};
 ghost use Rattle.spec_lbnf.specs.Checks.{own_categories, IsFirstName, IsPredefined, IsFree};
 ghost use Rattle.spec_lbnf.specs.Checks.{repeated_token, unknown_fault, HasOwnNames};

@@ -1,7 +1,7 @@
 use Rattle.std.proofs.Common.{◌≡◌, true, false, Some, slice_get, bytes_eq, refl, sym, ap, ◌∙◌}
 use Rattle.std.specs.List.{list_any}
 use Rattle.std.proofs.lemmas.Option.{slice_get_read}
-use Rattle.spec_lbnf.specs.FirstForm.{predefined_names}
+use Rattle.spec_lbnf.specs.Checks.{predefined_names}
 use Rattle.spec_lbnf.specs.Checks.{IsPredefined, IsFree}
 use Rattle.lbnf_grammar.proofs.CheckingLemmas.{first_at, good_more, good_all, told_predefined, told_free}
 use Rattle.lbnf_grammar.proofs.checking.first_predefined.Goals as goal
