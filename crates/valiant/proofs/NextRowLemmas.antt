@@ -6,7 +6,7 @@ use Rattle.spec_lbnf.specs.Expansion.{Expansion, HasOwnSymbols}
 use Rattle.valiant.specs.declared.rows.Entry.{Entry}
 use Rattle.valiant.specs.Charts.{IsEntryOf}
 use Rattle.valiant.specs.Rows.{found, found_at, HasRisingEnds}
-use Rattle.valiant.specs.Filling.{IsRowUpTo, next_token, AreLastRows, AddsProduct, IsOfEntry, IsOfEntries, AreEndsBelow, AddsCuts, AreEmpty, AreFirstCells, AreCellsBehind, HasSame}
+use Rattle.valiant.specs.Filling.{IsRowUpTo, next_token, AreLastRows, IsOfEntry, IsOfEntries, AreEndsBelow, AddsCuts, AreEmpty, AreFirstCells, AreCellsBehind, HasSame}
 use Rattle.valiant.proofs.FillingLemmas.{entries_none, entries_more, entries_all}
 use Rattle.valiant.proofs.CellLemmas.{get_set_same, get_set_other}
 
