@@ -1,10 +1,10 @@
 -- Lists that grow by what is given: by one giver more, or by the givers below a higher limit.
-use Rattle.std.proofs.Common.{◌≡◌, ℕ, ◌+◌, ◌<◌, ◌≤◌, ◌↔◌, ◌⊎◌, List, [], ◌∷◌, ◌++◌, Some, None, false, IsTrue, inl, inr, length, slice_get, get_or, take, refl, sym, subst, arith, Contains}
+use Rattle.std.proofs.Common.{◌≡◌, ℕ, ◌+◌, ◌<◌, ◌≤◌, ◌⊎◌, List, [], ◌∷◌, ◌++◌, Some, None, false, IsTrue, inl, inr, length, slice_get, get_or, take, refl, sym, subst, arith, Contains}
 use Rattle.std.proofs.lemmas.Option.{slice_get_read}
 use Rattle.std.proofs.lemmas.List.{take_more, take_all}
 use Rattle.std.proofs.lemmas.List.Elements.{Contains-append_left, Contains-append_right, Contains-append_cases}
 use Rattle.cell_sets.specs.Cells.{IsUnion, IsNextFrom}
-use Rattle.binary_form.specs.Products.{Adds, OneGives, OneGivesBelow, GoesOn, IsInCellAt, WholeGives, IsNextBelow}
+use Rattle.binary_form.specs.Products.{Adds, OneGives, OneGivesBelow, GoesOn, WholeGives, IsNextBelow}
 use Rattle.number_graph.proofs.LinkLemmas.{Contains-one}
 
 -- false is not true
