@@ -78,13 +78,6 @@ adds_known {C = C} symbols cells right whole closure old within is known n =
         let Has : C → Type 0 = λ c. Contains (symbols c) n in
         known n (subst Has same inner.2)
 
--- a whole that does not go on gives nothing
-pub adds_nothing :
-    {C : Type 0} (symbols : C → List ℕ) (cells : List C) (right : List ℕ) (whole : ℕ) (old : List ℕ)
-    → (GoesOn right whole → ⊥) → Adds (WholeGives symbols cells right whole) old old
-adds_nothing symbols cells right whole old stops n =
-    ((λ has. inl has), elim [ inl kept ↦ kept | inr given ↦ absurd (stops given.0) ])
-
 module _ (Fits : ℕ → Type 0) (xs : List ℕ) where
   -- none of the numbers before the place fits
   abbrev pub NoneBefore : ℕ → Type 0
