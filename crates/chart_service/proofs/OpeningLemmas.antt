@@ -9,7 +9,7 @@ use Rattle.spec_grammar.specs.Cycles.{IsAcyclic}
 use Rattle.spec_lbnf.specs.Expansion.{Expansion, expansion_of, symbol_count}
 use Rattle.spec_lbnf.specs.FirstForm.{Spells}
 use Rattle.spec_lbnf.specs.Checks.{AreAllKnown}
-use Rattle.spec_session.specs.Replies.{IsAccepted, IsRefused, AreFit, unbuilt, unfit, unknown, cyclic, crowded, symbols_line, version_reply}
+use Rattle.spec_session.specs.Replies.{IsRefused, AreFit, unbuilt, unfit, unknown, cyclic, crowded, symbols_line, version_reply}
 use Rattle.lbnf_text.specs.declared.fault.TextFault.TheVariants.{Memory as TextMemory, Unbuilt}
 use Rattle.lbnf_grammar.specs.declared.fault.GrammarFault.TheVariants.{Memory as GrammarMemory, UnknownCategory, Cyclic}
 use Rattle.binary_form.specs.declared.fault.BinaryFault.{BinaryFault}

@@ -1,7 +1,6 @@
 -- Rows that are filled: each step keeps what they have, and all cuts of a span are those at a row's entries.
 use Rattle.std.proofs.Common.{◌≡◌, ℕ, ◌+◌, ◌-◌, ◌<◌, ◌≤◌, ◌≢◌, ◌⊎◌, List, [], ◌∷◌, ◌++◌, Option, Some, length, slice_get, get_or, refl, sym, subst, inl, inr, arith, Contains}
-use Rattle.std.proofs.lemmas.Option.{slice_get_within, get_or_from_slice_get, slice_get-get_or, slice_get_read}
-use Rattle.std.proofs.lemmas.List.{get_or_read}
+use Rattle.std.proofs.lemmas.Option.{slice_get_within, get_or_from_slice_get, slice_get-get_or}
 use Rattle.spec_lbnf.specs.Expansion.{Expansion, HasOwnSymbols}
 use Rattle.binary_form.specs.Symbols.{BinarySymbol, BinaryDerives}
 use Rattle.binary_form.specs.BinaryForm.{IsNumberOf, IsProductNumber, AddsProductOf}
