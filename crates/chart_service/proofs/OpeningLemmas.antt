@@ -9,11 +9,9 @@ use Rattle.spec_grammar.specs.Cycles.{IsAcyclic}
 use Rattle.spec_lbnf.specs.Expansion.{Expansion, expansion_of, symbol_count}
 use Rattle.spec_lbnf.specs.FirstForm.{Spells}
 use Rattle.spec_lbnf.specs.Checks.{AreAllKnown}
-use Rattle.spec_session.specs.Replies.{IsAccepted, IsRefused, AreFit, unbuilt, unfit, unknown, cyclic, crowded, symbols_line, version_reply}
+use Rattle.spec_session.specs.Replies.{IsRefused, AreFit, unbuilt, unfit, unknown, cyclic, crowded, symbols_line, version_reply}
 use Rattle.lbnf_text.specs.declared.fault.TextFault.TheVariants.{Memory as TextMemory, Unbuilt}
-use Rattle.lbnf_grammar.specs.declared.fault.GrammarFault.{GrammarFault}
 use Rattle.lbnf_grammar.specs.declared.fault.GrammarFault.TheVariants.{Memory as GrammarMemory, UnknownCategory, Cyclic}
-use Rattle.lbnf_grammar.specs.Grammars.{Expands}
 use Rattle.binary_form.specs.declared.fault.BinaryFault.{BinaryFault}
 use Rattle.binary_form.specs.declared.fault.BinaryFault.TheVariants.{Memory as BinaryMemory, TooManySymbols}
 use Rattle.valiant.specs.Charts.{ChartValue}
@@ -56,13 +54,6 @@ crowded_language block defs g (TooManySymbols count) spells known acyclic e made
   made.0 ∙ ap symbol_count e,
   made.1,
 )
-
--- what keeps definitions from being a grammar keeps the block from being accepted
-pub unfit_language : (block : List ℕ) (defs : List Def) (fault : GrammarFault)
-    → Spells block defs → Expands defs (Err fault) → ReadsLanguage block (Err (Grammar fault))
-unfit_language block defs GrammarMemory spells why = tt
-unfit_language block defs (UnknownCategory name number) spells why = (defs, spells, why)
-unfit_language block defs (Cyclic name) spells why = (defs, spells, why.0, why.1)
 
 -- the line that refuses is the fault's
 pub refusal_is : (block : List ℕ) (fault : LanguageFault) (line : List ℕ) → ReadsLanguage block (Err fault) → IsRefusal fault line → IsRefused block line

@@ -1,4 +1,5 @@
--- Serves the proofs alone: what is known of a grammar that was accepted and of a text that is open under it.
+-- Serves the proofs alone: what is known of a grammar that was accepted and of a text that is open
+-- under it.
 use Rattle.std.specs.Prelude.{◌≡◌, ◌<◌, ◌≤◌, ℕ, ◌⊎◌, List, length, slice_get, Some}
 use Rattle.std.specs.Prelude.{Option, Result, Ok, Err}
 use Rattle.spec_grammar.specs.Cycles.{IsAcyclic}
@@ -33,10 +34,11 @@ pub record IsFit (g : Expansion) : Type 0 where
   pub distinct : (c d : ℕ) (name : List ℕ) → slice_get g.categories c ≡ Some name
       → slice_get g.categories d ≡ Some name → c ≡ d
 
--- the language is the grammar's, or the grammar has too many symbols; want of memory is free
+-- the language is the grammar's, or the grammar has too many symbols; want of memory comes at no
+-- grammar of too many
 abbrev pub MakesLanguage : Expansion → Result Language BinaryFault → Type 0
 MakesLanguage g (Ok language) = (symbol_count g ≤ 2048) × (language.grammar ≡ g)
-MakesLanguage g (Err BinaryMemory) = Unit {0}
+MakesLanguage g (Err BinaryMemory) = symbol_count g ≤ 2048
 MakesLanguage g (Err (TooManySymbols count)) = (count ≡ symbol_count g) × (2048 < count)
 
 -- the grammar that the block spells, or why it is refused; want of memory is free
@@ -48,7 +50,8 @@ ReadsLanguage block (Err (Grammar GrammarMemory)) = Unit {0}
 ReadsLanguage block (Err (Grammar (UnknownCategory name number))) =
     (defs : List Def) × Spells block defs × IsFirstUnknown defs name number
 ReadsLanguage block (Err (Grammar (Cyclic name))) =
-    (defs : List Def) × Spells block defs × AreAllKnown defs × IsFirstCyclic (expansion_of defs) name
+    (defs : List Def) × Spells block defs × AreAllKnown defs
+    × IsFirstCyclic (expansion_of defs) name
 ReadsLanguage block (Err (Binary BinaryMemory)) = Unit {0}
 ReadsLanguage block (Err (Binary (TooManySymbols count))) =
     (defs : List Def) × Spells block defs × AreAllKnown defs × IsAcyclic (expansion_of defs).rules
@@ -76,7 +79,8 @@ abbrev pub IsGrammarLine : List ℕ → List ℕ → Type 0
 IsGrammarLine block line =
     IsRefused block line ⊎ ((g : Expansion) × IsAccepted block g × (line ≡ grammar_reply g))
 
--- the session was ended at the block's grammar: it is refused with its line, or a fault left a prefix of its reply
+-- the session was ended at the block's grammar: it is refused with its line, or a fault left a
+-- prefix of its reply
 abbrev pub EndsAtGrammar : List ℕ → Option (List ℕ) → Option (List ℕ) → Status → Type 0
 EndsAtGrammar block old new BadGrammar = (line : List ℕ) × IsRefused block line × Grows old new line
 EndsAtGrammar block old new WriteFault =

@@ -7,8 +7,8 @@ ghost use Rattle.std.specs.Str.{IsAscii};
 ghost use Rattle.spec_lexing.specs.declared.token.Token.{Token};
 ghost use Rattle.spec_session.specs.Replies.{grammar_reply, version_reply};
 ghost use Rattle.chart_service.specs.Statuses.{IsWriteStop};
-ghost use Rattle.chart_service.specs.Opening.{MakesLanguage, ReadsLanguage, IsFit, IsRefusal, EndsAtGrammar};
-ghost use Rattle.chart_service.specs.Opening.{Accepts, IsOpened, OpensText};
+ghost use Rattle.chart_service.specs.Opening.{MakesLanguage, ReadsLanguage, IsFit, IsRefusal};
+ghost use Rattle.chart_service.specs.Opening.{EndsAtGrammar, Accepts, IsOpened, OpensText};
 
 use crate::language::Language;
 use crate::lexing::{kinds_of, tokens_of};
@@ -136,7 +136,8 @@ pub(crate) fn accept<K: Sink>(alloc: Global, sink: &mut K, block: &[u8]) -> Resu
     }
 }
 
-/// A text that is open under a grammar: the categories that derive each span of its tokens.
+/// A text that is open under a grammar, with the symbols that derive each span of its tokens that
+/// is not empty.
 #[derive(Drop)]
 pub(crate) struct Opened {
     pub(crate) language: Language,
@@ -189,7 +190,8 @@ pub(crate) fn open_text<K: Sink>(
     requires fit { IsFit language.grammar }
     requires ascii { IsAscii text.now }
     requires short { length text.now ≤ 4096 }
-    ensures ok { OpensText language.grammar text.now (K.written sink.old) (K.written sink.new) result }
+    ensures ok { OpensText language.grammar text.now
+        (K.written sink.old) (K.written sink.new) result }
     ensures cause { HasCause (K.faults sink.old) (K.faults sink.new)
         (IsErrOf result Status.WriteFault) }
 {

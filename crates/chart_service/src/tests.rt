@@ -1,5 +1,5 @@
-//! Sessions with their exact replies, broken scripts and refused grammars with their exact lines, and
-//! faults in mid-session.
+//! Sessions with their exact replies, broken scripts and refused grammars with their exact lines,
+//! and faults in mid-session.
 ghost use Rattle.std.specs.Prelude.{◌≡◌, ◌≤◌, ◌<◌};
 ghost use Rattle.chart_service.specs.Serving.{AreWithinLimits};
 
@@ -8,7 +8,7 @@ mod scripts;
 
 use crate::{Options, serve};
 use cyk_io::{ByteSink, ByteSource, CleanSink, CleanSource, Sink, SinkFault, Source};
-use grammars::{ACCEPTED, ENTRIES, REFUSED};
+use grammars::{ACCEPTED, ASKED, REFUSED};
 use scripts::{
     ANSWERED, BROKEN_BEFORE_A_GRAMMAR, BROKEN_BEFORE_A_TEXT, BROKEN_BEHIND_A_TEXT, TEXTS,
 };
@@ -166,8 +166,8 @@ fn each_grammar_has_its_line(rt: HostRuntime) -> Result<(), Fail> {
 }
 
 #[test]
-fn the_entry_is_the_category_of_the_first_rule(rt: HostRuntime) -> Result<(), Fail> {
-    for (name, grammar, rest, session) in ENTRIES {
+fn each_question_is_answered_by_its_grammar_and_text(rt: HostRuntime) -> Result<(), Fail> {
+    for (name, grammar, rest, session) in ASKED {
         let (status, sink) = serve_grammar(rt.alloc(), grammar, rest)?;
         assert_eq!(rt; status, 0, "at {name}");
         assert_eq!(rt; sink.as_bytes(), *session, "at {name}");

@@ -18,8 +18,8 @@ use Rattle.spec_session.specs.Script.{Command, header, grammar, opens, has}
 abbrev pub as_line : List ℕ → List ℕ
 as_line bytes = bytes ++ 10 ∷ []
 
--- the definitions are fit for a grammar: each category that they name has a rule, none reaches itself, and there are
--- at most 2,048 symbols
+-- the definitions are fit for a grammar: each category that they name has a rule, none reaches
+-- itself, and there are at most 2,048 symbols
 pub record AreFit (defs : List Def) : Type 0 where
   pub known : AreAllKnown defs
   pub acyclic : IsAcyclic (expansion_of defs).rules
@@ -53,8 +53,8 @@ cyclic_line name = codes "grammar refused cyclic " ++ as_line name
 abbrev pub symbols_line : ℕ → List ℕ
 symbols_line count = codes "grammar refused symbols " ++ as_line (decimal count)
 
--- the definitions are refused with this line, for their first unknown category, or else for the first that reaches
--- itself, or else for too many symbols
+-- the definitions are refused with this line, for their first unknown category, or else for the
+-- first that reaches itself, or else for too many symbols
 pub data AreUnfit (defs : List Def) (line : List ℕ) : Type 0 where
   unknown : (name : List ℕ) (number : ℕ) → IsFirstUnknown defs name number
       → line ≡ unknown_line name number → AreUnfit defs line
@@ -64,8 +64,8 @@ pub data AreUnfit (defs : List Def) (line : List ℕ) : Type 0 where
       → 2048 < symbol_count (expansion_of defs)
       → line ≡ symbols_line (symbol_count (expansion_of defs)) → AreUnfit defs line
 
--- the block is refused with this line, for its first definition that is not built, or else since its definitions are
--- unfit
+-- the block is refused with this line, for its first definition that is not built, or else since
+-- its definitions are unfit
 pub data IsRefused (block line : List ℕ) : Type 0 where
   unbuilt : (number : ℕ) → IsFirstUnbuilt block number → line ≡ unbuilt_line number
       → IsRefused block line

@@ -1,5 +1,5 @@
-//! Grammars and the line that each gets: its counts where it is accepted, or its refusal. A row has a
-//! name, the grammar's block, and the line. Last come grammars with texts and questions on them.
+//! Grammars and the line that each gets: its counts where it is accepted, or its refusal. A row has
+//! a name, the grammar's block, and the line. Last come grammars with texts and questions on them.
 
 pub(super) const ACCEPTED: &[(&str, &[u8], &[u8])] = &[
     (
@@ -334,8 +334,11 @@ pub(super) const REFUSED: &[(&str, &[u8], &[u8])] = &[
     ),
 ];
 
-/// A row has a name, the grammar's block, the rest of the script, and the session.
-pub(super) const ENTRIES: &[(&str, &[u8], &[u8], &[u8])] = &[
+/// Grammars that are asked: with and without a first rule, of words, of chains, of brackets, and
+/// with categories that derive the empty span; on spans of one token and more, on empty ones, and
+/// on spans that are not the text's. A row has a name, the grammar's block, the rest of the script,
+/// and the session.
+pub(super) const ASKED: &[(&str, &[u8], &[u8], &[u8])] = &[
     (
         "the entry is the category of the first rule",
         b"P. S ::= A B ; Q. A ::= \"x\" ; R. B ::= \"y\" ;",
