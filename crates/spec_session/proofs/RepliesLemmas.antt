@@ -10,12 +10,12 @@ use Rattle.spec_lbnf.proofs.FileLemmas.{spelled_or_unbuilt, one_spelling, one_un
 use Rattle.spec_lbnf.proofs.CheckLemmas.{fit_or_unknown, one_unknown}
 use Rattle.spec_lbnf.proofs.CycleLemmas.{acyclic_or_cyclic, one_cyclic}
 use Rattle.spec_session.specs.Script.{Constituent, Command, header, grammar, opens, has}
-use Rattle.spec_session.specs.Replies.{IsAccepted, IsRefused, unbuilt, unfit, AreFit, AreUnfit, unknown, cyclic, crowded, unbuilt_line, unknown_line, cyclic_line, version_reply, HasCategory, IsWithin, IsOutside, IsDerived, IsAnswer, refused_category, refused_span, yes, no, IsCurrent, IsReply}
+use Rattle.spec_session.specs.Replies.{IsAccepted, IsRefused, large, unbuilt, unfit, AreFit, AreUnfit, unknown, cyclic, crowded, large_line, unbuilt_line, unknown_line, cyclic_line, version_reply, HasCategory, IsWithin, IsOutside, IsDerived, IsAnswer, refused_category, refused_span, yes, no, IsCurrent, IsReply}
 
 -- a block is accepted as one grammar
 pub one_grammar : (block : List ℕ) (g other : Expansion) → IsAccepted block g → IsAccepted block other →
     g ≡ other
-one_grammar block g other h k = h.3 ∙ ap expansion_of (one_spelling block h.0 k.0 h.1 k.1) ∙ sym k.3
+one_grammar block g other h k = h.4 ∙ ap expansion_of (one_spelling block h.1 k.1 h.2 k.2) ∙ sym k.4
 
 -- definitions that are fit are not refused
 fit_or_unfit : (defs : List Def) (line : List ℕ) → AreFit defs → AreUnfit defs line → ⊥
@@ -26,9 +26,11 @@ fit_or_unfit defs line fit (crowded known acyclic many e) = omega (arith, fit.fe
 
 -- a block that is accepted is not refused
 pub accepted_or_refused : (block line : List ℕ) (g : Expansion) → IsAccepted block g → IsRefused block line → ⊥
-accepted_or_refused block line g h (unbuilt number first e) = spelled_or_unbuilt block h.0 number h.1 first
-accepted_or_refused block line g h (unfit defs spells why) =
-    fit_or_unfit h.0 line h.2 (rw (one_spelling block h.0 defs h.1 spells) why)
+accepted_or_refused block line g h (large many e) = omega (arith, h.0, many)
+accepted_or_refused block line g h (unbuilt number few first e) =
+    spelled_or_unbuilt block h.1 number h.2 first
+accepted_or_refused block line g h (unfit defs few spells why) =
+    fit_or_unfit h.1 line h.3 (rw (one_spelling block h.1 defs h.2 spells) why)
 
 -- definitions are refused by one line
 one_unfit : (defs : List Def) (line other : List ℕ) → AreUnfit defs line → AreUnfit defs other → line ≡ other
@@ -53,13 +55,22 @@ one_unfit defs line other (crowded known acyclic many e) (crowded known' acyclic
 
 -- a block is refused by one line
 pub one_refusal : (block line other : List ℕ) → IsRefused block line → IsRefused block other → line ≡ other
-one_refusal block line other (unbuilt number first e) (unbuilt number' first' e') =
+one_refusal block line other (large many e) (large many' e') = e ∙ sym e'
+one_refusal block line other (large many e) (unbuilt number few first e') =
+    absurd (omega (arith, many, few))
+one_refusal block line other (large many e) (unfit defs few spells why) =
+    absurd (omega (arith, many, few))
+one_refusal block line other (unbuilt number few first e) (large many e') =
+    absurd (omega (arith, many, few))
+one_refusal block line other (unfit defs few spells why) (large many e) =
+    absurd (omega (arith, many, few))
+one_refusal block line other (unbuilt number few first e) (unbuilt number' few' first' e') =
     e ∙ ap unbuilt_line (one_unbuilt block number number' first first') ∙ sym e'
-one_refusal block line other (unbuilt number first e) (unfit defs spells why) =
+one_refusal block line other (unbuilt number few first e) (unfit defs few' spells why) =
     absurd (spelled_or_unbuilt block defs number spells first)
-one_refusal block line other (unfit defs spells why) (unbuilt number first e) =
+one_refusal block line other (unfit defs few spells why) (unbuilt number few' first e) =
     absurd (spelled_or_unbuilt block defs number spells first)
-one_refusal block line other (unfit defs spells why) (unfit defs' spells' why') =
+one_refusal block line other (unfit defs few spells why) (unfit defs' few' spells' why') =
     let again : AreUnfit defs other = rw (one_spelling block defs defs' spells spells') why' in
     one_unfit defs line other why again
 

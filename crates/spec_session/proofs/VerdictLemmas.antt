@@ -1,5 +1,5 @@
 -- A block is accepted as a grammar or refused: that one of the two is so cannot be denied.
-use Rattle.std.proofs.Common.{◌≡◌, ℕ, zero, suc, ◌<◌, ◌⊎◌, inl, inr, List, [], ◌∷◌, length, Some, slice_get, refl, ◌∙◌, ap, subst, append-nil, arith}
+use Rattle.std.proofs.Common.{◌≡◌, ℕ, zero, suc, ◌<◌, ◌≤◌, ◌⊎◌, inl, inr, List, [], ◌∷◌, length, Some, slice_get, refl, ◌∙◌, ap, subst, append-nil, arith}
 use Rattle.std.specs.List.{AllByRecursion}
 use Rattle.std.proofs.lemmas.Bool.{cases_lt}
 use Rattle.std.proofs.lemmas.List.Elements.{All-from_recursion}
@@ -12,7 +12,7 @@ use Rattle.spec_lbnf.specs.Checks.{IsKnown, NamesKnown, AreAllKnown, IsFirstUnkn
 use Rattle.spec_lbnf.proofs.FileLemmas.{item_at}
 use Rattle.spec_lbnf.proofs.SymbolLemmas.{own_symbols}
 use Rattle.spec_grammar.specs.Cycles.{IsCyclic, IsAcyclic}
-use Rattle.spec_session.specs.Replies.{IsAccepted, IsRefused, unbuilt, unfit, AreFit, AreUnfit, unknown, cyclic, crowded, unbuilt_line, unknown_line, cyclic_line, symbols_line}
+use Rattle.spec_session.specs.Replies.{IsAccepted, IsRefused, large, unbuilt, unfit, AreFit, AreUnfit, unknown, cyclic, crowded, large_line, unbuilt_line, unknown_line, cyclic_line, symbols_line}
 use Rattle.spec_session.proofs.DenialLemmas.{IsUndeniable, decided, FirstWithout, AllOrFirst, all_or_first, at_each_place, first_place, holds_earlier}
 
 -- the piece spells some definition
@@ -230,12 +230,12 @@ abbrev pub HasVerdict : List ℕ → Type 0
 HasVerdict block =
     ((g : Expansion) × IsAccepted block g) ⊎ ((line : List ℕ) × IsRefused block line)
 
--- that a block has a verdict cannot be denied
-pub some_verdict : (block : List ℕ) → IsUndeniable (HasVerdict block)
-some_verdict block denied =
+-- that a block which is not too large has a verdict cannot be denied
+small_verdict : (block : List ℕ) → length block ≤ 65536 → IsUndeniable (HasVerdict block)
+small_verdict block small denied =
     read_or_not block (λ (split : IsReadOrNot block). elim split [
       | inl spelled ↦ by_categories spelled.0 spelled.1
-      | inr first ↦ denied (inr (unbuilt_line first.0, unbuilt first.0 first.1 refl))
+      | inr first ↦ denied (inr (unbuilt_line first.0, unbuilt first.0 small first.1 refl))
     ])
   where
     by_count : (defs : List Def) → Spells block defs → AreAllKnown defs
@@ -244,10 +244,10 @@ some_verdict block denied =
         let count : ℕ = symbol_count (expansion_of defs) in
         elim (cases_lt 2048 count) [
           | inl many ↦
-              denied (inr (symbols_line count, unfit defs spelled (crowded known acyclic many refl)))
+              denied (inr (symbols_line count, unfit defs small spelled (crowded known acyclic many refl)))
           | inr few ↦
               let fit : AreFit defs = record { known = known; acyclic = acyclic; few = few } in
-              denied (inl (expansion_of defs, (defs, spelled, fit, refl)))
+              denied (inl (expansion_of defs, (small, defs, spelled, fit, refl)))
         ]
 
     by_cycles : (defs : List Def) → Spells block defs → AreAllKnown defs → ⊥
@@ -260,7 +260,7 @@ some_verdict block denied =
           | inr least ↦
               let first = first_cyclic g least.0 least.1 least.2 in
               let why : AreUnfit defs (cyclic_line first.0) = cyclic first.0 known first.1 refl in
-              denied (inr (cyclic_line first.0, unfit defs spelled why))
+              denied (inr (cyclic_line first.0, unfit defs small spelled why))
         ])
 
     by_categories : (defs : List Def) → Spells block defs → ⊥
@@ -270,5 +270,12 @@ some_verdict block denied =
           | inr first ↦
               let line : List ℕ = unknown_line first.0 first.1 in
               let why : AreUnfit defs line = unknown first.0 first.1 first.2 refl in
-              denied (inr (line, unfit defs spelled why))
+              denied (inr (line, unfit defs small spelled why))
         ])
+
+-- that any block has one cannot be denied
+pub some_verdict : (block : List ℕ) → IsUndeniable (HasVerdict block)
+some_verdict block denied = elim (cases_lt 65536 (length block)) [
+  | inl many ↦ denied (inr (large_line (length block), large many refl))
+  | inr small ↦ small_verdict block small denied
+]

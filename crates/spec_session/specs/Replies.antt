@@ -25,9 +25,11 @@ pub record AreFit (defs : List Def) : Type 0 where
   pub acyclic : IsAcyclic (expansion_of defs).rules
   pub few : symbol_count (expansion_of defs) ≤ 2048
 
--- the block is accepted as this grammar
+-- the block, of at most 65,536 bytes, is accepted as this grammar
 abbrev pub IsAccepted : List ℕ → Expansion → Type 0
-IsAccepted block g = (defs : List Def) × Spells block defs × AreFit defs × (g ≡ expansion_of defs)
+IsAccepted block g =
+    (length block ≤ 65536) × (defs : List Def) × Spells block defs × AreFit defs
+    × (g ≡ expansion_of defs)
 
 -- the reply to a grammar that is accepted: how many rules, categories and kinds it has
 abbrev pub grammar_reply : Expansion → List ℕ
@@ -35,6 +37,10 @@ grammar_reply g =
     codes "grammar rules " ++ (decimal (length g.rules)
     ++ (codes " categories " ++ (decimal (length g.categories)
     ++ (codes " kinds " ++ as_line (decimal (length g.kinds))))))
+
+-- the line that refuses a grammar for the length of its block
+abbrev pub large_line : ℕ → List ℕ
+large_line count = codes "grammar refused large " ++ as_line (decimal count)
 
 -- the line that refuses a grammar for a definition that is not built
 abbrev pub unbuilt_line : ℕ → List ℕ
@@ -64,12 +70,14 @@ pub data AreUnfit (defs : List Def) (line : List ℕ) : Type 0 where
       → 2048 < symbol_count (expansion_of defs)
       → line ≡ symbols_line (symbol_count (expansion_of defs)) → AreUnfit defs line
 
--- the block is refused with this line, for its first definition that is not built, or else since
--- its definitions are unfit
+-- the block is refused with this line, for more than 65,536 bytes, or else for its first
+-- definition that is not built, or else since its definitions are unfit
 pub data IsRefused (block line : List ℕ) : Type 0 where
-  unbuilt : (number : ℕ) → IsFirstUnbuilt block number → line ≡ unbuilt_line number
+  large : 65536 < length block → line ≡ large_line (length block) → IsRefused block line
+  unbuilt : (number : ℕ) → length block ≤ 65536 → IsFirstUnbuilt block number
+      → line ≡ unbuilt_line number → IsRefused block line
+  unfit : (defs : List Def) → length block ≤ 65536 → Spells block defs → AreUnfit defs line
       → IsRefused block line
-  unfit : (defs : List Def) → Spells block defs → AreUnfit defs line → IsRefused block line
 
 -- the reply to a text: its version's number and how many tokens it has
 abbrev pub version_reply : ℕ → ℕ → List ℕ

@@ -54,11 +54,12 @@ IsNameable (category_whole category) = IsWord category
 IsNameable (category_span category first end) =
     IsWord category × (first < 10 ^ 9) × (end < 10 ^ 9)
 
--- the command keeps the limits: a grammar of 65,536 bytes, a text of 4,096 bytes below 80
--- (hexadecimal), a constituent that can be named, and a line of 256 bytes
+-- the command keeps the limits: a grammar's block of as many bytes as nine digits can write, a
+-- text of 4,096 bytes below 80 (hexadecimal), a constituent that can be named, and a line of 256
+-- bytes
 abbrev pub IsWithinLimits : Command → Type 0
 IsWithinLimits header = Unit {0}
-IsWithinLimits (grammar block) = length block ≤ 65536
+IsWithinLimits (grammar block) = length block < 10 ^ 9
 IsWithinLimits (opens text) = (length text ≤ 4096) × IsAscii text
 IsWithinLimits (has constituent) =
     IsNameable constituent × (length (line_of (has constituent)) ≤ 256)
