@@ -9,14 +9,14 @@ use Rattle.spec_grammar.specs.Cycles.{IsAcyclic}
 use Rattle.spec_lbnf.specs.Expansion.{Expansion, expansion_of, symbol_count}
 use Rattle.spec_lbnf.specs.FirstForm.{Spells}
 use Rattle.spec_lbnf.specs.Checks.{AreAllKnown}
-use Rattle.spec_session.specs.Replies.{IsRefused, AreFit, unbuilt, unfit, unknown, cyclic, crowded, symbols_line, version_reply}
+use Rattle.spec_session.specs.Replies.{IsRefused, AreFit, large, unbuilt, unfit, unknown, cyclic, crowded, large_line, symbols_line, version_reply}
 use Rattle.lbnf_text.specs.declared.fault.TextFault.TheVariants.{Memory as TextMemory, Unbuilt}
 use Rattle.lbnf_grammar.specs.declared.fault.GrammarFault.TheVariants.{Memory as GrammarMemory, UnknownCategory, Cyclic}
 use Rattle.binary_form.specs.declared.fault.BinaryFault.{BinaryFault}
 use Rattle.binary_form.specs.declared.fault.BinaryFault.TheVariants.{Memory as BinaryMemory, TooManySymbols}
 use Rattle.valiant.specs.Charts.{ChartValue}
 use Rattle.chart_service.specs.declared.opening.LanguageFault.{LanguageFault}
-use Rattle.chart_service.specs.declared.opening.LanguageFault.TheVariants.{Text, Grammar, Binary}
+use Rattle.chart_service.specs.declared.opening.LanguageFault.TheVariants.{Text, Grammar, Binary, TooLarge}
 use Rattle.chart_service.specs.declared.language.Language.{Language}
 use Rattle.chart_service.specs.declared.status.Status.{Status}
 use Rattle.chart_service.specs.declared.status.Status.TheVariants.{Ok as Fine, BadGrammar, BadScript, ReadFault, WriteFault, OutOfMemory}
@@ -30,23 +30,24 @@ spelled_fit defs g e = subst IsFit (sym e) (record { distinct = (distinct_names 
 
 -- the language of what a block spells is accepted, where the definitions are fit
 pub accepted : (block : List ℕ) (defs : List Def) (g : Expansion) (language : Language)
-    → Spells block defs → AreAllKnown defs → IsAcyclic g.rules → g ≡ expansion_of defs
+    → length block ≤ 65536 → Spells block defs → AreAllKnown defs → IsAcyclic g.rules → g ≡ expansion_of defs
     → MakesLanguage g (Ok language) → ReadsLanguage block (Ok language)
-accepted block defs g language spells known acyclic e made =
+accepted block defs g language small spells known acyclic e made =
     let same : language.grammar ≡ expansion_of defs = made.1 ∙ e in
     let fit : AreFit defs = record {
       known = known;
       acyclic = subst (λ (x : Expansion). IsAcyclic x.rules) e acyclic;
       few = subst (λ (x : Expansion). symbol_count x ≤ 2048) e made.0;
     } in
-    ((defs, spells, fit, same), spelled_fit defs language.grammar same)
+    ((small, defs, spells, fit, same), spelled_fit defs language.grammar same)
 
 -- a grammar of too many symbols is refused for their count
 pub crowded_language : (block : List ℕ) (defs : List Def) (g : Expansion) (fault : BinaryFault)
-    → Spells block defs → AreAllKnown defs → IsAcyclic g.rules → g ≡ expansion_of defs
+    → length block ≤ 65536 → Spells block defs → AreAllKnown defs → IsAcyclic g.rules → g ≡ expansion_of defs
     → MakesLanguage g (Err fault) → ReadsLanguage block (Err (Binary fault))
-crowded_language block defs g BinaryMemory spells known acyclic e made = tt
-crowded_language block defs g (TooManySymbols count) spells known acyclic e made = (
+crowded_language block defs g BinaryMemory small spells known acyclic e made = tt
+crowded_language block defs g (TooManySymbols count) small spells known acyclic e made = (
+  small,
   defs,
   spells,
   known,
@@ -58,14 +59,15 @@ crowded_language block defs g (TooManySymbols count) spells known acyclic e made
 -- the line that refuses is the fault's
 pub refusal_is : (block : List ℕ) (fault : LanguageFault) (line : List ℕ) → ReadsLanguage block (Err fault) → IsRefusal fault line → IsRefused block line
 refusal_is block (Text TextMemory) line h r = absurd r
-refusal_is block (Text (Unbuilt number)) line h r = unbuilt number h r
+refusal_is block (Text (Unbuilt number)) line h r = unbuilt number h.0 h.1 r
 refusal_is block (Grammar GrammarMemory) line h r = absurd r
-refusal_is block (Grammar (UnknownCategory name number)) line h r = unfit h.0 h.1 (unknown name number h.2 r)
-refusal_is block (Grammar (Cyclic name)) line h r = unfit h.0 h.1 (cyclic name h.2 h.3 r)
+refusal_is block (Grammar (UnknownCategory name number)) line h r = unfit h.1 h.0 h.2 (unknown name number h.3 r)
+refusal_is block (Grammar (Cyclic name)) line h r = unfit h.1 h.0 h.2 (cyclic name h.3 h.4 r)
 refusal_is block (Binary BinaryMemory) line h r = absurd r
 refusal_is block (Binary (TooManySymbols count)) line h r =
-    let g : Expansion = expansion_of h.0 in
-    unfit h.0 h.1 (crowded h.2 h.3 (omega (arith, h.4, h.5)) (r ∙ ap symbols_line h.4))
+    let g : Expansion = expansion_of h.1 in
+    unfit h.1 h.0 h.2 (crowded h.3 h.4 (omega (arith, h.5, h.6)) (r ∙ ap symbols_line h.5))
+refusal_is block (TooLarge count) line h r = large (omega (arith, h.0, h.1)) (r ∙ ap large_line h.0)
 
 -- a reply that was cut short, at a fault's status
 pub cut_short : (block line : List ℕ) (old new : Option (List ℕ)) → IsGrammarLine block line → GrowsByPrefix old new line → (status : Status) → IsWriteStop status → EndsAtGrammar block old new status

@@ -10,7 +10,7 @@ use Rattle.spec_lbnf.specs.Expansion.{Expansion, expansion_of, symbol_count}
 use Rattle.spec_lbnf.specs.FirstForm.{Spells, IsFirstUnbuilt}
 use Rattle.spec_lbnf.specs.Checks.{AreAllKnown, IsFirstUnknown, IsFirstCyclic}
 use Rattle.spec_session.specs.Replies.{IsAccepted, IsRefused, unbuilt_line, unknown_line}
-use Rattle.spec_session.specs.Replies.{cyclic_line, symbols_line}
+use Rattle.spec_session.specs.Replies.{cyclic_line, symbols_line, large_line}
 use Rattle.spec_session.specs.Replies.{grammar_reply, version_reply}
 use Rattle.cyk_io.specs.Streams.{Grows, GrowsByPrefix, Stays}
 use Rattle.lbnf_text.specs.declared.fault.TextFault.TheVariants.{Memory as TextMemory, Unbuilt}
@@ -21,7 +21,7 @@ use Rattle.binary_form.specs.declared.fault.BinaryFault.TheVariants.{Memory as B
 use Rattle.binary_form.specs.declared.fault.BinaryFault.TheVariants.{TooManySymbols}
 use Rattle.valiant.specs.Charts.{ChartValue, IsChartOf}
 use Rattle.chart_service.specs.declared.opening.LanguageFault.{LanguageFault}
-use Rattle.chart_service.specs.declared.opening.LanguageFault.TheVariants.{Text, Grammar, Binary}
+use Rattle.chart_service.specs.declared.opening.LanguageFault.TheVariants.{Text, Grammar, Binary, TooLarge}
 use Rattle.chart_service.specs.declared.language.Language.{Language}
 use Rattle.chart_service.specs.declared.opening.Opened.{Opened}
 use Rattle.chart_service.specs.declared.status.Status.{Status}
@@ -45,17 +45,21 @@ MakesLanguage g (Err (TooManySymbols count)) = (count ≡ symbol_count g) × (20
 abbrev pub ReadsLanguage : List ℕ → Result Language LanguageFault → Type 0
 ReadsLanguage block (Ok language) = IsAccepted block language.grammar × IsFit language.grammar
 ReadsLanguage block (Err (Text TextMemory)) = Unit {0}
-ReadsLanguage block (Err (Text (Unbuilt number))) = IsFirstUnbuilt block number
+ReadsLanguage block (Err (Text (Unbuilt number))) =
+    (length block ≤ 65536) × IsFirstUnbuilt block number
 ReadsLanguage block (Err (Grammar GrammarMemory)) = Unit {0}
 ReadsLanguage block (Err (Grammar (UnknownCategory name number))) =
-    (defs : List Def) × Spells block defs × IsFirstUnknown defs name number
+    (length block ≤ 65536) × (defs : List Def) × Spells block defs
+    × IsFirstUnknown defs name number
 ReadsLanguage block (Err (Grammar (Cyclic name))) =
-    (defs : List Def) × Spells block defs × AreAllKnown defs
+    (length block ≤ 65536) × (defs : List Def) × Spells block defs × AreAllKnown defs
     × IsFirstCyclic (expansion_of defs) name
 ReadsLanguage block (Err (Binary BinaryMemory)) = Unit {0}
 ReadsLanguage block (Err (Binary (TooManySymbols count))) =
-    (defs : List Def) × Spells block defs × AreAllKnown defs × IsAcyclic (expansion_of defs).rules
+    (length block ≤ 65536) × (defs : List Def) × Spells block defs × AreAllKnown defs
+    × IsAcyclic (expansion_of defs).rules
     × (count ≡ symbol_count (expansion_of defs)) × (2048 < count)
+ReadsLanguage block (Err (TooLarge count)) = (count ≡ length block) × (65536 < count)
 
 -- the chart is that of the text's tokens under the grammar
 pub record IsOpened (g : Expansion) (chart : ChartValue) (text : List ℕ)
@@ -73,6 +77,7 @@ IsRefusal (Grammar (UnknownCategory name number)) line = line ≡ unknown_line n
 IsRefusal (Grammar (Cyclic name)) line = line ≡ cyclic_line name
 IsRefusal (Binary BinaryMemory) line = ⊥
 IsRefusal (Binary (TooManySymbols count)) line = line ≡ symbols_line count
+IsRefusal (TooLarge count) line = line ≡ large_line count
 
 -- the reply to the block's grammar: accepted, or refused
 abbrev pub IsGrammarLine : List ℕ → List ℕ → Type 0

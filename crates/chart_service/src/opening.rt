@@ -7,11 +7,13 @@ ghost use Rattle.std.specs.Str.{IsAscii};
 ghost use Rattle.spec_lexing.specs.declared.token.Token.{Token};
 ghost use Rattle.spec_session.specs.Replies.{grammar_reply, version_reply};
 ghost use Rattle.chart_service.specs.Statuses.{IsWriteStop};
+ghost use Rattle.chart_service.specs.Reading.{IsBlock};
 ghost use Rattle.chart_service.specs.Opening.{MakesLanguage, ReadsLanguage, IsFit, IsRefusal};
 ghost use Rattle.chart_service.specs.Opening.{EndsAtGrammar, Accepts, IsOpened, OpensText};
 
 use crate::language::Language;
 use crate::lexing::{kinds_of, tokens_of};
+use crate::reading::Block;
 use crate::status::Status;
 use crate::writing::{finish, say};
 use binary_form::{BinaryFault, binary};
@@ -28,6 +30,8 @@ pub(crate) enum LanguageFault {
     Text(TextFault),
     Grammar(GrammarFault),
     Binary(BinaryFault),
+    /// The block has so many bytes, more than 65,536.
+    TooLarge(u32),
 }
 
 /// The grammar with its binary form, or that it has too many symbols.
@@ -57,6 +61,17 @@ fn read_language(alloc: Global, block: &[u8]) -> Result<Language, LanguageFault>
     }
 }
 
+/// The language of the grammar that the block spells, where the block is not too long.
+fn read_found(alloc: Global, found: &Block) -> Result<Language, LanguageFault>
+    requires found { (block : List ℕ) × IsBlock 65536 found.now block }
+    ensures { (block : List ℕ) → IsBlock 65536 found.now block → ReadsLanguage block result }
+{
+    match found {
+        Block::Kept(bytes) => read_language(alloc, bytes.as_slice()),
+        Block::TooLong(count) => Err(LanguageFault::TooLarge(*count)),
+    }
+}
+
 /// The line that refuses a grammar. There is none for want of memory.
 fn refusal_line(alloc: Global, fault: &LanguageFault) -> Result<String, AllocError>
     ensures { IfOk result (λ text. IsRefusal fault.now (string_bytes text)) }
@@ -76,6 +91,7 @@ fn refusal_line(alloc: Global, fault: &LanguageFault) -> Result<String, AllocErr
         LanguageFault::Binary(BinaryFault::TooManySymbols { count }) => {
             format!(in alloc; "grammar refused symbols {count}\n")
         }
+        LanguageFault::TooLarge(count) => format!(in alloc; "grammar refused large {count}\n"),
         LanguageFault::Text(TextFault::Memory) => Err(AllocError),
         LanguageFault::Grammar(GrammarFault::Memory) => Err(AllocError),
         LanguageFault::Binary(BinaryFault::Memory) => Err(AllocError),
@@ -121,13 +137,18 @@ fn say_grammar<K: Sink>(alloc: Global, sink: &mut K, grammar: &Grammar) -> Resul
 }
 
 /// Accepts the grammar that the block spells and writes its reply, or refuses it.
-pub(crate) fn accept<K: Sink>(alloc: Global, sink: &mut K, block: &[u8]) -> Result<Language, Status>
-    requires small { length block.now ≤ 65536 }
-    ensures ok { Accepts block.now (K.written sink.old) (K.written sink.new) result }
+pub(crate) fn accept<K: Sink>(
+    alloc: Global,
+    sink: &mut K,
+    found: &Block,
+) -> Result<Language, Status>
+    requires found { (block : List ℕ) × IsBlock 65536 found.now block }
+    ensures ok { (block : List ℕ) → IsBlock 65536 found.now block
+        → Accepts block (K.written sink.old) (K.written sink.new) result }
     ensures cause { HasCause (K.faults sink.old) (K.faults sink.new)
         (IsErrOf result Status.WriteFault) }
 {
-    match read_language(alloc, block) {
+    match read_found(alloc, found) {
         Ok(language) => match say_grammar(alloc, sink, &language.grammar) {
             Ok(()) => Ok(language),
             Err(status) => Err(status),

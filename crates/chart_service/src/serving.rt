@@ -47,7 +47,7 @@ fn begin<S: Source, K: Sink>(
     let Some(block) = read_grammar(alloc, source, ahead, line)? else {
         return Err(refuse_script(alloc, sink, start));
     };
-    let language = match accept(alloc, sink, block.as_slice()) {
+    let language = match accept(alloc, sink, &block) {
         Ok(language) => language,
         Err(status) => return Err(status),
     };
