@@ -35,14 +35,14 @@ abbrev pub IsBlock : ℕ → Block → List ℕ → Type 0
 IsBlock keep (Kept bytes) block = (bytes.items ≡ block) × (length block ≤ keep)
 IsBlock keep (TooLong count) block = (count ≡ length block) × (keep < count)
 
--- the block was found, or none was where there is none
+-- what is known is that of the block; where there is none, nothing is
 abbrev pub IsFound : ℕ → Option Block → Option (List ℕ) → Type 0
 IsFound keep None None = Unit {0}
 IsFound keep None (Some block) = ⊥
 IsFound keep (Some found) None = ⊥
 IsFound keep (Some found) (Some block) = IsBlock keep found block
 
--- what was found is what comes next: a block, or none
+-- what was found comes next: a block, or none
 abbrev pub Finds : ℕ → (Option (List ℕ) → Type 0) → Option Block → Type 0
 Finds keep IsNext found = (next : Option (List ℕ)) × IsFound keep found next × IsNext next
 
