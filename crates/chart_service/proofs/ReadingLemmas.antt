@@ -110,7 +110,7 @@ finds_passed keep count from to old new less false h = (None, tt, h)
 -- what was found is what comes
 module _ (keep : ℕ) (P : Option (List ℕ) → Type 0) where
   -- a block that was found comes
-  pub found_block : (found : Block) → Finds keep P (Some found)
+  found_block : (found : Block) → Finds keep P (Some found)
       → (block : List ℕ) × IsBlock keep found block × P (Some block)
   found_block found (None, is, h) = absurd is
   found_block found (Some block, is, h) = (block, is, h)
@@ -131,6 +131,12 @@ module _ (keep : ℕ) (P : Option (List ℕ) → Type 0) where
   pub finds_more : (Q : Option (List ℕ) → Type 0) → ((next : Option (List ℕ)) → P next → Q next)
       → (found : Option Block) → Finds keep P found → Finds keep Q found
   finds_more Q more found h = (h.0, h.1, more h.0 h.2)
+
+-- a grammar that was found is taken
+pub found_grammar : (from to : ℕ) (old new : Option (List ℕ)) (found : Block)
+    → Finds 65536 (NextGrammar from to old new) (Some found)
+    → (block : List ℕ) × IsBlock 65536 found block × TakesCommand from to old new (grammar block)
+found_grammar from to old new found h = found_block 65536 (NextGrammar from to old new) found h
 
 -- a command with a block, read as its line and then its block
 module _ (beginning : List ℕ) (most from : ℕ) (old : Option (List ℕ)) where

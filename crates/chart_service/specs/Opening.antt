@@ -21,7 +21,8 @@ use Rattle.binary_form.specs.declared.fault.BinaryFault.TheVariants.{Memory as B
 use Rattle.binary_form.specs.declared.fault.BinaryFault.TheVariants.{TooManySymbols}
 use Rattle.valiant.specs.Charts.{ChartValue, IsChartOf}
 use Rattle.chart_service.specs.declared.opening.LanguageFault.{LanguageFault}
-use Rattle.chart_service.specs.declared.opening.LanguageFault.TheVariants.{Text, Grammar, Binary, TooLarge}
+use Rattle.chart_service.specs.declared.opening.LanguageFault.TheVariants.{Text, Grammar, Binary}
+use Rattle.chart_service.specs.declared.opening.LanguageFault.TheVariants.{TooLarge}
 use Rattle.chart_service.specs.declared.language.Language.{Language}
 use Rattle.chart_service.specs.declared.opening.Opened.{Opened}
 use Rattle.chart_service.specs.declared.status.Status.{Status}

@@ -3,7 +3,7 @@ use Rattle.std.proofs.Common.{◌<◌, ◌^◌, ℕ, List, Option, arith}
 use Rattle.cyk_io.specs.Streams.{coming}
 use Rattle.spec_session.specs.Script.{grammar}
 use Rattle.chart_service.specs.Reading.{NextGrammar}
-use Rattle.chart_service.proofs.ReadingLemmas.{found_block, found_none}
+use Rattle.chart_service.proofs.ReadingLemmas.{found_grammar, found_none}
 use Rattle.chart_service.proofs.ProgressLemmas.{read_stop, no_header, no_grammar, grammar_ends, text_stopped, no_text, text_opened, taken_room, on_ok}
 use Rattle.chart_service.proofs.serving.begin.Goals as goal
 
@@ -27,16 +27,14 @@ pub accept-requires : goal.accept-requires
 accept-requires g c =
     let next : Option (List ℕ) = coming c.read_header.new.ahead (g.S.Source.left c.read_header.new.source) in
     let later : Option (List ℕ) = coming c.read_grammar.new.ahead (g.S.Source.left c.read_grammar.new.source) in
-    let IsNext : Option (List ℕ) → Type 0 = NextGrammar c.read_header.new.ahead.offset c.read_grammar.new.ahead.offset next later in
-    let found = found_block 65536 IsNext c.in-Some.block (rw c.in-Some.is at c.in_ok-block.ensures.ok) in
+    let found = found_grammar c.read_header.new.ahead.offset c.read_grammar.new.ahead.offset next later c.in-Some.block (rw c.in-Some.is at c.in_ok-block.ensures.ok) in
     record { found = (found.0, found.1) }
 
 pub returns-in-Err-clause-ok : goal.returns-in-Err-clause-ok
 returns-in-Err-clause-ok g c input before comes written =
     let next : Option (List ℕ) = coming c.read_header.new.ahead (g.S.Source.left c.read_header.new.source) in
     let later : Option (List ℕ) = coming c.read_grammar.new.ahead (g.S.Source.left c.read_grammar.new.source) in
-    let IsNext : Option (List ℕ) → Type 0 = NextGrammar c.read_header.new.ahead.offset c.read_grammar.new.ahead.offset next later in
-    let found = found_block 65536 IsNext c.in-Some.block (rw c.in-Some.is at c.in_ok-block.ensures.ok) in
+    let found = found_grammar c.read_header.new.ahead.offset c.read_grammar.new.ahead.offset next later c.in-Some.block (rw c.in-Some.is at c.in_ok-block.ensures.ok) in
     grammar_ends input before c.args.ahead.now.offset c.requires.start (coming c.args.ahead.now (g.S.Source.left c.args.source.now)) comes (g.K.Sink.written c.args.sink.now) written
     c.read_header.new.ahead.offset next (rw c.if-not-found.false at c.in_ok-found.ensures.ok)
     found.0 c.read_grammar.new.ahead.offset later found.2
@@ -46,8 +44,7 @@ pub read_text-requires-clause-room : goal.read_text-requires-clause-room
 read_text-requires-clause-room g c =
     let next : Option (List ℕ) = coming c.read_header.new.ahead (g.S.Source.left c.read_header.new.source) in
     let later : Option (List ℕ) = coming c.read_grammar.new.ahead (g.S.Source.left c.read_grammar.new.source) in
-    let IsNext : Option (List ℕ) → Type 0 = NextGrammar c.read_header.new.ahead.offset c.read_grammar.new.ahead.offset next later in
-    let found = found_block 65536 IsNext c.in-Some.block (rw c.in-Some.is at c.in_ok-block.ensures.ok) in
+    let found = found_grammar c.read_header.new.ahead.offset c.read_grammar.new.ahead.offset next later c.in-Some.block (rw c.in-Some.is at c.in_ok-block.ensures.ok) in
     let near : c.read_grammar.new.ahead.offset < 2 ^ 50 = taken_room c.read_header.new.ahead.offset c.read_grammar.new.ahead.offset next later (grammar found.0) found.2 in
     omega (arith, near)
 
@@ -55,8 +52,7 @@ pub returns-in-Ok-Some-clause-ok : goal.returns-in-Ok-Some-clause-ok
 returns-in-Ok-Some-clause-ok g c input before comes written =
     let next : Option (List ℕ) = coming c.read_header.new.ahead (g.S.Source.left c.read_header.new.source) in
     let later : Option (List ℕ) = coming c.read_grammar.new.ahead (g.S.Source.left c.read_grammar.new.source) in
-    let IsNext : Option (List ℕ) → Type 0 = NextGrammar c.read_header.new.ahead.offset c.read_grammar.new.ahead.offset next later in
-    let found = found_block 65536 IsNext c.in-Some.block (rw c.in-Some.is at c.in_ok-block.ensures.ok) in
+    let found = found_grammar c.read_header.new.ahead.offset c.read_grammar.new.ahead.offset next later c.in-Some.block (rw c.in-Some.is at c.in_ok-block.ensures.ok) in
     let accepted = c.in-Ok.ensures.ok found.0 found.1 in
     text_opened input before c.args.ahead.now.offset c.requires.start (coming c.args.ahead.now (g.S.Source.left c.args.source.now)) comes (g.K.Sink.written c.args.sink.now) written
     c.read_header.new.ahead.offset next (rw c.if-not-found.false at c.in_ok-found.ensures.ok)
@@ -74,8 +70,7 @@ pub returns-in-Ok-None-clause-ok : goal.returns-in-Ok-None-clause-ok
 returns-in-Ok-None-clause-ok g c input before comes written =
     let next : Option (List ℕ) = coming c.read_header.new.ahead (g.S.Source.left c.read_header.new.source) in
     let later : Option (List ℕ) = coming c.read_grammar.new.ahead (g.S.Source.left c.read_grammar.new.source) in
-    let IsNext : Option (List ℕ) → Type 0 = NextGrammar c.read_header.new.ahead.offset c.read_grammar.new.ahead.offset next later in
-    let found = found_block 65536 IsNext c.in-Some.block (rw c.in-Some.is at c.in_ok-block.ensures.ok) in
+    let found = found_grammar c.read_header.new.ahead.offset c.read_grammar.new.ahead.offset next later c.in-Some.block (rw c.in-Some.is at c.in_ok-block.ensures.ok) in
     let accepted = c.in-Ok.ensures.ok found.0 found.1 in
     no_text input before c.args.ahead.now.offset c.requires.start (coming c.args.ahead.now (g.S.Source.left c.args.source.now)) comes (g.K.Sink.written c.args.sink.now) written
     c.read_header.new.ahead.offset next (rw c.if-not-found.false at c.in_ok-found.ensures.ok)
@@ -88,8 +83,7 @@ pub returns-clause-ok : goal.returns-clause-ok
 returns-clause-ok g c input before comes written =
     let next : Option (List ℕ) = coming c.read_header.new.ahead (g.S.Source.left c.read_header.new.source) in
     let later : Option (List ℕ) = coming c.read_grammar.new.ahead (g.S.Source.left c.read_grammar.new.source) in
-    let IsNext : Option (List ℕ) → Type 0 = NextGrammar c.read_header.new.ahead.offset c.read_grammar.new.ahead.offset next later in
-    let found = found_block 65536 IsNext c.in-Some.block (rw c.in-Some.is at c.in_ok-block.ensures.ok) in
+    let found = found_grammar c.read_header.new.ahead.offset c.read_grammar.new.ahead.offset next later c.in-Some.block (rw c.in-Some.is at c.in_ok-block.ensures.ok) in
     let accepted = c.in-Ok.ensures.ok found.0 found.1 in
     text_stopped input before c.args.ahead.now.offset c.requires.start (coming c.args.ahead.now (g.S.Source.left c.args.source.now)) comes (g.K.Sink.written c.args.sink.now) written
     c.read_header.new.ahead.offset next (rw c.if-not-found.false at c.in_ok-found.ensures.ok)
