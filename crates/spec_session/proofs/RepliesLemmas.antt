@@ -10,7 +10,7 @@ use Rattle.spec_lbnf.proofs.FileLemmas.{spelled_or_unbuilt, one_spelling, one_un
 use Rattle.spec_lbnf.proofs.CheckLemmas.{fit_or_unknown, one_unknown}
 use Rattle.spec_lbnf.proofs.CycleLemmas.{acyclic_or_cyclic, one_cyclic}
 use Rattle.spec_session.specs.Script.{Constituent, Command, header, grammar, opens, has}
-use Rattle.spec_session.specs.Replies.{IsAccepted, IsRefused, large, unbuilt, unfit, AreFit, AreUnfit, unknown, cyclic, crowded, large_line, unbuilt_line, unknown_line, cyclic_line, version_reply, HasCategory, IsWithin, IsOutside, IsDerived, IsAnswer, refused_category, refused_span, yes, no, IsCurrent, IsReply}
+use Rattle.spec_session.specs.Replies.{IsAccepted, IsRefused, large, unbuilt, unfit, AreFit, AreUnfit, unknown, cyclic, crowded, unbuilt_line, unknown_line, cyclic_line, version_reply, HasCategory, IsWithin, IsOutside, IsDerived, IsAnswer, refused_category, refused_span, yes, no, IsCurrent, IsReply}
 
 -- a block is accepted as one grammar
 pub one_grammar : (block : List ℕ) (g other : Expansion) → IsAccepted block g → IsAccepted block other →
