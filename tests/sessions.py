@@ -19,6 +19,10 @@ HG = H + b'grammar 33\n' + G + b'\n'
 HGO = HG + b'open 3\na a\n'
 assert (len(G), len(H), len(HG), len(HGO)) == (33, 9, 54, 65)
 
+# A grammar of one byte too many.
+LARGE = G + b' ' * 65504
+assert len(LARGE) == 65537
+
 RULES = b'grammar rules 2 categories 1 kinds 1\n'
 TEXT = b'version 0 tokens 2\n'
 OPENED = RULES + TEXT
@@ -89,10 +93,17 @@ for name, more in [
     ('a negative grammar', b'grammar -1\n\n'),
     ('a grammar in hexadecimal', b'grammar 0x21\n' + G + b'\n'),
     ('a grammar with two numbers', b'grammar 33 33\n' + G + b'\n'),
-    ('a grammar of 65,537 bytes', b'grammar 65537\n' + G + b' ' * 65504 + b'\n' + b'open 3\na a\nend\n'),
-    ('a grammar of nine digits', b'grammar 999999999\n' + G + b'\n'),
+    ('65,537 bytes of a grammar without their LF', b'grammar 65537\n' + LARGE),
+    ('65,537 bytes of a grammar cut short by one byte', b'grammar 65537\n' + LARGE[:-1]),
+    ('65,537 bytes of a grammar and another byte than LF', b'grammar 65537\n' + LARGE + b' open 3\na a\nend\n'),
+    ('a grammar of 65,536 bytes that is told one byte too long', b'grammar 65537\n' + LARGE[:-1] + b'\nopen 3\na a\nend\n'),
+    ('a grammar of 65,537 bytes that is told one byte too short', b'grammar 65536\n' + LARGE + b'\nopen 3\na a\nend\n'),
+    ('65,536 bytes of a grammar cut short by one byte', b'grammar 65536\n' + LARGE[:-2]),
+    ('65,536 bytes of a grammar without their LF', b'grammar 65536\n' + LARGE[:-1]),
+    ('a grammar of nine digits, cut short', b'grammar 999999999\n' + G + b'\n'),
     ('a grammar of ten digits', b'grammar 1000000000\n' + G + b'\n'),
     ('a grammar of ten digits with leading zeros', b'grammar 0000000033\n' + G + b'\n'),
+    ('a large grammar of ten digits with leading zeros', b'grammar 0000065537\n' + LARGE + b'\n'),
     ('the input ends behind the line of the grammar', b'grammar 33\n'),
     ('the input ends inside the grammar', b'grammar 33\n' + G[:20]),
     ('the input ends before the LF of the grammar', b'grammar 33\n' + G),
@@ -312,6 +323,18 @@ case('an empty grammar', with_grammar(b'', open_text(b'a a') + b'has S 0 2\n' + 
      counts(0, 0, 0) + version(2) + b'refused category\nend\n', 0)
 case('a grammar of 65,536 bytes', with_grammar(G + b' ' * 65503, open_text(b'a a') + b'has S 0 2\n' + END),
      RULES + TEXT + b'yes\nend\n', 0)
+
+# A larger block is passed over, whatever is in it, and nothing behind it is read as a command.
+for name, grammar, more in [
+    ('a grammar of 65,537 bytes', LARGE, open_text(b'a a') + END),
+    ('a grammar of 65,537 bytes, behind which the input ends', LARGE, b''),
+    ('a grammar of 65,537 bytes before a broken line', LARGE, b'opens\n'),
+    ('a bad grammar of 65,537 bytes', b'\xff' * 65537, open_text(b'a a') + END),
+    ('a grammar of 65,537 LF', b'\n' * 65537, b'\n' * 9),
+    ('a grammar of 70,000 bytes', G + b' ' * 69967, open_text(b'a a') + END),
+    ('a grammar of 5,000,000 bytes', G + b' ' * 4999967, open_text(b'a a') + END),
+]:
+    case(name, with_grammar(grammar, more), f'grammar refused large {len(grammar)}\n'.encode(), 2)
 
 # ---- Right sides of any length, with texts and questions. The counts are those of rules, categories, kinds and tokens.
 

@@ -1,5 +1,5 @@
 -- Cells and lists that are filled number by number.
-use Rattle.std.proofs.Common.{◌≡◌, ℕ, zero, suc, ◌+◌, ◌<◌, ◌≤◌, ◌↔◌, ◌⊎◌, List, [], ◌∷◌, ◌++◌, Some, Bool, inl, inr, length, length-append, slice_get, refl, sym, subst, arith, Contains}
+use Rattle.std.proofs.Common.{◌≡◌, ℕ, zero, suc, ◌+◌, ◌<◌, ◌≤◌, ◌↔◌, ◌⊎◌, List, [], ◌∷◌, ◌++◌, Some, Bool, inl, inr, length, length-append, slice_get, sym, subst, arith, Contains}
 use Rattle.spec_lbnf.specs.Expansion.{Expansion}
 use Rattle.cell_sets.specs.Cells.{AddsSymbol}
 use Rattle.binary_form.specs.BinaryForm.{IsClosureOf}

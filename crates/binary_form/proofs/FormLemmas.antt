@@ -1,10 +1,10 @@
 -- What the parts of a binary form tell of its grammar.
-use Rattle.std.proofs.Common.{◌≡◌, ℕ, ◌+◌, ◌<◌, ◌↔◌, List, Some, length, slice_get, slice_index, get_or, refl, sym, ap, Contains, arith}
+use Rattle.std.proofs.Common.{◌≡◌, ℕ, ◌+◌, ◌<◌, List, Some, length, slice_index, get_or, refl, sym, ap, arith}
 use Rattle.std.proofs.lemmas.Option.{slice_get_read, slice_get_within}
 use Rattle.spec_grammar.specs.declared.rule.Symbol.TheVariants.{Kind}
 use Rattle.spec_lbnf.specs.Expansion.{Expansion, symbol_count}
 use Rattle.binary_form.specs.Symbols.{BinarySymbol, plain, suffix, IsBinarySymbolOf, number_of}
-use Rattle.binary_form.specs.BinaryForm.{IsNumberOf, IsReachedNumber, IsClosureOf, IsTokenCell}
+use Rattle.binary_form.specs.BinaryForm.{IsNumberOf, IsClosureOf, IsTokenCell}
 use Rattle.binary_form.specs.FirstSuffixes.{AreFirstSuffixes}
 use Rattle.binary_form.specs.Forms.{AreClosures}
 use Rattle.binary_form.proofs.NumberLemmas.{number_is_one}

@@ -1,10 +1,10 @@
 -- Lists that grow by what is given: by one giver more, or by the givers below a higher limit.
-use Rattle.std.proofs.Common.{◌≡◌, ℕ, ◌+◌, ◌<◌, ◌≤◌, ◌↔◌, ◌⊎◌, List, [], ◌∷◌, ◌++◌, Some, None, false, IsTrue, inl, inr, length, slice_get, get_or, take, refl, sym, subst, arith, Contains}
+use Rattle.std.proofs.Common.{◌≡◌, ℕ, ◌+◌, ◌<◌, ◌≤◌, ◌⊎◌, List, [], ◌∷◌, ◌++◌, Some, None, false, IsTrue, inl, inr, length, slice_get, get_or, take, refl, sym, subst, arith, Contains}
 use Rattle.std.proofs.lemmas.Option.{slice_get_read}
 use Rattle.std.proofs.lemmas.List.{take_more, take_all}
 use Rattle.std.proofs.lemmas.List.Elements.{Contains-append_left, Contains-append_right, Contains-append_cases}
 use Rattle.cell_sets.specs.Cells.{IsUnion, IsNextFrom}
-use Rattle.binary_form.specs.Products.{Adds, OneGives, OneGivesBelow, GoesOn, IsInCellAt, WholeGives, IsNextBelow}
+use Rattle.binary_form.specs.Products.{Adds, OneGives, OneGivesBelow, GoesOn, WholeGives, IsNextBelow}
 use Rattle.number_graph.proofs.LinkLemmas.{Contains-one}
 
 -- false is not true
@@ -77,13 +77,6 @@ adds_known {C = C} symbols cells right whole closure old within is known n =
         let same = same_item cells whole inner.0 closure inner.1 at in
         let Has : C → Type 0 = λ c. Contains (symbols c) n in
         known n (subst Has same inner.2)
-
--- a whole that does not go on gives nothing
-pub adds_nothing :
-    {C : Type 0} (symbols : C → List ℕ) (cells : List C) (right : List ℕ) (whole : ℕ) (old : List ℕ)
-    → (GoesOn right whole → ⊥) → Adds (WholeGives symbols cells right whole) old old
-adds_nothing symbols cells right whole old stops n =
-    ((λ has. inl has), elim [ inl kept ↦ kept | inr given ↦ absurd (stops given.0) ])
 
 module _ (Fits : ℕ → Type 0) (xs : List ℕ) where
   -- none of the numbers before the place fits

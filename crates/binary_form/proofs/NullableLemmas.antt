@@ -8,7 +8,7 @@ use Rattle.std.proofs.lemmas.Grind.{get_or-set_at}
 use Rattle.spec_grammar.specs.declared.rule.Symbol.{Symbol}
 use Rattle.spec_grammar.specs.declared.rule.Symbol.TheVariants.{Category, Kind}
 use Rattle.spec_grammar.specs.declared.rule.Rule.{Rule}
-use Rattle.spec_grammar.specs.Derivation.{Derives, DerivesAll, IsNullable}
+use Rattle.spec_grammar.specs.Derivation.{IsNullable}
 use Rattle.spec_lbnf.specs.Expansion.{Expansion, item_count, symbol_count}
 use Rattle.lbnf_grammar.specs.Nullable.{AreNullableFlags}
 use Rattle.binary_form.specs.declared.rows.SuffixRow.{SuffixRow}

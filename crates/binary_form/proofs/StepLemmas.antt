@@ -18,10 +18,9 @@ use Rattle.binary_form.specs.Wholes.{IsWhole, AreWholes}
 use Rattle.binary_form.specs.NullableNumbers.{AreNullableNumbers, IsRestNullable}
 use Rattle.number_graph.specs.Graphs.{IsSet, HasLink, AddsLinks, AreNoLinks}
 use Rattle.binary_form.specs.RowLinks.{IsRowStep, IsRowWhole, IsLinkOfRows, AreLinksOfRows, AreUnitSteps}
-use Rattle.spec_grammar.proofs.DerivationLemmas.{none_derive}
-use Rattle.binary_form.proofs.NumberLemmas.{number_is_one, number-suffix-suc}
+use Rattle.binary_form.proofs.NumberLemmas.{number-suffix-suc}
 use Rattle.binary_form.proofs.ItemLemmas.{items_behind, same_rule, symbol_item}
-use Rattle.binary_form.proofs.RowLemmas.{number_below, whole_number, next_number, goes_on, none_or_more, row_at, same_item}
+use Rattle.binary_form.proofs.RowLemmas.{number_below, whole_number, next_number, goes_on, row_at, same_item}
 use Rattle.binary_form.proofs.NullableLemmas.{alike, number_empty, rest_empty}
 use Rattle.number_graph.proofs.LinkLemmas.{no_link, adds_both, adds_tested}
 

@@ -10,7 +10,7 @@ use Rattle.binary_form.specs.Symbols.{BinarySymbol, plain, suffix, BinaryDerives
 use Rattle.binary_form.specs.Symbols.{number_of}
 use Rattle.binary_form.specs.UnitSteps.{HasItem, Reaches}
 
--- the number is that of a symbol of the grammar
+-- the number is that of this symbol, which is one of the grammar's
 abbrev pub IsNumberOf : Expansion → BinarySymbol → ℕ → Type 0
 IsNumberOf g a n = IsBinarySymbolOf g a × (number_of g a ≡ n)
 
@@ -59,7 +59,7 @@ abbrev pub AddsProductOf : Expansion → List ℕ → List ℕ → List ℕ → 
 AddsProductOf g left right old new =
     (n : ℕ) → Contains new n ↔ (Contains old n ⊎ IsProductNumber g left right n)
 
--- the product of the two cells has a symbol
+-- some number is in the product of the two cells
 abbrev pub HasProduct : Expansion → List ℕ → List ℕ → Type 0
 HasProduct g left right = (n : ℕ) × IsProductNumber g left right n
 

@@ -1,5 +1,5 @@
 -- What a binary form keeps of its grammar. Serves the proofs alone.
-use Rattle.std.specs.Prelude.{◌≡◌, ℕ, ◌≤◌, List, [], Some, Bool, length, slice_get}
+use Rattle.std.specs.Prelude.{◌≡◌, ℕ, ◌≤◌, List, Some, Bool, length, slice_get}
 use Rattle.spec_lbnf.specs.Expansion.{Expansion, HasOwnSymbols, symbol_count}
 use Rattle.binary_form.specs.BinaryForm.{IsClosureOf}
 use Rattle.binary_form.specs.FirstSuffixes.{AreFirstSuffixes}

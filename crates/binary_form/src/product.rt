@@ -87,8 +87,8 @@ fn with_wholes<C: Cell>(
     Ok(cell)
 }
 
-/// The cell with the closures of all wholes that begin with a symbol of the left cell and go on with
-/// one of the right cell.
+/// The cell with the closures of all wholes that begin with a symbol of the left cell and go on
+/// with one of the right cell.
 pub fn product_of<C: Cell>(
     alloc: Global,
     closures: &[C],

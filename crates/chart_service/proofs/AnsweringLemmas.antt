@@ -1,6 +1,5 @@
 -- What the chart has is what the grammar derives, and an empty span is derived where the category is nullable.
-use Rattle.std.proofs.Common.{◌≡◌, ℕ, ◌<◌, ◌≤◌, ◌↔◌, List, [], length, Bool, IsTrue, Contains, refl, sym, subst, ◌∙◌, ap, arith}
-use Rattle.spec_grammar.specs.declared.rule.Symbol.{Symbol}
+use Rattle.std.proofs.Common.{◌≡◌, ℕ, ◌<◌, ◌≤◌, ◌↔◌, List, [], length, Bool, IsTrue, Contains, sym, subst, ap, arith}
 use Rattle.spec_grammar.specs.declared.rule.Symbol.TheVariants.{Category}
 use Rattle.spec_grammar.specs.Derivation.{Derives}
 use Rattle.spec_grammar.proofs.DerivationLemmas.{nullable_derives}

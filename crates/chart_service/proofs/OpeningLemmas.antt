@@ -1,19 +1,19 @@
 -- Accepting a grammar or refusing it, and opening a text.
-use Rattle.std.proofs.Common.{◌≡◌, ℕ, inl, inr, List, length, Option, Ok, Err, ◌≤◌, arith, sym, ◌∙◌, ap, subst}
+use Rattle.std.proofs.Common.{◌≡◌, ℕ, inl, inr, List, length, Option, Some, None, Ok, Err, ◌≤◌, arith, sym, ◌∙◌, ap, subst, option_map}
+use Rattle.std.specs.Option.{IfSome}
 use Rattle.std.proofs.lemmas.List.{length-map}
+use Rattle.std.proofs.lemmas.Option.{same_Some, none-some}
 use Rattle.spec_lbnf.proofs.NameLemmas.{distinct_names}
 use Rattle.cyk_io.specs.Streams.{GrowsByPrefix}
 use Rattle.spec_lexing.specs.declared.token.Token.{Token}
 use Rattle.spec_lbnf.specs.declared.definition.Def.{Def}
-use Rattle.spec_grammar.specs.Cycles.{IsAcyclic}
 use Rattle.spec_lbnf.specs.Expansion.{Expansion, expansion_of, symbol_count}
-use Rattle.spec_lbnf.specs.FirstForm.{Spells}
-use Rattle.spec_lbnf.specs.Checks.{AreAllKnown}
-use Rattle.spec_session.specs.Replies.{IsAccepted, IsRefused, AreFit, unbuilt, unfit, unknown, cyclic, crowded, symbols_line, version_reply}
-use Rattle.lbnf_text.specs.declared.fault.TextFault.TheVariants.{Memory as TextMemory, Unbuilt}
-use Rattle.lbnf_grammar.specs.declared.fault.GrammarFault.{GrammarFault}
-use Rattle.lbnf_grammar.specs.declared.fault.GrammarFault.TheVariants.{Memory as GrammarMemory, UnknownCategory, Cyclic}
-use Rattle.lbnf_grammar.specs.Grammars.{Expands}
+use Rattle.spec_lbnf.specs.Faults.{Spells, IsFirstFault, FileFault, too_large, is_large}
+use Rattle.spec_lbnf.specs.Checks.{AreFit, IsUnfit, Unfitness}
+use Rattle.spec_session.specs.Replies.{IsRefused, IsRefusedFor, AreAccepted, faulty, unfit, crowded, fault_reason, unfit_reason, symbols_reason, version_reply}
+use Rattle.lbnf_text.specs.Reading.{file_fault_of}
+use Rattle.lbnf_text.specs.declared.fault.TextFault.TheVariants.{TooLarge}
+use Rattle.lbnf_grammar.specs.Grammars.{unfitness_of}
 use Rattle.binary_form.specs.declared.fault.BinaryFault.{BinaryFault}
 use Rattle.binary_form.specs.declared.fault.BinaryFault.TheVariants.{Memory as BinaryMemory, TooManySymbols}
 use Rattle.valiant.specs.Charts.{ChartValue}
@@ -24,7 +24,7 @@ use Rattle.chart_service.specs.declared.status.Status.{Status}
 use Rattle.chart_service.specs.declared.status.Status.TheVariants.{Ok as Fine, BadGrammar, BadScript, ReadFault, WriteFault, OutOfMemory}
 use Rattle.chart_service.specs.Statuses.{IsWriteStop}
 use Rattle.chart_service.specs.Writing.{EndsWith}
-use Rattle.chart_service.specs.Opening.{IsFit, MakesLanguage, ReadsLanguage, IsRefusal, IsGrammarLine, EndsAtGrammar, IsOpened, IsTextLine, EndsAtText}
+use Rattle.chart_service.specs.Opening.{IsFit, MakesLanguage, ReadsLanguage, reason_of, IsRefusal, IsGrammarLine, EndsAtGrammar, IsOpened, IsTextLine, EndsAtText}
 
 -- no category's text stands twice in the grammar that definitions stand for
 spelled_fit : (defs : List Def) (g : Expansion) → g ≡ expansion_of defs → IsFit g
@@ -32,49 +32,51 @@ spelled_fit defs g e = subst IsFit (sym e) (record { distinct = (distinct_names 
 
 -- the language of what a block spells is accepted, where the definitions are fit
 pub accepted : (block : List ℕ) (defs : List Def) (g : Expansion) (language : Language)
-    → Spells block defs → AreAllKnown defs → IsAcyclic g.rules → g ≡ expansion_of defs
-    → MakesLanguage g (Ok language) → ReadsLanguage block (Ok language)
-accepted block defs g language spells known acyclic e made =
+    → Spells block defs → AreFit defs → g ≡ expansion_of defs → MakesLanguage g (Ok language)
+    → ReadsLanguage block (Ok language)
+accepted block defs g language spells fit e made =
     let same : language.grammar ≡ expansion_of defs = made.1 ∙ e in
-    let fit : AreFit defs = record {
-      known = known;
-      acyclic = subst (λ (x : Expansion). IsAcyclic x.rules) e acyclic;
+    let all : AreAccepted defs = record {
+      fit = fit;
       few = subst (λ (x : Expansion). symbol_count x ≤ 2048) e made.0;
     } in
-    ((defs, spells, fit, same), spelled_fit defs language.grammar same)
+    ((defs, spells, all, same), spelled_fit defs language.grammar same)
 
 -- a grammar of too many symbols is refused for their count
 pub crowded_language : (block : List ℕ) (defs : List Def) (g : Expansion) (fault : BinaryFault)
-    → Spells block defs → AreAllKnown defs → IsAcyclic g.rules → g ≡ expansion_of defs
-    → MakesLanguage g (Err fault) → ReadsLanguage block (Err (Binary fault))
-crowded_language block defs g BinaryMemory spells known acyclic e made = tt
-crowded_language block defs g (TooManySymbols count) spells known acyclic e made = (
-  defs,
-  spells,
-  known,
-  subst (λ (x : Expansion). IsAcyclic x.rules) e acyclic,
-  made.0 ∙ ap symbol_count e,
-  made.1,
-)
+    → Spells block defs → AreFit defs → g ≡ expansion_of defs → MakesLanguage g (Err fault)
+    → ReadsLanguage block (Err (Binary fault))
+crowded_language block defs g BinaryMemory spells fit e made = tt
+crowded_language block defs g (TooManySymbols count) spells fit e made =
+    (defs, spells, fit, made.0 ∙ ap symbol_count e, made.1)
 
--- what keeps definitions from being a grammar keeps the block from being accepted
-pub unfit_language : (block : List ℕ) (defs : List Def) (fault : GrammarFault)
-    → Spells block defs → Expands defs (Err fault) → ReadsLanguage block (Err (Grammar fault))
-unfit_language block defs GrammarMemory spells why = tt
-unfit_language block defs (UnknownCategory name number) spells why = (defs, spells, why)
-unfit_language block defs (Cyclic name) spells why = (defs, spells, why.0, why.1)
+-- a block of too many bytes has this as its first fault
+pub too_long : (block : List ℕ) (count : ℕ) → count ≡ length block → 65536 < count
+    → ReadsLanguage block (Err (Text (TooLarge count)))
+too_long block count is many = is_large (omega (arith, is, many)) (ap too_large is)
+
+-- a reason that is told of a value is that of the value
+told : {A : Type 0} (reason_for : A → List ℕ) (Holds : A → Type 0) (value : Option A) (reason : List ℕ)
+    → IfSome value Holds → option_map reason_for value ≡ Some reason → (x : A) × Holds x × (reason ≡ reason_for x)
+told reason_for Holds (Some x) reason holds is = (x, holds, sym (same_Some (reason_for x) reason is))
+told reason_for Holds None reason holds is = absurd (none-some reason is)
+
+-- the reason that is told is one for which the block is refused
+reason_is : (block : List ℕ) (fault : LanguageFault) (reason : List ℕ) → ReadsLanguage block (Err fault)
+    → reason_of fault ≡ Some reason → IsRefusedFor block reason
+reason_is block (Text fault) reason h is =
+    let first = told fault_reason (IsFirstFault block) (file_fault_of fault) reason h is in
+    faulty first.0 first.1 first.2
+reason_is block (Grammar fault) reason h is =
+    let why = told unfit_reason (IsUnfit h.0) (unfitness_of fault) reason h.2 is in
+    unfit h.0 why.0 h.1 why.1 why.2
+reason_is block (Binary BinaryMemory) reason h is = absurd (none-some reason is)
+reason_is block (Binary (TooManySymbols count)) reason h is =
+    crowded h.0 h.1 h.2 (omega (arith, h.3, h.4)) (sym (same_Some (symbols_reason count) reason is) ∙ ap symbols_reason h.3)
 
 -- the line that refuses is the fault's
 pub refusal_is : (block : List ℕ) (fault : LanguageFault) (line : List ℕ) → ReadsLanguage block (Err fault) → IsRefusal fault line → IsRefused block line
-refusal_is block (Text TextMemory) line h r = absurd r
-refusal_is block (Text (Unbuilt number)) line h r = unbuilt number h r
-refusal_is block (Grammar GrammarMemory) line h r = absurd r
-refusal_is block (Grammar (UnknownCategory name number)) line h r = unfit h.0 h.1 (unknown name number h.2 r)
-refusal_is block (Grammar (Cyclic name)) line h r = unfit h.0 h.1 (cyclic name h.2 h.3 r)
-refusal_is block (Binary BinaryMemory) line h r = absurd r
-refusal_is block (Binary (TooManySymbols count)) line h r =
-    let g : Expansion = expansion_of h.0 in
-    unfit h.0 h.1 (crowded h.2 h.3 (omega (arith, h.4, h.5)) (r ∙ ap symbols_line h.4))
+refusal_is block fault line h (reason, is, whole) = (reason, reason_is block fault reason h is, whole)
 
 -- a reply that was cut short, at a fault's status
 pub cut_short : (block line : List ℕ) (old new : Option (List ℕ)) → IsGrammarLine block line → GrowsByPrefix old new line → (status : Status) → IsWriteStop status → EndsAtGrammar block old new status

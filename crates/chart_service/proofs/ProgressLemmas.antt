@@ -287,10 +287,10 @@ module _ (input before : List ℕ) (coming : Option (List ℕ)) (at : ℕ) (now 
         now new r.has_written cut status fault
 
 -- a command is short
-text_is_short : (command : Command) → IsWithinLimits command → length (text_of command) ≤ 2 ^ 18
+text_is_short : (command : Command) → IsWithinLimits command → length (text_of command) ≤ 2 ^ 30
 text_is_short command w = omega (arith, length-append (line_of command) (10 ∷ block_of command), line_is_short command w, block_is_short command w)
   where
-    block_is_short : (command : Command) → IsWithinLimits command → length (block_of command) ≤ 65537
+    block_is_short : (command : Command) → IsWithinLimits command → length (block_of command) ≤ 10 ^ 9
     block_is_short header w = omega arith
     block_is_short (grammar block) w = omega (arith, w, length-append block (10 ∷ []))
     block_is_short (opens text) w = omega (arith, w.0, length-append text (10 ∷ []))

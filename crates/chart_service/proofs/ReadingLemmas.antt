@@ -1,15 +1,20 @@
 -- Lines and blocks in the bytes that come: a line has one first LF, and what follows a command's line is its block.
 use Rattle.std.proofs.Common.{◌≡◌, ℕ, suc, ◌+◌, ◌^◌, ◌<◌, ◌≤◌, List, [], ◌∷◌, ◌++◌, length, drop, get_or, decimal, codes, IsAscii, Vec, Global, MatchOption, option_map, Option, Some, None, Result, Ok, Err, IfOk, Bool, true, false, nat_eq, refl, sym, ◌∙◌, ap, subst, arith, append_assoc, length-append}
 use lib.Pointwise.{pointwise, bytes_decides}
+use Rattle.std.specs.Bool.{then_some}
+use Rattle.std.specs.Option.{is_some}
 use Rattle.std.proofs.lemmas.Fmt.{decimal_injective}
+use Rattle.std.proofs.lemmas.List.{nil_from_length}
 use Rattle.cyk_io.specs.Streams.{Takes}
 use Rattle.cyk_io.specs.Lines.{HasNoLf, IsLine, LineReads}
 use Rattle.cyk_io.specs.Blocks.{BlockReads}
-use Rattle.cyk_io.specs.declared.block.ReadBlock.TheVariants.{Kept}
+use Rattle.cyk_io.specs.declared.block.ReadBlock.TheVariants.{Kept, Skipped}
 use Rattle.cyk_io.specs.declared.line.ReadLine.TheVariants.{LongLine, Ended}
 use Rattle.spec_session.specs.Script.{Command, header, grammar, opens, has, line_of, text_of, IsWithinLimits}
-use Rattle.spec_session.proofs.ScriptLemmas.{tested, each_differs, lacks_if_each_differs, lacks_joined, cut_same, same_rest, same_front, digits_lack, line_lacks_lf, line_is_short, command_line}
-use Rattle.chart_service.specs.Reading.{NextLine, NextBlock, NextCounted, counted_text, TakesCommand, NoneComes, IsHeader, IsGrammar, NextHeader, NextGrammar, NextText}
+use Rattle.spec_session.proofs.ScriptLemmas.{tested, each_differs, lacks_if_each_differs, lacks_joined, cut_same, same_rest, same_front, same_back, digits_lack, line_lacks_lf, line_is_short, command_line}
+use Rattle.chart_service.specs.declared.reading.Block.{Block}
+use Rattle.chart_service.specs.declared.reading.Block.TheVariants.{Kept as KeptBlock, TooLong}
+use Rattle.chart_service.specs.Reading.{NextLine, NextBlock, PassesBlock, IsBlock, Finds, NextCounted, counted_text, TakesCommand, NoneComes, IsHeader, IsGrammar, NextHeader, NextGrammar, NextText}
 
 -- a line does not end within bytes that have no LF
 no_line_within : (front rest line more : List ℕ) → HasNoLf front → length line < length front → front ++ rest ≡ line ++ (10 ∷ more) → ⊥
@@ -66,6 +71,72 @@ takes_both old mid new first second a b told is =
     let t = a told is in
     let u = b t.0 t.1 in
     (u.0, u.1, t.2 ∙ ap (λ bytes. first ++ bytes) u.2 ∙ sym (append_assoc first second u.0))
+
+-- a block that is passed over, and the LF or another byte behind it
+module _ (count from mid_at to : ℕ) (old mid new : Option (List ℕ)) (into : List ℕ)
+    (skipped : BlockReads count 0 from mid_at old mid into Skipped) where
+  -- an LF ends the block
+  passed_block : (block : List ℕ) → NextBlock 0 mid_at to mid new (Some block)
+      → PassesBlock count from to old new true
+  passed_block block h =
+      let bytes : List ℕ = skipped.0.0 in
+      let P : List ℕ → Type 0 = λ rest. Takes mid new (rest ++ 10 ∷ []) in
+      let lf : Takes mid new (10 ∷ []) = subst P (nil_from_length block h.1) h.0 in
+      let both = takes_both old mid new bytes (10 ∷ []) skipped.0.1 lf in
+      (bytes, (both, skipped.0.2, omega (arith, h.2, skipped.3)))
+
+  -- behind another byte no block of so many bytes has come
+  no_passed_block : NextBlock 0 mid_at to mid new None → PassesBlock count from to old new false
+  no_passed_block h told is block more size e =
+      let bytes : List ℕ = skipped.0.0 in
+      let t = skipped.0.1 told is in
+      let long : length bytes ≡ length block = skipped.0.2 ∙ sym size in
+      let behind : t.0 ≡ 10 ∷ more = same_back bytes t.0 block (10 ∷ more) long (sym t.2 ∙ e) in
+      h t.0 t.1 [] more refl behind
+
+  -- by cases on whether the LF was read
+  pub passed : (r : Option (Vec ℕ Global)) → NextBlock 0 mid_at to mid new (option_map (λ b. b.items) r)
+      → PassesBlock count from to old new (is_some r)
+  passed None h = no_passed_block h
+  passed (Some bytes) h = passed_block bytes.items h
+
+-- a block that was passed over is found by its length
+pub finds_passed : (keep count from to : ℕ) (old new : Option (List ℕ)) → keep < count → (passed : Bool)
+    → PassesBlock count from to old new passed
+    → Finds keep (NextBlock count from to old new) (then_some passed (TooLong count))
+finds_passed keep count from to old new less true h = (Some h.0, (sym h.1.1, less), h.1)
+finds_passed keep count from to old new less false h = (None, tt, h)
+
+-- what was found is what comes
+module _ (keep : ℕ) (P : Option (List ℕ) → Type 0) where
+  -- a block that was found comes
+  found_block : (found : Block) → Finds keep P (Some found)
+      → (block : List ℕ) × IsBlock keep found block × P (Some block)
+  found_block found (None, is, h) = absurd is
+  found_block found (Some block, is, h) = (block, is, h)
+
+  -- bytes that were found are the block that comes
+  pub found_bytes : (bytes : Vec ℕ Global) → Finds keep P (Some (KeptBlock bytes)) → P (Some bytes.items)
+  found_bytes bytes (None, is, h) = absurd is
+  found_bytes bytes (Some block, is, h) =
+      let Q : List ℕ → Type 0 = λ items. P (Some items) in
+      subst Q (sym is.0) h
+
+  -- where none was found, none comes
+  pub found_none : Finds keep P None → P None
+  found_none (None, is, h) = h
+  found_none (Some block, is, h) = absurd is
+
+  -- what comes is more
+  pub finds_more : (Q : Option (List ℕ) → Type 0) → ((next : Option (List ℕ)) → P next → Q next)
+      → (found : Option Block) → Finds keep P found → Finds keep Q found
+  finds_more Q more found h = (h.0, h.1, more h.0 h.2)
+
+-- a grammar that was found is taken
+pub found_grammar : (from to : ℕ) (old new : Option (List ℕ)) (found : Block)
+    → Finds 65536 (NextGrammar from to old new) (Some found)
+    → (block : List ℕ) × IsBlock 65536 found block × TakesCommand from to old new (grammar block)
+found_grammar from to old new found h = found_block 65536 (NextGrammar from to old new) found h
 
 -- a command with a block, read as its line and then its block
 module _ (beginning : List ℕ) (most from : ℕ) (old : Option (List ℕ)) where
@@ -137,16 +208,16 @@ module _ (from : ℕ) (old : Option (List ℕ)) where
     other_line line h other told is early (has constituent) more one w e = absurd one
 
     -- a grammar
-    grammar_taken : (block : List ℕ) → NextCounted (codes "grammar ") 65536 from to old new (Some block) → TakesCommand from to old new (grammar block)
-    grammar_taken block h = record { early = h.0; within_limits = h.1; taken = h.2; offset = h.3 }
+    grammar_taken : (block : List ℕ) → NextCounted (codes "grammar ") 999999999 from to old new (Some block) → TakesCommand from to old new (grammar block)
+    grammar_taken block h = record { early = h.0; within_limits = omega (arith, h.1); taken = h.2; offset = h.3 }
 
-    no_grammar : NextCounted (codes "grammar ") 65536 from to old new None → NoneComes IsGrammar from old
+    no_grammar : NextCounted (codes "grammar ") 999999999 from to old new None → NoneComes IsGrammar from old
     no_grammar h told is early header more one w e = absurd one
-    no_grammar h told is early (grammar block) more one w e = h told is early block more w (line_within (grammar block) w) e
+    no_grammar h told is early (grammar block) more one w e = h told is early block more (omega (arith, w)) (line_within (grammar block) w) e
     no_grammar h told is early (opens text) more one w e = absurd one
     no_grammar h told is early (has constituent) more one w e = absurd one
 
-    pub next_grammar : (r : Option (List ℕ)) → NextCounted (codes "grammar ") 65536 from to old new r → NextGrammar from to old new r
+    pub next_grammar : (r : Option (List ℕ)) → NextCounted (codes "grammar ") 999999999 from to old new r → NextGrammar from to old new r
     next_grammar (Some block) h = grammar_taken block h
     next_grammar None h = no_grammar h
 

@@ -1,20 +1,21 @@
--- Serves the proofs alone: what is known of a grammar that was accepted and of a text that is open under it.
+-- Serves the proofs alone: what is known of a grammar that was accepted and of a text that is open
+-- under it.
 use Rattle.std.specs.Prelude.{◌≡◌, ◌<◌, ◌≤◌, ℕ, ◌⊎◌, List, length, slice_get, Some}
-use Rattle.std.specs.Prelude.{Option, Result, Ok, Err}
-use Rattle.spec_grammar.specs.Cycles.{IsAcyclic}
+use Rattle.std.specs.Prelude.{Option, None, Result, Ok, Err, option_map}
 use Rattle.spec_lexing.specs.declared.token.Token.{Token}
 use Rattle.spec_lexing.specs.Tokens.{AreTokensOf, kinds_of}
 use Rattle.spec_lbnf.specs.declared.definition.Def.{Def}
 use Rattle.spec_lbnf.specs.Expansion.{Expansion, expansion_of, symbol_count}
-use Rattle.spec_lbnf.specs.FirstForm.{Spells, IsFirstUnbuilt}
-use Rattle.spec_lbnf.specs.Checks.{AreAllKnown, IsFirstUnknown, IsFirstCyclic}
-use Rattle.spec_session.specs.Replies.{IsAccepted, IsRefused, unbuilt_line, unknown_line}
-use Rattle.spec_session.specs.Replies.{cyclic_line, symbols_line}
+use Rattle.spec_lbnf.specs.Faults.{Spells}
+use Rattle.spec_lbnf.specs.Checks.{AreFit}
+use Rattle.spec_session.specs.Replies.{IsAccepted, IsRefused, fault_reason, unfit_reason}
+use Rattle.spec_session.specs.Replies.{symbols_reason, refusal_line}
 use Rattle.spec_session.specs.Replies.{grammar_reply, version_reply}
 use Rattle.cyk_io.specs.Streams.{Grows, GrowsByPrefix, Stays}
-use Rattle.lbnf_text.specs.declared.fault.TextFault.TheVariants.{Memory as TextMemory, Unbuilt}
-use Rattle.lbnf_grammar.specs.declared.fault.GrammarFault.TheVariants.{Memory as GrammarMemory}
-use Rattle.lbnf_grammar.specs.declared.fault.GrammarFault.TheVariants.{UnknownCategory, Cyclic}
+use Rattle.lbnf_text.specs.declared.fault.TextFault.{TextFault}
+use Rattle.lbnf_text.specs.Reading.{file_fault_of, ReadsDefs}
+use Rattle.lbnf_grammar.specs.declared.fault.GrammarFault.{GrammarFault}
+use Rattle.lbnf_grammar.specs.Grammars.{unfitness_of, Expands}
 use Rattle.binary_form.specs.declared.fault.BinaryFault.{BinaryFault}
 use Rattle.binary_form.specs.declared.fault.BinaryFault.TheVariants.{Memory as BinaryMemory}
 use Rattle.binary_form.specs.declared.fault.BinaryFault.TheVariants.{TooManySymbols}
@@ -33,10 +34,11 @@ pub record IsFit (g : Expansion) : Type 0 where
   pub distinct : (c d : ℕ) (name : List ℕ) → slice_get g.categories c ≡ Some name
       → slice_get g.categories d ≡ Some name → c ≡ d
 
--- the language is the grammar's, or the grammar has too many symbols; want of memory is free
+-- the language is the grammar's, or the grammar has too many symbols; want of memory comes at no
+-- grammar of too many
 abbrev pub MakesLanguage : Expansion → Result Language BinaryFault → Type 0
 MakesLanguage g (Ok language) = (symbol_count g ≤ 2048) × (language.grammar ≡ g)
-MakesLanguage g (Err BinaryMemory) = Unit {0}
+MakesLanguage g (Err BinaryMemory) = symbol_count g ≤ 2048
 MakesLanguage g (Err (TooManySymbols count)) = (count ≡ symbol_count g) × (2048 < count)
 
 -- the grammar that the block spells, or why it is refused; want of memory is free
@@ -82,7 +84,8 @@ abbrev pub IsGrammarLine : List ℕ → List ℕ → Type 0
 IsGrammarLine block line =
     IsRefused block line ⊎ ((g : Expansion) × IsAccepted block g × (line ≡ grammar_reply g))
 
--- the session was ended at the block's grammar: it is refused with its line, or a fault left a prefix of its reply
+-- the session was ended at the block's grammar: it is refused with its line, or a fault left a
+-- prefix of its reply
 abbrev pub EndsAtGrammar : List ℕ → Option (List ℕ) → Option (List ℕ) → Status → Type 0
 EndsAtGrammar block old new BadGrammar = (line : List ℕ) × IsRefused block line × Grows old new line
 EndsAtGrammar block old new WriteFault =

@@ -11,7 +11,8 @@ use Rattle.chart_service.specs.Statuses.{number_of}
 use Rattle.chart_service.specs.Serving.{IsFaultStatus, IsPrefixOfSession}
 use Rattle.chart_service.specs.Opening.{IsOpened}
 
--- the commands so far are a grammar that was accepted, a text and questions, what comes stands behind them, and their replies were written
+-- the commands so far are a grammar that was accepted, a text and questions, what comes stands
+-- behind them, and their replies were written
 pub record Running (input before : List ℕ) (coming : Option (List ℕ)) (at : ℕ)
     (now : Option (List ℕ)) (opened : Opened) : Type 0 where
   pub block : List ℕ

@@ -4,6 +4,8 @@ use Rattle.std.specs.Prelude.{Bool, true, false, Option, None, Some}
 use Rattle.cyk_io.specs.Streams.{Takes}
 use Rattle.cyk_io.specs.Lines.{IsLine}
 use Rattle.spec_session.specs.Script.{Command, header, grammar, opens, has, text_of, IsWithinLimits}
+use Rattle.chart_service.specs.declared.reading.Block.{Block}
+use Rattle.chart_service.specs.declared.reading.Block.TheVariants.{Kept, TooLong}
 
 -- a line was taken, or none of at most 256 bytes begins at this offset, below 2 ^ 48
 abbrev pub NextLine : ℕ → ℕ → Option (List ℕ) → Option (List ℕ) → List ℕ → Bool → Type 0
@@ -21,6 +23,28 @@ NextBlock count from to old new (Some block) =
 NextBlock count from to old new None =
     (told : List ℕ) → old ≡ Some told → (block more : List ℕ) → length block ≡ count
     → told ≡ block ++ (10 ∷ more) → ⊥
+
+-- the block of so many bytes and its LF were passed over, or do not come
+abbrev pub PassesBlock : ℕ → ℕ → ℕ → Option (List ℕ) → Option (List ℕ) → Bool → Type 0
+PassesBlock count from to old new true =
+    (block : List ℕ) × NextBlock count from to old new (Some block)
+PassesBlock count from to old new false = NextBlock count from to old new None
+
+-- what is known of the block: its bytes, where they are at most so many, or else how many they are
+abbrev pub IsBlock : ℕ → Block → List ℕ → Type 0
+IsBlock keep (Kept bytes) block = (bytes.items ≡ block) × (length block ≤ keep)
+IsBlock keep (TooLong count) block = (count ≡ length block) × (keep < count)
+
+-- what is known is that of the block; where there is none, nothing is
+abbrev pub IsFound : ℕ → Option Block → Option (List ℕ) → Type 0
+IsFound keep None None = Unit {0}
+IsFound keep None (Some block) = ⊥
+IsFound keep (Some found) None = ⊥
+IsFound keep (Some found) (Some block) = IsBlock keep found block
+
+-- what was found comes next: a block, or none
+abbrev pub Finds : ℕ → (Option (List ℕ) → Type 0) → Option Block → Type 0
+Finds keep IsNext found = (next : Option (List ℕ)) × IsFound keep found next × IsNext next
 
 -- the line of a block's command, and the block
 abbrev pub counted_text : List ℕ → List ℕ → List ℕ

@@ -1,4 +1,5 @@
--- What `serve` promises: the session that its input defines, or a prefix of it and a fault's status.
+-- What `serve` promises: the session that its input defines, or a prefix of it and a fault's
+-- status.
 use Rattle.std.specs.Prelude.{◌≡◌, ℕ, ◌<◌, ◌≤◌, ◌^◌, ◌⊎◌, List, ◌++◌, Option, Some}
 use Rattle.spec_session.specs.Sessions.{IsSession}
 use Rattle.chart_service.specs.declared.options.Options.{Options}
@@ -26,8 +27,9 @@ IsPrefixOfSession input written =
     (out : List ℕ) (status : ℕ) → IsSession input out status
     → (rest : List ℕ) × (out ≡ written ++ rest)
 
--- where the source tells its bytes and the sink those written: the new bytes and the status are the session of the
--- source's bytes, or the status is a fault's and the new bytes are a prefix of the session's
+-- where the source tells its bytes and the sink those written: the new bytes and the status are the
+-- session of the source's bytes, or the status is a fault's and the new bytes are a prefix of the
+-- session's
 abbrev pub WritesSession : Option (List ℕ) → Option (List ℕ) → Option (List ℕ) → ℕ → Type 0
 WritesSession left old new status =
     (input before : List ℕ) → left ≡ Some input → old ≡ Some before

@@ -69,7 +69,8 @@ fn is_derived(opened: &Opened, category: u16, first: u32, end: u32) -> bool
     ensures { (text : List ℕ) (tokens : List Token)
         → IsOpened opened.now.language.grammar opened.now.chart text tokens
         → IsTrue result
-        ↔ Derives opened.now.language.grammar.rules (kinds_of tokens) (Category category) first end }
+        ↔ Derives opened.now.language.grammar.rules (kinds_of tokens)
+        (Category category) first end }
 {
     let symbol = opened.language.binary.symbol_of(Symbol::Category(category));
     if first < end {

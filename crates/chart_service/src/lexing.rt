@@ -208,49 +208,64 @@ mod tests {
         Ok(kinds)
     }
 
+    /// The tokens of the text, where the kinds are these words.
+    fn cut(alloc: Global, texts: &[&str], text: &str) -> Result<Vec<Token>, Fail> {
+        let kinds = words(alloc, texts)?;
+        if kinds.len() > 65535 {
+            return Err("a list of few words".into());
+        }
+        if !text.as_bytes().is_ascii() {
+            return Err("a text of ASCII bytes".into());
+        }
+        let tokens = tokens_of(alloc, &kinds, text.as_bytes())?;
+        Ok(tokens)
+    }
+
     #[test]
     fn the_longest_match_wins_and_then_the_least_kind(rt: HostRuntime) -> Result<(), Fail> {
-        let cases = [
-            (&["a"][..], "", &[][..]),
-            (&["a"][..], " \t\r\n\x0b\x0c", &[][..]),
-            (
-                &["a", "b"][..],
-                "a b",
-                &[token(0, 0, 1), token(1, 2, 3)][..],
-            ),
-            (&["a", "b"][..], "ab", &[token(0, 0, 1), token(1, 1, 2)][..]),
-            (&["a", "ab"][..], "ab", &[token(1, 0, 2)][..]),
-            (
-                &["ab", "a"][..],
-                "aab",
-                &[token(1, 0, 1), token(0, 1, 3)][..],
-            ),
-            (
-                &["a", "ab", "bc"][..],
-                "abc",
-                &[token(1, 0, 2), stray(2, 3)][..],
-            ),
-            (&["b", "a", "a"][..], "a", &[token(1, 0, 1)][..]),
-            (&[" ", "a"][..], "a ", &[token(1, 0, 1)][..]),
-            (
-                &["b c", " b"][..],
-                "b c b",
-                &[token(0, 0, 3), token(1, 3, 5)][..],
-            ),
-            (
-                &["a"][..],
-                "a?!a",
-                &[token(0, 0, 1), stray(1, 2), stray(2, 3), token(0, 3, 4)][..],
-            ),
-            (&["", "ab"][..], "a", &[stray(0, 1)][..]),
-            (&[][..], "a b", &[stray(0, 1), stray(2, 3)][..]),
+        let cases: [(&[&str], &str, &[Token]); 5] = [
+            (&["a", "b"], "ab", &[token(0, 0, 1), token(1, 1, 2)]),
+            (&["a", "ab"], "ab", &[token(1, 0, 2)]),
+            (&["ab", "a"], "aab", &[token(1, 0, 1), token(0, 1, 3)]),
+            (&["a", "ab", "bc"], "abc", &[token(1, 0, 2), stray(2, 3)]),
+            (&["b", "a", "a"], "a", &[token(1, 0, 1)]),
         ];
         for (texts, text, expected) in cases {
-            let kinds = words(rt.alloc(), texts)?;
-            let bytes = text.as_bytes();
-            assert!(rt; kinds.len() < 65536);
-            assert!(rt; bytes.is_ascii());
-            let tokens = tokens_of(rt.alloc(), &kinds, bytes)?;
+            let tokens = cut(rt.alloc(), texts, text)?;
+            assert_eq!(rt; tokens.as_slice(), expected, "at {text}");
+        }
+        Ok(())
+    }
+
+    #[test]
+    fn white_bytes_are_no_tokens_and_part_the_others(rt: HostRuntime) -> Result<(), Fail> {
+        let cases: [(&[&str], &str, &[Token]); 5] = [
+            (&["a"], "", &[]),
+            (&["a"], " \t\r\n\x0b\x0c", &[]),
+            (&["a", "b"], "a b", &[token(0, 0, 1), token(1, 2, 3)]),
+            (&[" ", "a"], "a ", &[token(1, 0, 1)]),
+            (&["b c", " b"], "b c b", &[token(0, 0, 3), token(1, 3, 5)]),
+        ];
+        for (texts, text, expected) in cases {
+            let tokens = cut(rt.alloc(), texts, text)?;
+            assert_eq!(rt; tokens.as_slice(), expected, "at {text}");
+        }
+        Ok(())
+    }
+
+    #[test]
+    fn a_byte_where_nothing_matches_is_a_stray_token(rt: HostRuntime) -> Result<(), Fail> {
+        let cases: [(&[&str], &str, &[Token]); 3] = [
+            (
+                &["a"],
+                "a?!a",
+                &[token(0, 0, 1), stray(1, 2), stray(2, 3), token(0, 3, 4)],
+            ),
+            (&["", "ab"], "a", &[stray(0, 1)]),
+            (&[], "a b", &[stray(0, 1), stray(2, 3)]),
+        ];
+        for (texts, text, expected) in cases {
+            let tokens = cut(rt.alloc(), texts, text)?;
             assert_eq!(rt; tokens.as_slice(), expected, "at {text}");
         }
         Ok(())

@@ -1,4 +1,5 @@
-//! Sessions over a source and a sink: a grammar, a text, and questions about the spans of its tokens.
+//! Sessions over a source and a sink: a grammar, a text, and questions about the spans of its
+//! tokens.
 #![tactic(auto)]
 
 mod answering;

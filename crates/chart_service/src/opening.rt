@@ -1,17 +1,20 @@
 //! Accepting a grammar, and opening a text under it.
 ghost use Rattle.std.specs.Prelude.{◌≡◌, ◌+◌, ◌≤◌, ℕ, List, length, IfOk, IfErr, OnOk, OnErr, Err};
-ghost use Rattle.std.specs.Prelude.{IsErrOf, string_bytes};
+ghost use Rattle.std.specs.Prelude.{IsErrOf, string_bytes, Some};
 ghost use Rattle.cyk_io.specs.Causes.{HasCause};
 ghost use Rattle.cyk_io.specs.Streams.{Grows, GrowsByPrefix};
 ghost use Rattle.std.specs.Str.{IsAscii};
 ghost use Rattle.spec_lexing.specs.declared.token.Token.{Token};
 ghost use Rattle.spec_session.specs.Replies.{grammar_reply, version_reply};
 ghost use Rattle.chart_service.specs.Statuses.{IsWriteStop};
-ghost use Rattle.chart_service.specs.Opening.{MakesLanguage, ReadsLanguage, IsFit, IsRefusal, EndsAtGrammar};
-ghost use Rattle.chart_service.specs.Opening.{Accepts, IsOpened, OpensText};
+ghost use Rattle.chart_service.specs.Reading.{IsBlock};
+ghost use Rattle.chart_service.specs.Opening.{MakesLanguage, ReadsLanguage, IsFit, IsRefusal};
+ghost use Rattle.chart_service.specs.Opening.{text_reason_of, grammar_reason_of, reason_of};
+ghost use Rattle.chart_service.specs.Opening.{EndsAtGrammar, Accepts, IsOpened, OpensText};
 
 use crate::language::Language;
 use crate::lexing::{kinds_of, tokens_of};
+use crate::reading::Block;
 use crate::status::Status;
 use crate::writing::{finish, say};
 use binary_form::{BinaryFault, binary};
@@ -40,7 +43,6 @@ fn language_of(alloc: Global, grammar: Grammar) -> Result<Language, BinaryFault>
 
 /// The language of the grammar that the block spells.
 fn read_language(alloc: Global, block: &[u8]) -> Result<Language, LanguageFault>
-    requires small { length block.now ≤ 65536 }
     ensures { ReadsLanguage block.now result }
 {
     let defs = match read_defs(alloc, block) {
@@ -54,6 +56,19 @@ fn read_language(alloc: Global, block: &[u8]) -> Result<Language, LanguageFault>
     match language_of(alloc, grammar) {
         Ok(language) => Ok(language),
         Err(fault) => Err(LanguageFault::Binary(fault)),
+    }
+}
+
+/// The language of the grammar that the block spells, where the block is not too long.
+fn read_found(alloc: Global, found: &Block) -> Result<Language, LanguageFault>
+    ensures { (block : List ℕ) → IsBlock 65536 found.now block → ReadsLanguage block result }
+{
+    match found {
+        Block::Kept(bytes) => read_language(alloc, bytes.as_slice()),
+        Block::TooLong(count) => {
+            let count = u64::from(*count);
+            Err(LanguageFault::Text(TextFault::TooLarge { count }))
+        }
     }
 }
 
@@ -160,13 +175,17 @@ fn say_grammar<K: Sink>(alloc: Global, sink: &mut K, grammar: &Grammar) -> Resul
 }
 
 /// Accepts the grammar that the block spells and writes its reply, or refuses it.
-pub(crate) fn accept<K: Sink>(alloc: Global, sink: &mut K, block: &[u8]) -> Result<Language, Status>
-    requires small { length block.now ≤ 65536 }
-    ensures ok { Accepts block.now (K.written sink.old) (K.written sink.new) result }
+pub(crate) fn accept<K: Sink>(
+    alloc: Global,
+    sink: &mut K,
+    found: &Block,
+) -> Result<Language, Status>
+    ensures ok { (block : List ℕ) → IsBlock 65536 found.now block
+        → Accepts block (K.written sink.old) (K.written sink.new) result }
     ensures cause { HasCause (K.faults sink.old) (K.faults sink.new)
         (IsErrOf result Status.WriteFault) }
 {
-    match read_language(alloc, block) {
+    match read_found(alloc, found) {
         Ok(language) => match say_grammar(alloc, sink, &language.grammar) {
             Ok(()) => Ok(language),
             Err(status) => Err(status),
@@ -175,7 +194,8 @@ pub(crate) fn accept<K: Sink>(alloc: Global, sink: &mut K, block: &[u8]) -> Resu
     }
 }
 
-/// A text that is open under a grammar: the categories that derive each span of its tokens.
+/// A text that is open under a grammar, with the symbols that derive each span of its tokens that
+/// is not empty.
 #[derive(Drop)]
 pub(crate) struct Opened {
     pub(crate) language: Language,
@@ -228,7 +248,8 @@ pub(crate) fn open_text<K: Sink>(
     requires fit { IsFit language.grammar }
     requires ascii { IsAscii text.now }
     requires short { length text.now ≤ 4096 }
-    ensures ok { OpensText language.grammar text.now (K.written sink.old) (K.written sink.new) result }
+    ensures ok { OpensText language.grammar text.now
+        (K.written sink.old) (K.written sink.new) result }
     ensures cause { HasCause (K.faults sink.old) (K.faults sink.new)
         (IsErrOf result Status.WriteFault) }
 {

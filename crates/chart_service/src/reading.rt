@@ -6,7 +6,7 @@ ghost use Rattle.cyk_io.specs.Causes.{HasCause};
 ghost use Rattle.cyk_io.specs.Streams.{IsAtEnd, coming};
 ghost use Rattle.chart_service.specs.Statuses.{IsReadStop};
 ghost use Rattle.chart_service.specs.Reading.{NextLine, NextBlock, NextCounted, NextHeader};
-ghost use Rattle.chart_service.specs.Reading.{NextGrammar, NextText};
+ghost use Rattle.chart_service.specs.Reading.{NextGrammar, NextText, PassesBlock, Finds};
 
 use crate::forms::count_behind;
 use crate::status::Status;
@@ -19,11 +19,32 @@ pub(crate) const MAX_LINE: usize = 256;
 /// A line begins below this offset.
 const TOO_LATE: u64 = 1 << 48;
 
-/// The most bytes of a grammar.
+/// The most bytes of a block. Nine digits write no greater number.
+const MAX_BLOCK: u32 = 999_999_999;
+
+/// The most bytes of a grammar that is kept.
 const MAX_GRAMMAR: u32 = 65_536;
 
 /// The most bytes of a text.
 const MAX_TEXT: u32 = 4_096;
+
+/// What is known of a block that was read.
+#[derive(Drop)]
+pub(crate) enum Block {
+    /// Its bytes.
+    Kept(Vec<u8>),
+    /// How many bytes it had, all of which were passed over.
+    TooLong(u32),
+}
+
+/// The limits of a block.
+#[derive(Drop)]
+struct Limits {
+    /// The most bytes that it may have.
+    most: u32,
+    /// The most bytes that are kept. A longer block is passed over.
+    keep: u32,
+}
 
 /// Reads the next line. There is none where it begins too late, is too long or has no LF.
 pub(crate) fn next_line<S: Source>(
@@ -86,8 +107,8 @@ fn without_lf(mut bytes: Vec<u8>) -> Option<Vec<u8>>
     }
 }
 
-/// Reads a block of so many bytes and its LF.
-fn read_block<S: Source>(
+/// Reads and keeps a block of so many bytes, and reads its LF.
+fn keep_block<S: Source>(
     alloc: Global,
     source: &mut S,
     ahead: &mut Ahead,
@@ -113,6 +134,61 @@ fn read_block<S: Source>(
     }
 }
 
+/// Passes over a block of so many bytes and its LF, and answers whether they came.
+fn pass_block<S: Source>(
+    alloc: Global,
+    source: &mut S,
+    ahead: &mut Ahead,
+    count: u32,
+) -> Result<bool, Status>
+    requires some { 0 < count }
+    requires room { ahead.old.offset < 2 ^ 61 }
+    requires end { IsTrue ahead.old.ended → IsAtEnd (S.left source.old) }
+    ensures ok { IfOk result (PassesBlock count ahead.old.offset ahead.new.offset
+        (coming ahead.old (S.left source.old)) (coming ahead.new (S.left source.new))) }
+    ensures err { IfErr result IsReadStop }
+    ensures cause { HasCause (S.faults source.old) (S.faults source.new)
+        (IsErrOf result Status.ReadFault) }
+    ensures end { IsTrue ahead.new.ended → IsAtEnd (S.left source.new) }
+{
+    let mut bytes = Vec::new(alloc);
+    match read_exact_n(source, ahead, u64::from(count), 0, &mut bytes) {
+        Ok(ReadBlock::Skipped) => {}
+        Ok(_) => return Ok(false),
+        Err(IoFault::Read) => return Err(Status::ReadFault),
+        Err(_) => return Err(Status::OutOfMemory),
+    }
+    let behind = keep_block(alloc, source, ahead, 0)?;
+    Ok(behind.is_some())
+}
+
+/// Reads a block of so many bytes and its LF. One of more than `keep` bytes is passed over.
+fn read_block<S: Source>(
+    alloc: Global,
+    source: &mut S,
+    ahead: &mut Ahead,
+    count: u32,
+    keep: u32,
+) -> Result<Option<Block>, Status>
+    requires room { ahead.old.offset < 2 ^ 61 }
+    requires end { IsTrue ahead.old.ended → IsAtEnd (S.left source.old) }
+    ensures ok { IfOk result (Finds keep (NextBlock count ahead.old.offset ahead.new.offset
+        (coming ahead.old (S.left source.old)) (coming ahead.new (S.left source.new)))) }
+    ensures err { IfErr result IsReadStop }
+    ensures cause { HasCause (S.faults source.old) (S.faults source.new)
+        (IsErrOf result Status.ReadFault) }
+    ensures end { IsTrue ahead.new.ended → IsAtEnd (S.left source.new) }
+{
+    if count > keep {
+        let passed = pass_block(alloc, source, ahead, count)?;
+        return Ok(passed.then_some(Block::TooLong(count)));
+    }
+    match keep_block(alloc, source, ahead, count)? {
+        Some(bytes) => Ok(Some(Block::Kept(bytes))),
+        None => Ok(None),
+    }
+}
+
 /// Reads a line that begins so and ends in the number of bytes of a block, and the block.
 fn read_counted<S: Source>(
     alloc: Global,
@@ -120,15 +196,14 @@ fn read_counted<S: Source>(
     ahead: &mut Ahead,
     line: &mut Line<256>,
     beginning: &[u8],
-    most: u32,
-) -> Result<Option<Vec<u8>>, Status>
-    requires most { most < 10 ^ 9 }
-    requires room { ahead.old.offset < 2 ^ 61 }
+    limits: &Limits,
+) -> Result<Option<Block>, Status>
+    requires most { limits.now.most < 10 ^ 9 }
+    requires room { ahead.old.offset < 2 ^ 60 }
     requires end { IsTrue ahead.old.ended → IsAtEnd (S.left source.old) }
-    ensures ok { IfOk result
-        (λ block. NextCounted beginning.now most ahead.old.offset ahead.new.offset
-        (coming ahead.old (S.left source.old)) (coming ahead.new (S.left source.new))
-        (option_map (λ b. b.items) block)) }
+    ensures ok { IfOk result (Finds limits.now.keep (NextCounted beginning.now limits.now.most
+        ahead.old.offset ahead.new.offset
+        (coming ahead.old (S.left source.old)) (coming ahead.new (S.left source.new)))) }
     ensures err { IfErr result IsReadStop }
     ensures cause { HasCause (S.faults source.old) (S.faults source.new)
         (IsErrOf result Status.ReadFault) }
@@ -138,37 +213,33 @@ fn read_counted<S: Source>(
     if !found {
         return Ok(None);
     }
-    match count_behind(line.as_bytes(), beginning, most) {
-        Some(count) => read_block(alloc, source, ahead, count),
+    match count_behind(line.as_bytes(), beginning, limits.most) {
+        Some(count) => read_block(alloc, source, ahead, count, limits.keep),
         None => Ok(None),
     }
 }
 
-/// Reads the command `grammar` with its block.
+/// Reads the command `grammar` with its block. One of more than 65,536 bytes is passed over.
 pub(crate) fn read_grammar<S: Source>(
     alloc: Global,
     source: &mut S,
     ahead: &mut Ahead,
     line: &mut Line<256>,
-) -> Result<Option<Vec<u8>>, Status>
-    requires room { ahead.old.offset < 2 ^ 61 }
+) -> Result<Option<Block>, Status>
+    requires room { ahead.old.offset < 2 ^ 60 }
     requires end { IsTrue ahead.old.ended → IsAtEnd (S.left source.old) }
-    ensures ok { IfOk result (λ block. NextGrammar ahead.old.offset ahead.new.offset
-        (coming ahead.old (S.left source.old)) (coming ahead.new (S.left source.new))
-        (option_map (λ b. b.items) block)) }
+    ensures ok { IfOk result (Finds 65536 (NextGrammar ahead.old.offset ahead.new.offset
+        (coming ahead.old (S.left source.old)) (coming ahead.new (S.left source.new)))) }
     ensures err { IfErr result IsReadStop }
     ensures cause { HasCause (S.faults source.old) (S.faults source.new)
         (IsErrOf result Status.ReadFault) }
     ensures end { IsTrue ahead.new.ended → IsAtEnd (S.left source.new) }
 {
-    read_counted(
-        alloc,
-        source,
-        ahead,
-        line,
-        b"grammar ".as_slice(),
-        MAX_GRAMMAR,
-    )
+    let limits = Limits {
+        most: MAX_BLOCK,
+        keep: MAX_GRAMMAR,
+    };
+    read_counted(alloc, source, ahead, line, b"grammar ".as_slice(), &limits)
 }
 
 /// The text, where each of its bytes is below 80 (hexadecimal).
@@ -190,7 +261,7 @@ pub(crate) fn read_text<S: Source>(
     ahead: &mut Ahead,
     line: &mut Line<256>,
 ) -> Result<Option<Vec<u8>>, Status>
-    requires room { ahead.old.offset < 2 ^ 61 }
+    requires room { ahead.old.offset < 2 ^ 60 }
     requires end { IsTrue ahead.old.ended → IsAtEnd (S.left source.old) }
     ensures ok { IfOk result (λ text. NextText ahead.old.offset ahead.new.offset
         (coming ahead.old (S.left source.old)) (coming ahead.new (S.left source.new))
@@ -200,8 +271,13 @@ pub(crate) fn read_text<S: Source>(
         (IsErrOf result Status.ReadFault) }
     ensures end { IsTrue ahead.new.ended → IsAtEnd (S.left source.new) }
 {
-    match read_counted(alloc, source, ahead, line, b"open ".as_slice(), MAX_TEXT)? {
-        Some(text) => Ok(only_ascii(text)),
+    let limits = Limits {
+        most: MAX_TEXT,
+        keep: MAX_TEXT,
+    };
+    match read_counted(alloc, source, ahead, line, b"open ".as_slice(), &limits)? {
+        Some(Block::Kept(text)) => Ok(only_ascii(text)),
+        Some(Block::TooLong(_)) => unreachable!(),
         None => Ok(None),
     }
 }

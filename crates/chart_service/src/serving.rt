@@ -47,7 +47,7 @@ fn begin<S: Source, K: Sink>(
     let Some(block) = read_grammar(alloc, source, ahead, line)? else {
         return Err(refuse_script(alloc, sink, start));
     };
-    let language = match accept(alloc, sink, block.as_slice()) {
+    let language = match accept(alloc, sink, &block) {
         Ok(language) => language,
         Err(status) => return Err(status),
     };
@@ -144,9 +144,10 @@ fn run<S: Source, K: Sink>(alloc: Global, source: &mut S, sink: &mut K) -> Statu
     }
 }
 
-/// Runs the session that the source's script defines, and answers its exit status: 0 where the script was read through
-/// its line `end`, 2 where the grammar is refused, 3 where the script is broken, 4 and 5 at a fault of the source and
-/// of the sink, 6 for want of memory. `joins` counts the chart's joins; this chart makes none.
+/// Runs the session that the source's script defines, and answers its exit status: 0 where the
+/// script was read through its line `end`, 2 where the grammar is refused, 3 where the script is
+/// broken, 4 and 5 at a fault of the source and of the sink, 6 for want of memory. `joins` counts
+/// the chart's joins; this chart makes none.
 pub fn serve<S: Source, K: Sink, L: Ledger>(
     alloc: Global,
     options: &Options,

@@ -1,5 +1,5 @@
-//! Sessions with their exact replies, broken scripts and refused grammars with their exact lines, and
-//! faults in mid-session.
+//! Sessions with their exact replies, broken scripts and refused grammars with their exact lines,
+//! and faults in mid-session.
 ghost use Rattle.std.specs.Prelude.{◌≡◌, ◌≤◌, ◌<◌};
 ghost use Rattle.chart_service.specs.Serving.{AreWithinLimits};
 
@@ -8,7 +8,7 @@ mod scripts;
 
 use crate::{Options, serve};
 use cyk_io::{ByteSink, ByteSource, CleanSink, CleanSource, Sink, SinkFault, Source};
-use grammars::{ACCEPTED, ENTRIES, REFUSED};
+use grammars::{ACCEPTED, ASKED, LARGE, REFUSED};
 use scripts::{
     ANSWERED, BROKEN_BEFORE_A_GRAMMAR, BROKEN_BEFORE_A_TEXT, BROKEN_BEHIND_A_TEXT, TEXTS,
 };
@@ -165,9 +165,33 @@ fn each_grammar_has_its_line(rt: HostRuntime) -> Result<(), Fail> {
     Ok(())
 }
 
+/// The status, and the sink behind it, of a grammar's line before so many bytes, which are one rule
+/// and spaces, and of this rest behind them.
+fn serve_large(
+    alloc: Global,
+    line: &[u8],
+    length: usize,
+    rest: &[u8],
+) -> Result<(u8, CleanSink), AllocError> {
+    let header = b"script 1\n".as_slice();
+    let mut grammar = Vec::from_slice(alloc, b"One. S ::= \"a\" ;".as_slice())?;
+    grammar.resize(length, b' ')?;
+    serve_parts(alloc, &[header, line, grammar.as_slice(), rest])
+}
+
 #[test]
-fn the_entry_is_the_category_of_the_first_rule(rt: HostRuntime) -> Result<(), Fail> {
-    for (name, grammar, rest, session) in ENTRIES {
+fn a_large_grammar_is_passed_over_and_refused(rt: HostRuntime) -> Result<(), Fail> {
+    for (name, line, length, rest, expected, session) in LARGE {
+        let (status, sink) = serve_large(rt.alloc(), line, *length, rest)?;
+        assert_eq!(rt; status, *expected, "at {name}");
+        assert_eq!(rt; sink.as_bytes(), *session, "at {name}");
+    }
+    Ok(())
+}
+
+#[test]
+fn each_question_is_answered_by_its_grammar_and_text(rt: HostRuntime) -> Result<(), Fail> {
+    for (name, grammar, rest, session) in ASKED {
         let (status, sink) = serve_grammar(rt.alloc(), grammar, rest)?;
         assert_eq!(rt; status, 0, "at {name}");
         assert_eq!(rt; sink.as_bytes(), *session, "at {name}");

@@ -1,5 +1,5 @@
--- What the program's top call promises: the session of its input where the words are the one word `serve`, and else
--- the usage line.
+-- What the program's top call promises: the session of its input where the words are the one word
+-- `serve`, and else the usage line.
 use Rattle.std.specs.Prelude.{◌≡◌, ℕ, ◌⊎◌, List, [], ◌∷◌, ◌++◌, Option, String, codes, string_bytes}
 use Rattle.std.specs.declared.alloc.Global.{Global}
 use Rattle.chart_service.specs.Serving.{IsStatus}
@@ -21,14 +21,15 @@ usage_line =
     codes "usage: lbnfchart serve|watch|check|gen [--workers N] [--readers M] [--rounds R] "
     ++ (codes "[--grain G] [--seed S] [--tokens N]" ++ 10 ∷ [])
 
--- the usage line is written whole and the status is 1, or the status is that of a write's fault or of want of memory
--- and a prefix of the line is written
+-- the usage line is written whole and the status is 1, or the status is that of a write's fault or
+-- of want of memory and a prefix of the line is written
 abbrev pub WritesUsage : Option (List ℕ) → Option (List ℕ) → ℕ → Type 0
 WritesUsage old new status =
     ((status ≡ 1) × Grows old new usage_line)
     ⊎ (((status ≡ 5) ⊎ (status ≡ 6)) × GrowsByPrefix old new usage_line)
 
--- the status of the program: that of a session where the words are served, and else 1, or 5 or 6 at a fault
+-- the status of the program: that of a session where the words are served, and else 1, or 5 or 6 at
+-- a fault
 pub record IsStatusOf (words : List (String Global)) (status : ℕ) : Type 0 where
   pub served : IsServe words → IsStatus status
   pub refused : (IsServe words → ⊥) → (status ≡ 1) ⊎ (status ≡ 5) ⊎ (status ≡ 6)

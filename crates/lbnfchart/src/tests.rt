@@ -1,4 +1,5 @@
-//! The usage line answers all words but `serve`, a failing sink gets a prefix of it, and a session is served.
+//! The usage line answers all words but `serve`, a failing sink gets a prefix of it, and a session
+//! is served.
 ghost use Rattle.std.specs.Prelude.{◌≤◌};
 
 use crate::run;
@@ -8,8 +9,8 @@ use std::marker::Brand;
 use std::sync::ledger::Blank;
 use std::test::Fail;
 
-const LINE: &[u8] =
-    b"usage: lbnfchart serve|watch|check|gen [--workers N] [--readers M] [--rounds R] [--grain G] [--seed S] [--tokens N]\n";
+const LINE: &[u8] = b"usage: lbnfchart serve|watch|check|gen [--workers N] [--readers M] \
+    [--rounds R] [--grain G] [--seed S] [--tokens N]\n";
 
 const NOT_SERVED: [&[&str]; 7] = [
     &[],

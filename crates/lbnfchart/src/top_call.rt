@@ -12,8 +12,8 @@ use std::alloc::Global;
 use std::sync::ledger::Ledger;
 use step_count::Steps;
 
-const USAGE: &[u8] =
-    b"usage: lbnfchart serve|watch|check|gen [--workers N] [--readers M] [--rounds R] [--grain G] [--seed S] [--tokens N]\n";
+const USAGE: &[u8] = b"usage: lbnfchart serve|watch|check|gen [--workers N] [--readers M] \
+    [--rounds R] [--grain G] [--seed S] [--tokens N]\n";
 
 fn write_usage<K: Sink>(sink: &mut K) -> u8
     ensures usage { WritesUsage (K.written sink.old) (K.written sink.new) result }
@@ -26,9 +26,10 @@ fn write_usage<K: Sink>(sink: &mut K) -> u8
     }
 }
 
-/// Runs what the words behind the program's name ask for, and answers the exit status: that of the session where they
-/// are the one word `serve`, and else 1, with the usage line on the sink and the source not read. 4 and 5 are faults of
-/// the source and of the sink, 6 is want of memory. `joins` counts the joins of charts.
+/// Runs what the words behind the program's name ask for, and answers the exit status: that of the
+/// session where they are the one word `serve`, and else 1, with the usage line on the sink and the
+/// source not read. 4 and 5 are faults of the source and of the sink, 6 is want of memory. `joins`
+/// counts the joins of charts.
 pub fn lbnf_main<S: Source, K: Sink, L: Ledger>(
     alloc: Global,
     words: &[String],

@@ -1,4 +1,5 @@
--- What is looked for in a text: white space, and the kinds of the grammar, in the order that decides between equal lengths.
+-- What is looked for in a text: white space, and the kinds of the grammar, in the order that
+-- decides between equal lengths.
 use Rattle.std.specs.Prelude.{◌≡◌, ℕ, ◌+◌, ◌≤◌, ◌⊎◌, List, [], ◌∷◌, Option, Some, None}
 use Rattle.spec_lexing.specs.declared.kind_def.KindDef.{KindDef}
 use Rattle.spec_lexing.specs.declared.kind_def.KindDef.TheVariants.{Word}

@@ -1,4 +1,5 @@
--- The laws of longest match and of token lists, over any list of kinds and any relation of what each of them matches.
+-- The laws of longest match and of token lists, over any list of kinds and any relation of what
+-- each of them matches.
 use Rattle.std.specs.Prelude.{◌≡◌, ℕ, ◌+◌, ◌<◌, ◌≤◌, List, [], ◌∷◌, length, Option, Some, None, slice_get}
 use Rattle.std.specs.Str.{IsAscii}
 use Rattle.spec_lexing.specs.declared.kind_def.KindDef.{KindDef}
@@ -6,7 +7,8 @@ use Rattle.spec_lexing.specs.declared.token.Token.{Token}
 use Rattle.spec_lexing.specs.LongestMatch.{IsLongestMatch, IsUnmatched}
 use Rattle.spec_lexing.specs.Tokens.{AreTokensFrom, AreTokensOf}
 
--- any two longest matches at a place are of one kind, by its place in the order, and end at one place
+-- any two longest matches at a place are of one kind, by its place in the order, and end at one
+-- place
 abbrev pub HasOneLongestMatch : {K : Type 0} → (K → List ℕ → Type 0) → Type 0
 HasOneLongestMatch {K} MatchesKind =
     (kinds : List K) (text : List ℕ) (start order end other later : ℕ) →
@@ -35,7 +37,8 @@ HasSomeTokenList =
     (kinds : List KindDef) (text : List ℕ) → IsAscii text →
     (tokens : List Token) × AreTokensOf kinds text tokens
 
--- from this place on the tokens are in order and apart, none is empty, and the last ends within so many bytes
+-- from this place on the tokens are in order and apart, none is empty, and the last ends within so
+-- many bytes
 abbrev pub LieInOrder : ℕ → ℕ → List Token → Type 0
 LieInOrder size place [] = place ≤ size
 LieInOrder size place (token ∷ tokens) =
@@ -53,7 +56,8 @@ module _ {K : Type 0} (MatchesKind : K → List ℕ → Type 0) (kind_of_token :
         slice_get kinds order ≡ Some kind → kind_of_token kind ≡ None →
         AreSkipped middle end → AreSkipped start end
 
-  -- the tokens, with the skipped matches before, between and behind them, are all of the text from this place on
+  -- the tokens, with the skipped matches before, between and behind them, are all of the text from
+  -- this place on
   abbrev pub CoverFrom : ℕ → List Token → Type 0
   CoverFrom place [] = AreSkipped place (length text)
   CoverFrom place (token ∷ tokens) =

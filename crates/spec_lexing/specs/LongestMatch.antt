@@ -8,7 +8,8 @@ module _ {K : Type 0} (Matches : K → List ℕ → Type 0) (kinds : List K) (te
       (kind : K) × (slice_get kinds place ≡ Some kind)
       × Matches kind (slice_range text start end)
 
-  -- the bytes from start up to end are the longest match at start, and the kind is the least that matches them
+  -- the bytes from start up to end are the longest match at start, and the kind is the least that
+  -- matches them
   pub record IsLongestMatch (place start end : ℕ) : Type 0 where
     pub some : start < end
     pub within : end ≤ length text

@@ -2,7 +2,8 @@
 use Rattle.std.specs.Prelude.{ℕ, List}
 use Rattle.spec_session.specs.Sessions.{IsSession}
 
--- no input is without a session (by two denials, since no definition decides what a category derives)
+-- no input is without a session (by two denials, since no definition decides what a category
+-- derives)
 abbrev pub SomeSession : Type 0
 SomeSession =
     (input : List ℕ) → ((out : List ℕ) (status : ℕ) → IsSession input out status → ⊥) → ⊥

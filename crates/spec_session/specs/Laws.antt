@@ -26,7 +26,8 @@ RepliesComeFirst =
     (out : List ℕ) (status : ℕ) → IsSession input out status →
     (more : List ℕ) × (out ≡ told ++ more)
 
--- where an input is a script whose commands have replies, its session writes these and the last line
+-- where an input is a script whose commands have replies, its session writes these and the last
+-- line
 abbrev pub RepliesThenLastLine : Type 0
 RepliesThenLastLine =
     (input : List ℕ) (commands : List Command) (ending : Ending) (told : List ℕ) →

@@ -1,4 +1,5 @@
--- The commands of a script, and how an input spells them: a command is one line and, where it has one, a block.
+-- The commands of a script, and how an input spells them: a command is one line and, where it has
+-- one, a block.
 use Rattle.std.specs.Prelude.{◌≡◌, ℕ, ◌+◌, ◌^◌, ◌<◌, ◌≤◌, List, [], ◌∷◌, ◌++◌, length, codes}
 use Rattle.std.specs.Prelude.{decimal, All, IsAscii}
 
@@ -53,8 +54,9 @@ IsNameable (category_whole category) = IsWord category
 IsNameable (category_span category first end) =
     IsWord category × (first < 10 ^ 9) × (end < 10 ^ 9)
 
--- the command keeps the limits: a grammar of 65,536 bytes, a text of 4,096 bytes below 80 (hexadecimal),
--- a constituent that can be named, and a line of 256 bytes
+-- the command keeps the limits: a grammar's block of as many bytes as nine digits can write, a
+-- text of 4,096 bytes below 80 (hexadecimal), a constituent that can be named, and a line of 256
+-- bytes
 abbrev pub IsWithinLimits : Command → Type 0
 IsWithinLimits header = Unit {0}
 IsWithinLimits (grammar block) = length block < 10 ^ 9
@@ -68,7 +70,8 @@ AreQuestions [] = Unit {0}
 AreQuestions (has constituent ∷ commands) = AreQuestions commands
 AreQuestions (command ∷ commands) = ⊥
 
--- the commands stand in the order of a script: the header, a grammar, a text, and questions; the last ones may be absent
+-- the commands stand in the order of a script: the header, a grammar, a text, and questions; the
+-- last ones may be absent
 abbrev pub IsInOrder : List Command → Type 0
 IsInOrder [] = Unit {0}
 IsInOrder (header ∷ []) = Unit {0}
@@ -81,7 +84,8 @@ abbrev pub IsComplete : List Command → Type 0
 IsComplete (header ∷ grammar block ∷ opens text ∷ questions) = AreQuestions questions
 IsComplete commands = ⊥
 
--- the bytes from the offset `at` on begin with these commands, behind which `rest` stands at the offset `end`; each line begins below 2 ^ 48
+-- the bytes from the offset `at` on begin with these commands, behind which `rest` stands at the
+-- offset `end`; each line begins below 2 ^ 48
 abbrev pub Begins : ℕ → List ℕ → List Command → ℕ → List ℕ → Type 0
 Begins at bytes [] end rest = (end ≡ at) × (rest ≡ bytes)
 Begins at bytes (command ∷ commands) end rest =
@@ -109,13 +113,15 @@ pub data Ending : Type 0 where
   ended : Ending
   broken : (at : ℕ) → Ending
 
--- behind the commands the script ends so: its line `end` follows, or it is broken where neither `end` nor a command follows
+-- behind the commands the script ends so: its line `end` follows, or it is broken where neither
+-- `end` nor a command follows
 abbrev pub EndsAs : List Command → ℕ → List ℕ → Ending → Type 0
 EndsAs commands at rest ended = IsAtEnd commands at rest
 EndsAs commands at rest (broken place) =
     (place ≡ at) × (GoesOn commands at rest → ⊥) × (IsAtEnd commands at rest → ⊥)
 
--- the input is a script of these commands, which ends so; what stands behind its `end` or its break has no effect
+-- the input is a script of these commands, which ends so; what stands behind its `end` or its break
+-- has no effect
 pub record IsScript (input : List ℕ) (commands : List Command) (ending : Ending) : Type 0 where
   pub at : ℕ
   pub rest : List ℕ

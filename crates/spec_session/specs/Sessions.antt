@@ -1,4 +1,5 @@
--- The session of an input: the replies to its commands in order, and its last line. It knows a grammar and texts alone.
+-- The session of an input: the replies to its commands in order, and its last line. It knows a
+-- grammar and texts alone.
 use Rattle.std.specs.Prelude.{◌≡◌, ℕ, List, [], ◌∷◌, ◌++◌, codes, decimal}
 use Rattle.spec_lbnf.specs.Expansion.{Expansion}
 use Rattle.spec_session.specs.Script.{Command, header, grammar, Ending, ended, broken, Begins, IsScript}
@@ -21,15 +22,16 @@ abbrev pub last_status : Ending → ℕ
 last_status ended = 0
 last_status (broken at) = 3
 
--- the bytes are the replies to all the commands, where the grammar, if there is one, is accepted; the header has none
+-- the bytes are the replies to all the commands, where the grammar, if there is one, is accepted;
+-- the header has none
 abbrev pub AreAllReplies : List Command → List ℕ → Type 0
 AreAllReplies (header ∷ grammar block ∷ commands) out =
     (g : Expansion) × (replies : List ℕ) × IsAccepted block g × AreReplies g [] commands replies
     × (out ≡ grammar_reply g ++ replies)
 AreAllReplies commands out = out ≡ []
 
--- the session of the input writes these bytes and ends with this status: it ends at a grammar that is refused,
--- with its line alone and status 2; else it goes to the script's end
+-- the session of the input writes these bytes and ends with this status: it ends at a grammar that
+-- is refused, with its line alone and status 2; else it goes to the script's end
 pub data IsSession (input out : List ℕ) (status : ℕ) : Type 0 where
   refused : (block rest : List ℕ) (at : ℕ) → Begins 0 input (header ∷ grammar block ∷ []) at rest
       → IsRefused block out → status ≡ 2 → IsSession input out status

@@ -1,21 +1,19 @@
 -- Cells by their ends, to which the cuts at the ends of a row's entries are added one by one.
-use Rattle.std.proofs.Common.{◌≡◌, ℕ, zero, suc, ◌+◌, ◌-◌, ◌<◌, ◌≤◌, ◌≢◌, ◌⊎◌, List, [], ◌∷◌, ◌++◌, Option, Some, length, slice_get, get_or, take, set, refl, sym, ◌∙◌, ap, subst, inl, inr, arith, Contains}
+use Rattle.std.proofs.Common.{◌≡◌, ℕ, zero, suc, ◌+◌, ◌<◌, ◌≤◌, ◌≢◌, ◌⊎◌, List, [], ◌∷◌, ◌++◌, Some, length, slice_get, get_or, take, set, refl, sym, ◌∙◌, ap, subst, inl, inr, arith}
 use Rattle.std.proofs.lemmas.Option.{slice_get_within, slice_get-get_or, slice_get_read}
 use Rattle.std.proofs.lemmas.List.{get_or_read, get_or-take, take_more, take_all, length-take-le, length-set}
 use Rattle.spec_lbnf.specs.Expansion.{Expansion}
-use Rattle.cell_sets.specs.Cells.{IsUnion}
-use Rattle.binary_form.specs.BinaryForm.{IsProductOf}
+use Rattle.binary_form.specs.BinaryForm.{AddsProductOf}
 use Rattle.valiant.specs.declared.rows.Entry.{Entry}
 use Rattle.valiant.specs.Rows.{found, HasRisingEnds}
-use Rattle.valiant.specs.Filling.{AddsProduct, AddsCut, AddsCuts}
-use Rattle.valiant.proofs.CutLemmas.{adds_product}
+use Rattle.valiant.specs.Filling.{AddsCut, AddsCuts}
 use Rattle.valiant.proofs.RowLemmas.{found_none, found_push_other, found_push_same}
 
 -- where a product with nothing was added before, what is added now is all
 adds_after_none :
     (g : Expansion) (left right one two three : List ℕ)
-    → AddsProduct g left [] one two → AddsProduct g left right two three
-    → AddsProduct g left right one three
+    → AddsProductOf g left [] one two → AddsProductOf g left right two three
+    → AddsProductOf g left right one three
 adds_after_none g left right one two three none some n = (
   (λ has. elim ((some n).0 has) [
     | inl kept ↦ elim ((none n).0 kept) [
@@ -54,7 +52,7 @@ module _ {C : Type 0} (symbols : C → List ℕ) (g : Expansion) (left : List �
   pub cut_set :
       (e : Entry C) (cells : List C) (cell other both : C)
       → e.end < length cells → cell ≡ get_or cells e.end cell
-      → AddsProduct g left (symbols e.cell) (symbols cell) (symbols both)
+      → AddsProductOf g left (symbols e.cell) (symbols cell) (symbols both)
       → AddsCut symbols g left e cells (set (set cells e.end other) e.end both)
   cut_set e cells cell other both within is adds = record {
     count = length-set (set cells e.end other) e.end both ∙ length-set cells e.end other;
@@ -105,7 +103,7 @@ module _ {C : Type 0} (symbols : C → List ℕ) (g : Expansion) (left : List �
     each_more :
         (j : ℕ) (c d : C)
         → slice_get old j ≡ Some c → slice_get new j ≡ Some d
-        → AddsProduct g left (found symbols (front ++ e ∷ []) j) (symbols c) (symbols d)
+        → AddsProductOf g left (found symbols (front ++ e ∷ []) j) (symbols c) (symbols d)
     each_more j c d is_c is_d =
         let in_mid : j < length mid = omega (arith, before.count, slice_get_within old j c is_c) in
         let m = get_or mid j c in
@@ -114,13 +112,13 @@ module _ {C : Type 0} (symbols : C → List ℕ) (g : Expansion) (left : List �
         let side : (j ≡ e.end) ⊎ (j ≢ e.end) = grind arith in
         elim side [
           | inl at ↦
-              let Here : ℕ → Type 0 = λ x. AddsProduct g left (found symbols (front ++ e ∷ []) x) (symbols c) (symbols d) in
+              let Here : ℕ → Type 0 = λ x. AddsProductOf g left (found symbols (front ++ e ∷ []) x) (symbols c) (symbols d) in
               let Mid : ℕ → Type 0 = λ x. slice_get mid x ≡ Some m in
               let m_at : slice_get mid e.end ≡ Some m = subst Mid at is_m in
               let New : ℕ → Type 0 = λ x. slice_get new x ≡ Some d in
               let d_at : slice_get new e.end ≡ Some d = subst New at is_d in
-              let Nothing : ℕ → Type 0 = λ x. AddsProduct g left (found symbols front x) (symbols c) (symbols m) in
-              let none : AddsProduct g left [] (symbols c) (symbols m) =
+              let Nothing : ℕ → Type 0 = λ x. AddsProductOf g left (found symbols front x) (symbols c) (symbols m) in
+              let none : AddsProductOf g left [] (symbols c) (symbols m) =
               rw (found_none symbols front e.end none_at) at (subst Nothing at first) in
               subst Here (sym at) (rw (found_push_same symbols front e none_at)
               (adds_after_none g left (symbols e.cell) (symbols c) (symbols m) (symbols d) none (adds.at m d m_at d_at)))

@@ -10,7 +10,7 @@ use Rattle.spec_lbnf.specs.Expansion.{Expansion, IsSymbolOf, HasOwnSymbols}
 use Rattle.cell_sets.specs.Cells.{IsUnion}
 use Rattle.binary_form.specs.Symbols.{BinarySymbol, plain, suffix, BinaryDerives, IsBinarySymbolOf, number_of}
 use Rattle.binary_form.specs.UnitSteps.{UnitStep, whole_side, last_item, passed_item, Reaches, stay, step, IsInProduct}
-use Rattle.binary_form.specs.BinaryForm.{IsNumberOf, IsTokenCell, IsProductNumber, IsProductOf}
+use Rattle.binary_form.specs.BinaryForm.{IsNumberOf, IsTokenCell, IsProductNumber}
 use Rattle.binary_form.specs.Laws.{HasSymbol}
 use Rattle.binary_form.proofs.ItemLemmas.{item_symbol}
 use Rattle.binary_form.proofs.NumberLemmas.{number_is_one}
@@ -18,16 +18,7 @@ use Rattle.binary_form.proofs.ReachLemmas.{step_symbol}
 use Rattle.binary_form.proofs.ProductLemmas.{products_agree}
 use Rattle.binary_form.proofs.ClosureLemmas.{closure_is_derivation}
 use Rattle.valiant.specs.Charts.{IsEntryOf}
-use Rattle.valiant.specs.Filling.{AddsProduct, HasSame}
-
--- a union with the product of two cells adds the product
-pub adds_product :
-    (g : Expansion) (left right old product new : List ℕ)
-    → IsProductOf g left right product → IsUnion old product new → AddsProduct g left right old new
-adds_product g left right old product new is union n = (
-  (λ has. elim ((union n).0 has) [ inl kept ↦ inl kept | inr made ↦ inr ((is n).0 made) ]),
-  (elim [ inl kept ↦ (union n).1 (inl kept) | inr made ↦ (union n).1 (inr ((is n).1 made)) ]),
-)
+use Rattle.valiant.specs.Filling.{HasSame}
 
 -- a union with nothing has the same numbers
 pub same_union :

@@ -1,16 +1,15 @@
 -- Rows that are filled: each step keeps what they have, and all cuts of a span are those at a row's entries.
 use Rattle.std.proofs.Common.{◌≡◌, ℕ, ◌+◌, ◌-◌, ◌<◌, ◌≤◌, ◌≢◌, ◌⊎◌, List, [], ◌∷◌, ◌++◌, Option, Some, length, slice_get, get_or, refl, sym, subst, inl, inr, arith, Contains}
-use Rattle.std.proofs.lemmas.Option.{slice_get_within, get_or_from_slice_get, slice_get-get_or, slice_get_read}
-use Rattle.std.proofs.lemmas.List.{get_or_read}
+use Rattle.std.proofs.lemmas.Option.{slice_get_within, get_or_from_slice_get, slice_get-get_or}
 use Rattle.spec_lbnf.specs.Expansion.{Expansion, HasOwnSymbols}
 use Rattle.binary_form.specs.Symbols.{BinarySymbol, BinaryDerives}
-use Rattle.binary_form.specs.BinaryForm.{IsNumberOf, IsProductNumber}
+use Rattle.binary_form.specs.BinaryForm.{IsNumberOf, IsProductNumber, AddsProductOf}
 use Rattle.binary_form.proofs.BuildLemmas.{each_pushed}
 use Rattle.binary_form.proofs.ClosureLemmas.{closure_is_derivation}
 use Rattle.valiant.specs.declared.rows.Entry.{Entry}
 use Rattle.valiant.specs.Charts.{IsEntryOf}
 use Rattle.valiant.specs.Rows.{found, found_at}
-use Rattle.valiant.specs.Filling.{IsRowUpTo, next_token, AreLastRows, AddsProduct, IsOfEntry, IsOfEntries, AddsEntry}
+use Rattle.valiant.specs.Filling.{IsRowUpTo, next_token, AreLastRows, IsOfEntry, IsOfEntries, AddsEntry}
 use Rattle.valiant.proofs.RowLemmas.{StandsAt, found_none, found_entry, entry_found, found_push_other, found_push_same, within_push, rising_push}
 use Rattle.valiant.proofs.CutLemmas.{product_derived, derived_product}
 
@@ -28,7 +27,7 @@ module _ {C : Type 0} (symbols : C → List ℕ) (g : Expansion) where
     pub entries_more :
         (many : ℕ) (e : Entry C) (old new : List ℕ)
         → slice_get row many ≡ Some e
-        → AddsProduct g (symbols e.cell) (found_at symbols count rows e.end end) old new
+        → AddsProductOf g (symbols e.cell) (found_at symbols count rows e.end end) old new
         → IsOfEntries symbols g count rows row end many old
         → IsOfEntries symbols g count rows row end (many + 1) new
     entries_more many e old new is adds before n = (to, from)

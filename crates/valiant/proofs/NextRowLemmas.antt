@@ -1,12 +1,12 @@
 -- The row of one token is filled end by end, from the cells to which its entries add their cuts.
-use Rattle.std.proofs.Common.{◌≡◌, ℕ, zero, suc, ◌+◌, ◌-◌, ◌<◌, ◌≤◌, ◌≢◌, ◌⊎◌, ◌↔◌, List, [], ◌∷◌, ◌++◌, Option, Some, length, slice_get, get_or, set, refl, sym, ◌∙◌, ap, subst, inl, inr, arith, Contains}
+use Rattle.std.proofs.Common.{◌≡◌, ℕ, zero, suc, ◌+◌, ◌-◌, ◌<◌, ◌≤◌, ◌⊎◌, List, [], ◌∷◌, ◌++◌, Option, Some, length, slice_get, get_or, set, refl, sym, ◌∙◌, subst, inl, inr, arith}
 use Rattle.std.proofs.lemmas.Option.{slice_get_within, slice_get-get_or, slice_get_read}
 use Rattle.std.proofs.lemmas.List.{length-set, length_push}
 use Rattle.spec_lbnf.specs.Expansion.{Expansion, HasOwnSymbols}
 use Rattle.valiant.specs.declared.rows.Entry.{Entry}
 use Rattle.valiant.specs.Charts.{IsEntryOf}
-use Rattle.valiant.specs.Rows.{found, found_at, HasRisingEnds}
-use Rattle.valiant.specs.Filling.{IsRowUpTo, next_token, AreLastRows, AddsProduct, IsOfEntry, IsOfEntries, AreEndsBelow, AddsCuts, AreEmpty, AreFirstCells, AreCellsBehind, HasSame}
+use Rattle.valiant.specs.Rows.{HasRisingEnds}
+use Rattle.valiant.specs.Filling.{IsRowUpTo, next_token, AreLastRows, IsOfEntries, AreEndsBelow, AddsCuts, AreEmpty, AreFirstCells, AreCellsBehind, HasSame}
 use Rattle.valiant.proofs.FillingLemmas.{entries_none, entries_more, entries_all}
 use Rattle.valiant.proofs.CellLemmas.{get_set_same, get_set_other}
 

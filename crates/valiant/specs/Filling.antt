@@ -2,7 +2,7 @@
 use Rattle.std.specs.Prelude.{◌≡◌, ℕ, ◌+◌, ◌-◌, ◌<◌, ◌≢◌, ◌↔◌, ◌⊎◌, List, [], ◌∷◌, ◌++◌, Option, Some, Contains}
 use Rattle.std.specs.Prelude.{length, slice_get, slice_index_or}
 use Rattle.spec_lbnf.specs.Expansion.{Expansion}
-use Rattle.binary_form.specs.BinaryForm.{IsProductNumber}
+use Rattle.binary_form.specs.BinaryForm.{IsProductNumber, AddsProductOf}
 use Rattle.valiant.specs.declared.rows.Entry.{Entry}
 use Rattle.valiant.specs.Charts.{IsEntryOf}
 use Rattle.valiant.specs.Rows.{found, found_at, HasRisingEnds}
@@ -30,11 +30,6 @@ AreLastRows {C} symbols g kinds rows =
 -- the two lists have the same numbers
 abbrev pub HasSame : List ℕ → List ℕ → Type 0
 HasSame one other = (n : ℕ) → Contains other n ↔ Contains one n
-
--- the new cell has what the old one has, and the product of the two lists
-abbrev pub AddsProduct : Expansion → List ℕ → List ℕ → List ℕ → List ℕ → Type 0
-AddsProduct g left right old new =
-    (n : ℕ) → Contains new n ↔ (Contains old n ⊎ IsProductNumber g left right n)
 
 -- the cut at the end of the row's entry k, in the span up to this end, gives the number
 abbrev pub IsOfEntry : {C : Type 0} → (C → List ℕ) → Expansion → ℕ → List (List (Entry C))
@@ -65,7 +60,7 @@ pub record AddsCut {C : Type 0} (symbols : C → List ℕ) (g : Expansion) (left
     (e : Entry C) (old new : List C) : Type 0 where
   pub count : length new ≡ length old
   pub at : (c d : C) → slice_get old e.end ≡ Some c → slice_get new e.end ≡ Some d
-      → AddsProduct g left (symbols e.cell) (symbols c) (symbols d)
+      → AddsProductOf g left (symbols e.cell) (symbols c) (symbols d)
   pub others : (j : ℕ) → j ≢ e.end → slice_get new j ≡ slice_get old j
 
 -- the cell of each end gets the product of the list and what the row has for the end
@@ -73,7 +68,7 @@ pub record AddsCuts {C : Type 0} (symbols : C → List ℕ) (g : Expansion) (lef
     (behind : List (Entry C)) (old new : List C) : Type 0 where
   pub count : length new ≡ length old
   pub each : (j : ℕ) (c d : C) → slice_get old j ≡ Some c → slice_get new j ≡ Some d
-      → AddsProduct g left (found symbols behind j) (symbols c) (symbols d)
+      → AddsProductOf g left (found symbols behind j) (symbols c) (symbols d)
 
 -- no cell has symbols
 abbrev pub AreEmpty : {C : Type 0} → (C → List ℕ) → List C → Type 0

@@ -1,5 +1,6 @@
--- Serves the proofs alone. The entries that a chart keeps: for each token the row of those that begin
--- with it and are not empty, in the order of their ends. The row of the last token stands first.
+-- Serves the proofs alone. The entries that a chart keeps: for each token the row of those that
+-- begin with it and are not empty, in the order of their ends. The row of the last token stands
+-- first.
 use Rattle.std.specs.Prelude.{◌≡◌, ℕ, ◌+◌, ◌-◌, ◌<◌, ◌≤◌, ◌≢◌, List, [], ◌∷◌, Option, Some, None}
 use Rattle.std.specs.Prelude.{if◌then◌else◌, ◌==◌, length, slice_get, slice_index_or, Result, MatchResult}
 use Rattle.std.specs.declared.alloc.Global.{Global}

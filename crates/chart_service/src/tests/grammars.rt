@@ -1,5 +1,6 @@
-//! Grammars and the line that each gets: its counts where it is accepted, or its refusal. A row has a
-//! name, the grammar's block, and the line. Last come grammars with texts and questions on them.
+//! Grammars and the line that each gets: its counts where it is accepted, or its refusal. A row has
+//! a name, the grammar's block, and the line. Then come grammars with texts and questions on them,
+//! and last the lines of large grammars, or of none, before so many bytes: one rule, and spaces.
 
 pub(super) const ACCEPTED: &[(&str, &[u8], &[u8])] = &[
     (
@@ -334,8 +335,11 @@ pub(super) const REFUSED: &[(&str, &[u8], &[u8])] = &[
     ),
 ];
 
-/// A row has a name, the grammar's block, the rest of the script, and the session.
-pub(super) const ENTRIES: &[(&str, &[u8], &[u8], &[u8])] = &[
+/// Grammars that are asked: with and without a first rule, of words, of chains, of brackets, and
+/// with categories that derive the empty span; on spans of one token and more, on empty ones, and
+/// on spans that are not the text's. A row has a name, the grammar's block, the rest of the script,
+/// and the session.
+pub(super) const ASKED: &[(&str, &[u8], &[u8], &[u8])] = &[
     (
         "the entry is the category of the first rule",
         b"P. S ::= A B ; Q. A ::= \"x\" ; R. B ::= \"y\" ;",
@@ -471,5 +475,90 @@ pub(super) const ENTRIES: &[(&str, &[u8], &[u8], &[u8])] = &[
         b"grammar rules 0 categories 0 kinds 0\n\
           version 0 tokens 1\nrefused category\n\
           refused category\nrefused category\nend\n",
+    ),
+];
+
+/// A row has a name, the line, the number of bytes behind it, what stands behind these, the status
+/// and the session.
+pub(super) const LARGE: &[(&str, &[u8], usize, &[u8], u8, &[u8])] = &[
+    (
+        "65,536 bytes",
+        b"grammar 65536\n",
+        65_536,
+        b"\nopen 0\n\nend\n",
+        0,
+        b"grammar rules 1 categories 1 kinds 1\nversion 0 tokens 0\nend\n",
+    ),
+    (
+        "65,537 bytes",
+        b"grammar 65537\n",
+        65_537,
+        b"\nopen 0\n\nend\n",
+        2,
+        b"grammar refused large 65537\n",
+    ),
+    (
+        "200,000 bytes, behind which the input ends",
+        b"grammar 200000\n",
+        200_000,
+        b"\n",
+        2,
+        b"grammar refused large 200000\n",
+    ),
+    (
+        "65,536 bytes that are told one too many",
+        b"grammar 65537\n",
+        65_536,
+        b"\nopen 0\n\nend\n",
+        3,
+        b"script refused 9\n",
+    ),
+    (
+        "65,537 bytes, cut short by one byte",
+        b"grammar 65537\n",
+        65_536,
+        b"",
+        3,
+        b"script refused 9\n",
+    ),
+    (
+        "65,537 bytes, cut short before the LF",
+        b"grammar 65537\n",
+        65_537,
+        b"",
+        3,
+        b"script refused 9\n",
+    ),
+    (
+        "another byte in the place of the LF",
+        b"grammar 65537\n",
+        65_537,
+        b"\ropen 0\n\nend\n",
+        3,
+        b"script refused 9\n",
+    ),
+    (
+        "nine digits, cut short",
+        b"grammar 999999999\n",
+        65_537,
+        b"\n",
+        3,
+        b"script refused 9\n",
+    ),
+    (
+        "ten digits",
+        b"grammar 1000000000\n",
+        65_537,
+        b"\n",
+        3,
+        b"script refused 9\n",
+    ),
+    (
+        "ten digits, of which the first is 0",
+        b"grammar 0000065537\n",
+        65_537,
+        b"\n",
+        3,
+        b"script refused 9\n",
     ),
 ];

@@ -1,5 +1,4 @@
-use Rattle.std.proofs.Common.{length, ◌≤◌, arith}
-use Rattle.binary_form.proofs.BuildLemmas.{set_more, set_all}
+use Rattle.binary_form.proofs.BuildLemmas.{set_more}
 use Rattle.binary_form.proofs.build.cell_of.Goals as goal
 
 pub loop-number-preserved : goal.loop-number-preserved

@@ -1,4 +1,3 @@
-use Rattle.std.proofs.Common.{◌↔◌}
 use Rattle.binary_form.proofs.ReachedLemmas.{steps_within, reached_flags}
 use Rattle.binary_form.proofs.build.closure_of.Goals as goal
 

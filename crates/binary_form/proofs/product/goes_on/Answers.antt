@@ -1,4 +1,4 @@
-use Rattle.std.proofs.Common.{◌<◌, ◌+◌, get_or, arith}
+use Rattle.std.proofs.Common.{get_or, arith}
 use Rattle.std.proofs.lemmas.List.Elements.{Contains-get_or}
 use Rattle.binary_form.specs.Products.{GoesOn}
 use Rattle.binary_form.proofs.GivingLemmas.{not_true, none_more, none_of_all}

@@ -1,4 +1,4 @@
-use Rattle.std.proofs.Common.{refl, arith}
+use Rattle.std.proofs.Common.{arith}
 use Rattle.binary_form.proofs.GivingLemmas.{has_next, has_each}
 use Rattle.binary_form.proofs.product.has_all.Goals as goal
 

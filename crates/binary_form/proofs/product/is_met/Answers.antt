@@ -1,4 +1,4 @@
-use Rattle.std.proofs.Common.{◌≤◌, ◌<◌, arith}
+use Rattle.std.proofs.Common.{arith}
 use Rattle.binary_form.specs.Products.{IsItemMet}
 use Rattle.number_graph.proofs.LinkLemmas.{link_within}
 use Rattle.binary_form.proofs.GivingLemmas.{not_true, none_up_to, none_at_all}

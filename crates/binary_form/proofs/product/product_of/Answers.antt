@@ -1,8 +1,7 @@
-use Rattle.std.proofs.Common.{◌≡◌, ◌≤◌, ◌<◌, ℕ, List, [], length, slice_index_or, arith}
-use Rattle.std.specs.List.{Contains}
-use Rattle.binary_form.specs.Products.{GoOnBelow, ItemGives}
+use Rattle.std.proofs.Common.{arith}
+use Rattle.binary_form.specs.Products.{ItemGives}
 use Rattle.number_graph.proofs.LinkLemmas.{link_within}
-use Rattle.binary_form.proofs.GivingLemmas.{given_start, given_more, given_all}
+use Rattle.binary_form.proofs.GivingLemmas.{given_more, given_all}
 use Rattle.binary_form.proofs.product.product_of.Goals as goal
 
 pub with_wholes-requires-clause-below : goal.with_wholes-requires-clause-below

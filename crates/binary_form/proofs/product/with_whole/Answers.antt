@@ -1,5 +1,4 @@
 use Rattle.std.proofs.Common.{◌<◌, length, refl, arith}
-use Rattle.std.proofs.lemmas.Bool.{false≢true}
 use Rattle.std.proofs.lemmas.Option.{slice_get_read}
 use Rattle.std.proofs.lemmas.Result.{IfOk-weaker}
 use Rattle.binary_form.specs.Products.{Adds, WholeGives}

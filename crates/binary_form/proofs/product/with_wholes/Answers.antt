@@ -1,7 +1,7 @@
-use Rattle.std.proofs.Common.{ℕ, List, take, subst, get_or}
+use Rattle.std.proofs.Common.{take, get_or}
 use Rattle.std.proofs.lemmas.List.{take_more, take_all}
 use Rattle.std.proofs.lemmas.List.Elements.{Contains-get_or}
-use Rattle.binary_form.specs.Products.{Adds, OneGives, WholeGives}
+use Rattle.binary_form.specs.Products.{WholeGives}
 use Rattle.binary_form.proofs.GivingLemmas.{adds_more}
 use Rattle.binary_form.proofs.product.with_wholes.Goals as goal
 

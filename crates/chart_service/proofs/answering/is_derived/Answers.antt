@@ -2,7 +2,6 @@
 use Rattle.std.proofs.Common.{ap, ◌∙◌}
 use Rattle.spec_lbnf.specs.Expansion.{Expansion}
 use Rattle.binary_form.specs.Symbols.{plain, number_of}
-use Rattle.binary_form.specs.BinaryForm.{IsNullableNumber}
 use Rattle.spec_grammar.specs.declared.rule.Symbol.TheVariants.{Category}
 use Rattle.chart_service.proofs.AnsweringLemmas.{entry_derives, empty_derives}
 use Rattle.chart_service.proofs.answering.is_derived.Goals as goal

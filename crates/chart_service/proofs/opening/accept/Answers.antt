@@ -5,9 +5,10 @@ use Rattle.chart_service.proofs.OpeningLemmas.{cut_short}
 use Rattle.chart_service.proofs.opening.accept.Goals as goal
 
 pub returns-in-Err-say_grammar-clause-ok : goal.returns-in-Err-say_grammar-clause-ok
-returns-in-Err-say_grammar-clause-ok g c =
-    cut_short c.args.block.now (grammar_reply c.in-Ok.language.grammar) (g.K.Sink.written c.args.sink.now) (g.K.Sink.written c.say_grammar.new.sink)
-    (inr (c.in-Ok.language.grammar, c.in-Ok.ensures.0, refl)) c.in-Err-say_grammar.ensures.err c.in-Err-say_grammar.status c.in-Err-say_grammar.ensures.stop
+returns-in-Err-say_grammar-clause-ok g c block found =
+    cut_short block (grammar_reply c.in-Ok.language.grammar) (g.K.Sink.written c.args.sink.now) (g.K.Sink.written c.say_grammar.new.sink)
+    (inr (c.in-Ok.language.grammar, (c.in-Ok.ensures block found).0, refl)) c.in-Err-say_grammar.ensures.err c.in-Err-say_grammar.status c.in-Err-say_grammar.ensures.stop
 
 pub returns-in-Err-clause-ok : goal.returns-in-Err-clause-ok
-returns-in-Err-clause-ok g c = c.refuse_grammar.ensures.ends c.args.block.now c.in-Err.ensures
+returns-in-Err-clause-ok g c block found =
+    c.refuse_grammar.ensures.ends block (c.in-Err.ensures block found)

@@ -1,4 +1,4 @@
--- A grammar that is spelled, known and without a cycle is accepted, where it has few symbols.
+-- A grammar that is spelled and fit is accepted, where it has few symbols.
 use Rattle.chart_service.proofs.OpeningLemmas.{accepted, crowded_language}
 use Rattle.chart_service.proofs.opening.read_language.Goals as goal
 
@@ -6,10 +6,10 @@ pub returns-in-Ok-language_of : goal.returns-in-Ok-language_of
 returns-in-Ok-language_of c =
     let read = c.in-Ok-expand.ensures in
     accepted c.args.block.now c.in-Ok.defs c.in-Ok-expand.grammar c.in-Ok-language_of.language
-    c.in-Ok.ensures read.0 read.1 read.2 c.in-Ok-language_of.ensures
+    c.in-Ok.ensures read.0 read.1 c.in-Ok-language_of.ensures
 
 pub returns : goal.returns
 returns c =
     let read = c.in-Ok-expand.ensures in
     crowded_language c.args.block.now c.in-Ok.defs c.in-Ok-expand.grammar c.in-Err-language_of.fault
-    c.in-Ok.ensures read.0 read.1 read.2 c.in-Err-language_of.ensures
+    c.in-Ok.ensures read.0 read.1 c.in-Err-language_of.ensures

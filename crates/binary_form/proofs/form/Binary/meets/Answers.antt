@@ -1,4 +1,3 @@
-use Rattle.std.proofs.Common.{◌≡◌, sym, ◌∙◌}
 use Rattle.binary_form.proofs.WholeLemmas.{links_go_on, met_is}
 use Rattle.binary_form.proofs.form.Binary.meets.Goals as goal
 

@@ -1,5 +1,5 @@
-use Rattle.std.proofs.Common.{◌<◌, ◌≤◌, arith}
-use Rattle.binary_form.specs.Symbols.{suffix, number_of}
+use Rattle.std.proofs.Common.{arith}
+use Rattle.binary_form.specs.Symbols.{suffix}
 use Rattle.binary_form.proofs.NumberLemmas.{numbers_below}
 use Rattle.binary_form.proofs.FormLemmas.{suffix_number}
 use Rattle.binary_form.proofs.form.Binary.suffix_of.Goals as goal

@@ -1,4 +1,3 @@
-use Rattle.std.proofs.Common.{rules, ◌≡◌, ◌<◌, ◌≤◌, ℕ, ◌+◌, length, arith}
 use Rattle.binary_form.proofs.FormLemmas.{cell_closure}
 use Rattle.binary_form.proofs.form.Binary.up.Goals as goal
 
