@@ -4,13 +4,14 @@ use Rattle.std.specs.Option.{option_map}
 use Rattle.std.proofs.lemmas.List.{length-map}
 use Rattle.std.proofs.lemmas.Option.{none-some, same_Some, slice_get-map, slice_get-get_or}
 use Rattle.spec_lbnf.specs.declared.definition.Def.{Def}
-use Rattle.spec_lbnf.specs.FirstForm.{pieces_of, size_of, SpellsDef, Spells, IsUnbuilt, IsFirstUnbuilt}
+use Rattle.spec_lbnf.specs.FirstForm.{pieces_of, SpellsDef, Spells, IsUnbuilt, IsFirstUnbuilt}
+use Rattle.spec_lbnf.specs.Limits.{AreWithinLimits}
 use Rattle.spec_lbnf.proofs.FileLemmas.{item_at}
-use Rattle.spec_lbnf.proofs.SizeLemmas.{two_bytes_each}
 use Rattle.lbnf_text.specs.declared.fault.TextFault.{TextFault}
 use Rattle.lbnf_text.specs.declared.fault.TextFault.TheVariants.{Memory, Unbuilt}
 use Rattle.lbnf_text.specs.Reading.{ReadsDefs}
 use Rattle.lbnf_text.specs.PieceReading.{ReadsPiece}
+use Rattle.lbnf_text.proofs.LimitLemmas.{spelled_within}
 
 -- an item of a list with one more at its end is an item of the list, or the last
 slice_get_push : {X : Type 0} (xs : List X) (x y : X) (k : ℕ) → slice_get (xs ++ x ∷ []) k ≡ Some y
@@ -86,12 +87,11 @@ piece_at slices number d lt =
     let now : Bor (List ℕ) → List ℕ = λ p. p.now in
     slice_get-map now slices number ∙ ap (option_map now) (slice_get-get_or slices number d lt)
 
--- where all pieces of at most 65,536 bytes are read, the definitions and items are at most 32,768
-pub few_read : (slices : List (Bor (List ℕ))) (bytes : List ℕ) (number : ℕ) (defs : List Def)
+-- where all pieces of at most 65,536 bytes are read, the definitions are within the limits
+pub limits_read : (slices : List (Bor (List ℕ))) (bytes : List ℕ) (number : ℕ) (defs : List Def)
     → map (λ p. p.now) slices ≡ pieces_of bytes → AreReadUpTo (map (λ p. p.now) slices) number defs
-    → number ≡ length slices → length bytes ≤ 65536 → size_of defs ≤ 32768
-few_read slices bytes number defs pieces read all short =
+    → number ≡ length slices → length bytes ≤ 65536 → AreWithinLimits defs
+limits_read slices bytes number defs pieces read all short =
     let now : Bor (List ℕ) → List ℕ = λ p. p.now in
     let read_all : AreReadUpTo (pieces_of bytes) number defs = subst (λ ps. AreReadUpTo ps number defs) pieces read in
-    let spelled = all_read bytes number defs read_all (all ∙ sym (length-map slices now) ∙ ap length pieces) in
-    omega (arith, two_bytes_each bytes defs spelled, short)
+    spelled_within bytes defs (all_read bytes number defs read_all (all ∙ sym (length-map slices now) ∙ ap length pieces)) short

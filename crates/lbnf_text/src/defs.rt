@@ -1,6 +1,6 @@
 //! The definitions of a grammar file.
-ghost use Rattle.std.specs.Prelude.{◌≡◌, ◌≤◌};
-ghost use Rattle.spec_lbnf.specs.FirstForm.{size_of};
+ghost use Rattle.std.specs.Prelude.{◌≡◌};
+ghost use Rattle.spec_lbnf.specs.Limits.{AreWithinLimits};
 
 use spec_lbnf::Def;
 use std::marker::Model;
@@ -13,20 +13,20 @@ pub struct Defs {
 }
 
 impl Model for Defs {
-    ghost use Rattle.std.specs.Prelude.{List, ◌≤◌};
+    ghost use Rattle.std.specs.Prelude.{List};
     ghost use Rattle.spec_lbnf.specs.declared.definition.Def.{Def};
-    ghost use Rattle.spec_lbnf.specs.FirstForm.{size_of};
+    ghost use Rattle.spec_lbnf.specs.Limits.{AreWithinLimits};
 
     ghost Value = { List Def };
 
     ghost view = { λ defs. defs.list.items };
 
-    ghost invariant = { λ defs. size_of defs.list.items ≤ 32768 };
+    ghost invariant = { λ defs. AreWithinLimits defs.list.items };
 }
 
 impl Defs {
     pub(crate) fn of(list: Vec<Def>) -> Defs
-        requires { size_of list.items ≤ 32768 }
+        requires { AreWithinLimits list.items }
         ensures { result ≡ list.items }
     {
         Defs { list }
@@ -35,7 +35,7 @@ impl Defs {
     /// The definitions, in file order. It takes no memory.
     pub fn as_slice(&self) -> &[Def]
         ensures list { result.now ≡ self.now }
-        ensures few { size_of self.now ≤ 32768 }
+        ensures limits { AreWithinLimits self.now }
     {
         self.list.as_slice()
     }

@@ -2,7 +2,7 @@ use Rattle.std.proofs.Common.{◌≡◌, ◌++◌, ◌∷◌, [], ℕ, List, map
 use Rattle.std.proofs.lemmas.Result.{err_from_is_err_and}
 use Rattle.spec_lbnf.specs.FirstForm.{pieces_of}
 use Rattle.spec_lbnf.specs.declared.definition.Def.{Def}
-use Rattle.lbnf_text.proofs.PieceLemmas.{AreReadUpTo, more_read, fails, piece_at, few_read}
+use Rattle.lbnf_text.proofs.PieceLemmas.{AreReadUpTo, more_read, fails, piece_at, limits_read}
 use Rattle.lbnf_text.proofs.reading.read_defs.Goals as goal
 
 pub returns-in_err-def : goal.returns-in_err-def
@@ -27,4 +27,4 @@ pub of-requires : goal.of-requires
 of-requires c =
     let slices : List (Bor (List ℕ)) = c.deref-piece-items.result.now in
     let pieces : map (λ p. p.now) slices ≡ pieces_of c.args.bytes.now = search rules in
-    few_read slices c.args.bytes.now c.loop-number.number c.loop-number.list.items pieces c.loop-number.invariant (search rules) c.requires
+    limits_read slices c.args.bytes.now c.loop-number.number c.loop-number.list.items pieces c.loop-number.invariant (search rules) c.requires
