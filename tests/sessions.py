@@ -445,72 +445,85 @@ for name, grammar, wanted in [
     ('2,048 symbols, one of them a kind', b'A. S ::= ' + b'"a" ' * 2046 + b';', counts(1, 1, 1)),
     ('2,048 symbols of many rules', b'A. S ::= "a" S ;' * 1023, counts(1023, 1, 1)),
     ('2,047 symbols, 1,023 of them kinds', b'A. S ::= ' + b''.join(b'"%d" ' % k for k in range(1023)) + b';', counts(1, 1, 1023)),
-    ('1,024 pieces', b'A. S ::= "a" ;' * 1024, counts(1024, 1, 1)),
-    ('1,024 pieces and white ones', b' ;' + b'A. S ::= "a" ;' * 1024 + b'; ;', counts(1024, 1, 1)),
+    ('an empty string', b'A. S ::= "" ;', counts(1, 1, 0)),
+    ('two words in a string', b'A. S ::= "a b" ;', counts(1, 1, 2)),
+    ('a backslash in a word', b'A. S ::= "\\\\" ;', counts(1, 1, 1)),
+    ('the byte 7F in a word', b'A. S ::= "\x7f" ;', counts(1, 1, 1)),
+    ('a semicolon in a word', b'A. S ::= "a" ; B. S ::= ";" ;', counts(2, 1, 2)),
+    ('a line comment', b'-- one rule\nA. S ::= "a" ;', counts(1, 1, 1)),
+    ('a terminator', b'A. S ::= "a" ; terminator S "," ;', counts(3, 2, 2)),
+    ('coercions', b'coercions Exp 2 ;', counts(3, 3, 2)),
+    ('1,024 rules', b'A. S ::= "a" ;' * 1024, counts(1024, 1, 1)),
+    ('1,024 rules and empty definitions', b' ;' + b'A. S ::= "a" ;' * 1024 + b'; ;', counts(1024, 1, 1)),
 ]:
     case('accepted: ' + name, with_grammar(grammar, b'open 0\n\nend\n'), wanted + b'version 0 tokens 0\nend\n', 0)
 
 # ---- Grammars that are refused: nothing behind them is read as a command, and nothing else is written.
 
 
+def refused(*reason):
+    words = [word if isinstance(word, bytes) else str(word).encode() for word in reason]
+    return b'grammar refused ' + b' '.join(words) + b'\n'
+
+
 def unbuilt(number):
-    return b'grammar refused unbuilt ' + str(number).encode() + b'\n'
+    return refused(b'unbuilt', number)
+
+
+def syntax(at):
+    return refused(b'syntax', at)
 
 
 def unknown(name, number):
-    return b'grammar refused category ' + name + b' ' + str(number).encode() + b'\n'
+    return refused(b'category', name, number)
 
 
 def cyclic(name):
-    return b'grammar refused cyclic ' + name + b'\n'
+    return refused(b'cyclic', name)
 
 
 def symbols(number):
-    return b'grammar refused symbols ' + str(number).encode() + b'\n'
+    return refused(b'symbols', number)
 
 
 for name, grammar, wanted in [
-    ('a label of 65 bytes', N65 + b'. S ::= "a" ;', unbuilt(0)),
-    ('a category of 65 bytes', b'One. ' + N65 + b' ::= "a" ;', unbuilt(0)),
-    ('an item of 65 bytes', b'P. S ::= S ' + N65 + b' ;', unbuilt(0)),
-    ('a label in lower case', b'one. S ::= "a" ;', unbuilt(0)),
-    ('a category in lower case', b'One. s ::= "a" ;', unbuilt(0)),
-    ('an item in lower case', b'One. S ::= S s ;', unbuilt(0)),
-    ('a label that begins with a digit', b'1A. S ::= "a" ;', unbuilt(0)),
-    ('a label that begins with an underscore', b'_. S ::= S S ;', unbuilt(0)),
-    ('a label of two bytes above 7F', b'\xc3\x89. S ::= "a" ;', unbuilt(0)),
-    ('a list for a category', b'A. [S] ::= "a" ;', unbuilt(0)),
-    ('a list label', b'[]. S ::= "a" ;', unbuilt(0)),
-    ('a predefined name for a category', b'A. Integer ::= "a" ;', unbuilt(0)),
+    ('a label of 65 bytes', N65 + b'. S ::= "a" ;', syntax(0)),
+    ('a category of 65 bytes', b'One. ' + N65 + b' ::= "a" ;', syntax(5)),
+    ('an item of 65 bytes', b'P. S ::= S ' + N65 + b' ;', syntax(11)),
+    ('a label in lower case', b'one. S ::= "a" ;', refused(b'unsupported one 0')),
+    ('a category in lower case', b'One. s ::= "a" ;', syntax(5)),
+    ('an item in lower case', b'One. S ::= S s ;', syntax(13)),
+    ('a label that begins with a digit', b'1A. S ::= "a" ;', syntax(0)),
+    ('no label of its own beside two items', b'_. S ::= S S ;', refused(b'coercion', 0)),
+    ('a label of two bytes above 7F', b'\xc3\x89. S ::= "a" ;', syntax(0)),
+    ('a name for a list', b'A. [S] ::= "a" ;', refused(b'list', 0)),
+    ('a list label for no list', b'[]. S ::= "a" ;', refused(b'list', 0)),
+    ('a predefined name for a category', b'A. Integer ::= "a" ;', refused(b'token Integer')),
     ('a predefined name among the items', b'A. S ::= "a" ; B. S ::= S Char ;', unbuilt(1)),
-    ('an empty word', b'A. S ::= "" ;', unbuilt(0)),
-    ('a space in a word', b'A. S ::= "a b" ;', unbuilt(0)),
-    ('a backslash in a word', b'A. S ::= "\\\\" ;', unbuilt(0)),
-    ('a quote in a word', b'A. S ::= "a"b" ;', unbuilt(0)),
-    ('the byte 7F in a word', b'A. S ::= "\x7f" ;', unbuilt(0)),
-    ('the byte FF in a word', b'A. S ::= "\xff" ;', unbuilt(0)),
-    ('the byte FF behind a rule', b'A. S ::= "a" \xff', unbuilt(0)),
-    ('a semicolon in a word', b'A. S ::= "a" ; B. S ::= ";" ;', unbuilt(1)),
-    ('a word without its last quote', b'A. S ::= "a ;', unbuilt(0)),
-    ('a word without its first quote', b'A. S ::= a" ;', unbuilt(0)),
-    ('no label', b'S ::= "a" ;', unbuilt(0)),
-    ('no dot', b'A S ::= "a" ;', unbuilt(0)),
-    ('no category', b'A. ::= "a" ;', unbuilt(0)),
-    ('another sign for `::=`', b'A. S := "a" ;', unbuilt(0)),
-    ('a white byte inside `::=`', b'A. S : := "a" ;', unbuilt(0)),
-    ('a token behind a word', b'A. S ::= "a" . ;', unbuilt(0)),
-    ('a token behind two categories', b'A. S ::= S S . ;', unbuilt(0)),
-    ('a zero byte between tokens', b'A.\x00S ::= "a" ;', unbuilt(0)),
-    ('a line comment', b'-- one rule\nA. S ::= "a" ;', unbuilt(0)),
-    ('a terminator', b'A. S ::= "a" ; terminator S "," ;', unbuilt(1)),
-    ('coercions', b'coercions Exp 2 ;', unbuilt(0)),
-    ('white pieces are not counted', b' ; ;; A. S ::= "a" ; \n; B. S ::= s ;', unbuilt(1)),
-    ('the first of two pieces that are not built', b'A. S ::= "a" ; B. S ::= s ; C. S ::= t ;', unbuilt(1)),
-    ('1,025 pieces', b'A. S ::= "a" ;' * 1025, unbuilt(1024)),
-    ('1,030 pieces', b'A. S ::= "a" ;' * 1030, unbuilt(1024)),
-    ('1,025 pieces, the fourth not built', b'A. S ::= "a" ;' * 3 + b'B. S ::= s ;' + b'A. S ::= "a" ;' * 1021, unbuilt(3)),
-    ('1,025 pieces, the last not built', b'A. S ::= "a" ;' * 1024 + b'B. S ::= s ;', unbuilt(1024)),
-    ('1,025 pieces, the last with an empty right side', b'A. S ::= "a" ;' * 1024 + b'B. S ::= ;', unbuilt(1024)),
+    ('a quote in a word', b'A. S ::= "a"b" ;', syntax(12)),
+    ('the byte FF in a word', b'A. S ::= "\xff" ;', refused(b'utf8', 10)),
+    ('the byte FF behind a rule', b'A. S ::= "a" \xff', refused(b'utf8', 13)),
+    ('a word without its last quote', b'A. S ::= "a ;', syntax(9)),
+    ('a word without its first quote', b'A. S ::= a" ;', syntax(9)),
+    ('no label', b'S ::= "a" ;', syntax(2)),
+    ('no dot', b'A S ::= "a" ;', syntax(2)),
+    ('no category', b'A. ::= "a" ;', syntax(3)),
+    ('another sign for `::=`', b'A. S := "a" ;', syntax(5)),
+    ('a white byte inside `::=`', b'A. S : := "a" ;', syntax(5)),
+    ('a token behind a word', b'A. S ::= "a" . ;', syntax(13)),
+    ('a token behind two categories', b'A. S ::= S S . ;', syntax(13)),
+    ('a zero byte between tokens', b'A.\x00S ::= "a" ;', syntax(2)),
+    ('empty definitions are not counted', b' ; ;; A. S ::= "a" ; \n; token T \'a\' ;', unbuilt(1)),
+    ('a comment of the language is not built', b'comment "//" ; A. S ::= "a" ;', unbuilt(0)),
+    ('a token with its place is not built', b'A. S ::= "a" ; position token T \'a\' ;', unbuilt(1)),
+    ('the first of two faults', b'A. S ::= "a" ; B. S ::= s ; C. S ::= t ;', syntax(24)),
+    ('1,025 rules', b'A. S ::= "a" ;' * 1025, refused(b'rules', 1025)),
+    ('1,030 rules', b'A. S ::= "a" ;' * 1030, refused(b'rules', 1030)),
+    ('1,025 rules, a fault in the fourth', b'A. S ::= "a" ;' * 3 + b'B. S ::= s ;' + b'A. S ::= "a" ;' * 1021, syntax(51)),
+    ('1,025 rules, a fault in the last', b'A. S ::= "a" ;' * 1024 + b'B. S ::= s ;', syntax(14345)),
+    ('1,025 rules, the last with an empty right side', b'A. S ::= "a" ;' * 1024 + b'B. S ::= ;', refused(b'rules', 1025)),
+    ('1,025 rules by one macro', b'coercions E 1024 ;', refused(b'rules', 1025)),
+    ('the symbols of 1,024 rules by one macro', b'coercions E 1023 ;', symbols(2052)),
     ('two categories without a white byte are one', b'A. S ::= "a" ; P. S ::= SS ;', unknown(b'SS', 1)),
     ('an unknown category', b'A. S ::= S T ;', unknown(b'T', 0)),
     ('an unknown category on the left', b'A. S ::= "a" ; B. S ::= T S ;', unknown(b'T', 1)),
@@ -518,8 +531,8 @@ for name, grammar, wanted in [
     ('the first definition that names an unknown category', b'A. S ::= S U ; B. S ::= T S ;', unknown(b'U', 0)),
     ('a category in other case is unknown', b'A. Exp ::= "a" ; B. Exp ::= Exp EXP ;', unknown(b'EXP', 1)),
     ('a label is no category', b'One. S ::= "a" ; P. S ::= S One ;', unknown(b'One', 1)),
-    ('a definition that is not built stands before an unknown category', b'A. S ::= T T ; B. S ::= s ;', unbuilt(1)),
-    ('a definition that is not built stands before a cycle', b'A. S ::= S ; B. S ::= s ;', unbuilt(1)),
+    ('a fault of syntax stands before an unknown category', b'A. S ::= T T ; B. S ::= s ;', syntax(24)),
+    ('a fault of syntax stands before a cycle', b'A. S ::= S ; B. S ::= s ;', syntax(22)),
     ('an unknown category of 64 bytes', b'P. S ::= S ' + N64 + b' ;', unknown(N64, 0)),
     ('an unknown category behind an empty right side', b'A. S ::= ; B. S ::= "a" S T ;', unknown(b'T', 1)),
     ('an unknown category behind a cycle', b'A. S ::= S ; B. S ::= "a" T ;', unknown(b'T', 1)),
@@ -551,7 +564,7 @@ for name, grammar, wanted in [
 ]:
     case('refused: ' + name, with_grammar(grammar, b'open 0\n\nend\n'), wanted, 2)
 
-case('refused: the input ends behind the grammar', with_grammar(b'A. S ::= s ;', b''), unbuilt(0), 2)
+case('refused: the input ends behind the grammar', with_grammar(b'A. S ::= s ;', b''), syntax(9), 2)
 case('refused: the input ends behind a cyclic grammar', with_grammar(b'A. S ::= S ;', b''), cyclic(b'S'), 2)
 case('refused: a break behind a cyclic grammar has no effect', with_grammar(b'A. S ::= S ;', b'hass S\n'), cyclic(b'S'), 2)
 case('refused: a break behind the grammar has no effect', with_grammar(b'A. S ::= S T ;', b'hass S\n'), unknown(b'T', 0), 2)
