@@ -13,25 +13,33 @@ use Rattle.spec_lbnf.specs.FileDefinitions.{piece_at, behind_piece, place_of, pi
 abbrev pub ends_piece : PlacedToken → Bool
 ends_piece token = is_semicolon token.token
 
--- a piece goes up to the first semicolon
-pub piece_front : (tokens : List PlacedToken) → take (position_or_len ends_piece tokens) tokens ≡ piece_at tokens
+-- a piece has the tokens up to the first semicolon
+pub piece_size : (tokens : List PlacedToken) → position_or_len ends_piece tokens ≡ length (piece_at tokens)
+piece_size [] = refl
+piece_size (token ∷ rest) = elim (cases_Bool (is_semicolon token.token)) [
+  | inl ends ↦ rw ends refl
+  | inr more ↦ let one : 1 + length (piece_at rest) ≡ suc (length (piece_at rest)) = omega arith in rw (more, piece_size rest, one) refl
+]
+
+-- so many tokens are the piece
+pub piece_front : (tokens : List PlacedToken) → take (length (piece_at tokens)) tokens ≡ piece_at tokens
 piece_front [] = refl
 piece_front (token ∷ rest) = elim (cases_Bool (is_semicolon token.token)) [
   | inl ends ↦ rw ends refl
-  | inr more ↦ let one : 1 + position_or_len ends_piece rest ≡ suc (position_or_len ends_piece rest) = omega arith in rw (more, one) (ap (λ (ts : List PlacedToken). token ∷ ts) (piece_front rest))
+  | inr more ↦ rw more (ap (λ (ts : List PlacedToken). token ∷ ts) (piece_front rest))
 ]
 
 -- behind it are the tokens from the first semicolon on
-pub piece_behind : (tokens : List PlacedToken) → drop (position_or_len ends_piece tokens) tokens ≡ behind_piece tokens
+pub piece_behind : (tokens : List PlacedToken) → drop (length (piece_at tokens)) tokens ≡ behind_piece tokens
 piece_behind [] = refl
 piece_behind (token ∷ rest) = elim (cases_Bool (is_semicolon token.token)) [
   | inl ends ↦ rw ends refl
-  | inr more ↦ let one : 1 + position_or_len ends_piece rest ≡ suc (position_or_len ends_piece rest) = omega arith in rw (more, one) (piece_behind rest)
+  | inr more ↦ rw more (piece_behind rest)
 ]
 
 -- what is behind a piece is no longer than the tokens
 pub behind_shorter : (tokens : List PlacedToken) → length (behind_piece tokens) ≤ length tokens
-behind_shorter tokens = rw (← piece_behind tokens) (omega (arith, length-drop (position_or_len ends_piece tokens) tokens))
+behind_shorter tokens = rw (← piece_behind tokens) (omega (arith, length-drop (length (piece_at tokens)) tokens))
 
 -- what the definitions so far and those of the rest are together
 abbrev pub with_defs : List Def → Result (List Def) FileFault → Result (List Def) FileFault
@@ -129,7 +137,7 @@ module _ (tokens : List PlacedToken) (stop : ℕ) (defs : List Def) (first : Pla
 
 -- where no token ends the piece, it is as long as the tokens
 pub no_end : (tokens : List PlacedToken) → ((k : ℕ) (other : PlacedToken) → k < length tokens → ends_piece (get_or tokens k other) ≡ false)
-    → length tokens ≡ position_or_len ends_piece tokens
+    → length tokens ≡ length (piece_at tokens)
 no_end [] none = refl
 no_end (token ∷ rest) none =
-    sym (position_or_len_is ends_piece (token ∷ rest) (length (token ∷ rest)) token (omega arith) (λ k lt. none k token lt) (λ lt. absurd (omega arith)))
+    sym (position_or_len_is ends_piece (token ∷ rest) (length (token ∷ rest)) token (omega arith) (λ k lt. none k token lt) (λ lt. absurd (omega arith))) ∙ piece_size (token ∷ rest)

@@ -1,5 +1,5 @@
--- Telling the fault of a definition. Serves the proofs alone: which fault it is, is said in Faults of
--- spec_lbnf.
+-- Telling the fault of a definition. Serves the proofs alone: which fault it is, is said in Faults
+-- of spec_lbnf.
 use Rattle.std.specs.Prelude.{◌≡◌, ◌≢◌, ℕ, List, [], ◌∷◌, Option, Some, None, Result, Ok, Err}
 use Rattle.spec_lbnf.specs.declared.token.FileToken.{FileToken}
 use Rattle.spec_lbnf.specs.declared.token.FileToken.TheVariants.{Identifier}
@@ -32,6 +32,11 @@ Reads view read (Err answer) = answer ≢ told.Memory → read ≡ Err (fault_of
 abbrev pub identifier : FileToken → Option (List ℕ)
 identifier (Identifier name) = Some name
 identifier other = None
+
+-- the fault of a word behind a first word
+abbrev pub second_word_fault : (number : ℕ) → (first word : List ℕ) → (at : ℕ) → FileFault
+second_word_fault number first word at =
+    piece_fault number (Identifier first ∷ []) (Identifier word) at
 
 -- the tokens begin a definition so; behind others than words each fault is one of syntax
 abbrev pub IsStart : List FileToken → Start → Type 0

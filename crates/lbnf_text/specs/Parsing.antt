@@ -1,8 +1,12 @@
 -- What a parser of tokens answers. Serves the proofs alone.
-use Rattle.std.specs.Prelude.{◌≡◌, ◌≢◌, ℕ, List, [], ◌∷◌, Bool, Result, Ok, Err}
+use Rattle.std.specs.Prelude.{◌≡◌, ◌≢◌, ℕ, List, [], ◌∷◌, Bool, Option, Some, None, Result, Ok, Err}
 use Rattle.std.specs.Borrow.{Bor}
 use Rattle.spec_lbnf.specs.declared.token.PlacedToken.{PlacedToken}
-use Rattle.spec_lbnf.specs.FileReading.{Read, got, stuck, long}
+use Rattle.spec_lbnf.specs.FileReading.{Read, Reader, got, stuck, long, next_on, pure}
+use Rattle.spec_lbnf.specs.FileReading.{sign_at, category_at}
+use Rattle.spec_lbnf.specs.declared.token.Sign.TheVariants.{Comma}
+use Rattle.spec_lbnf.specs.declared.definition.RawItem.{RawItem}
+use Rattle.spec_lbnf.specs.declared.definition.RawItem.TheVariants.{Cat}
 use Rattle.spec_lbnf.specs.declared.definition.CatName.{CatName}
 use Rattle.spec_lbnf.specs.declared.definition.Def.{Def}
 use Rattle.spec_lbnf.specs.declared.definition.Def.TheVariants as def
@@ -22,8 +26,14 @@ abbrev pub Gives : {A : Type 0} → Read A → Result A Stop → List PlacedToke
 Gives read (Ok value) rest = read ≡ got value rest
 Gives read (Err stop) rest = stop ≢ Memory → read ≡ stopped stop rest
 
+-- the answer is the first of the tokens and those behind it, or that there is none
+abbrev pub IsFirst : List PlacedToken → Option (Bor PlacedToken × Bor (List PlacedToken)) → Type 0
+IsFirst tokens (Some parts) = tokens ≡ parts.0.now ∷ parts.1.now
+IsFirst tokens None = tokens ≡ []
+
 -- the answer is the next token and those behind it, or that none is left
-abbrev pub Splits : List PlacedToken → Result (Bor PlacedToken × Bor (List PlacedToken)) Stop → Type 0
+abbrev pub Splits : List PlacedToken → Result (Bor PlacedToken × Bor (List PlacedToken)) Stop
+    → Type 0
 Splits tokens (Ok parts) = tokens ≡ parts.0.now ∷ parts.1.now
 Splits tokens (Err stop) = (tokens ≡ []) × (stop ≡ Stuck)
 
@@ -31,3 +41,11 @@ Splits tokens (Err stop) = (tokens ≡ []) × (stop ≡ Stuck)
 abbrev pub list_def : ListMacro → Bool → CatName → List ℕ → Def
 list_def Terminator nonempty cat word = def.Terminator nonempty cat word
 list_def Separator nonempty cat word = def.Separator nonempty cat word
+
+-- a category, as the items that it gives
+abbrev pub category_item_at : Reader (List RawItem)
+category_item_at tokens = next_on (λ cat. pure (Cat cat ∷ [])) (category_at tokens)
+
+-- a comma and a category
+abbrev pub next_entry_at : Reader CatName
+next_entry_at tokens = next_on (λ comma. category_at) (sign_at Comma tokens)

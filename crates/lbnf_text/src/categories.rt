@@ -48,7 +48,7 @@ impl<'a> Parser<'a> {
         ensures read { Gives (closes_at count self.old) result self.new }
         ensures within { OnOk result (length self.new ≤ length self.old) }
     {
-        for turn in 0..count {
+        for _turn in 0..count {
             self.sign(Sign::CloseBracket)?;
         }
         Ok(())

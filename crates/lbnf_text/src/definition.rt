@@ -1,10 +1,8 @@
 //! Reading one definition.
 ghost use Rattle.std.specs.Prelude.{◌≡◌, ◌∷◌, ◌<◌, length, OnOk};
-ghost use Rattle.spec_lbnf.specs.declared.token.Sign.TheVariants.{Comma};
-ghost use Rattle.spec_lbnf.specs.FileReading.{next_on, sign_at, category_at};
 ghost use Rattle.spec_lbnf.specs.FileReading.{rule_at, macro_at, list_macro_at, coercions_at};
 ghost use Rattle.spec_lbnf.specs.FileReading.{entries_at, to_end, def_by, def_at};
-ghost use Rattle.lbnf_text.specs.Parsing.{Gives, list_def};
+ghost use Rattle.lbnf_text.specs.Parsing.{Gives, list_def, next_entry_at};
 
 use crate::parser::{Parser, Stop, is_word};
 use spec_lbnf::{CatName, Def, PlacedToken, RawRule, Sign};
@@ -89,7 +87,7 @@ impl<'a> Parser<'a> {
     /// Reads a comma and a category.
     #[tactic(auto, unfolding(spec_lbnf::specs::FileReading::next_on))]
     fn next_entry(&mut self, alloc: Global) -> Result<CatName, Stop>
-        ensures read { Gives (next_on (λ comma. category_at) (sign_at Comma self.old)) result self.new }
+        ensures read { Gives (next_entry_at self.old) result self.new }
         ensures shorter { OnOk result (length self.new < length self.old) }
     {
         self.sign(Sign::Comma)?;

@@ -1,7 +1,5 @@
 //! Reading the definitions of a file from its tokens.
 ghost use Rattle.std.specs.Prelude.{◌≡◌, ◌≤◌, length};
-ghost use Rattle.std.specs.List.{position_or_len};
-ghost use Rattle.spec_lbnf.specs.declared.token.PlacedToken.{PlacedToken};
 ghost use Rattle.spec_lbnf.specs.GrammarFile.{is_semicolon};
 ghost use Rattle.spec_lbnf.specs.FileDefinitions.{piece_at, behind_piece, piece_def, defs_of};
 ghost use Rattle.lbnf_text.specs.Faulting.{Reads};
@@ -20,7 +18,7 @@ fn is_semicolon(token: &FileToken) -> bool
 
 /// How many tokens come before the first semicolon.
 fn piece_len(tokens: &[PlacedToken]) -> usize
-    ensures len { result ≡ position_or_len (λ (token : PlacedToken). is_semicolon token.token) tokens.now }
+    ensures len { result ≡ length (piece_at tokens.now) }
     ensures within { result ≤ length tokens.now }
 {
     for (i, token) in tokens.iter().enumerate() {

@@ -5,7 +5,7 @@ ghost use Rattle.std.specs.Option.{option_copied};
 ghost use Rattle.spec_lbnf.specs.declared.token.FileToken.TheVariants.{Identifier};
 ghost use Rattle.spec_lbnf.specs.Faults.{bare, unbuilt_words, word_fault, piece_fault, unsupported};
 ghost use Rattle.spec_lbnf.specs.FileDefinitions.{place_of, stuck_fault};
-ghost use Rattle.lbnf_text.specs.Faulting.{identifier, IsFault, IsStart};
+ghost use Rattle.lbnf_text.specs.Faulting.{identifier, second_word_fault, IsFault, IsStart};
 
 use crate::fault::TextFault;
 use crate::parser::{copy_name, first_of, is_sign, starts_upper};
@@ -122,7 +122,7 @@ fn first_fault(alloc: Global, number: u32, token: &FileToken, at: u32) -> TextFa
 
 /// The fault of a word behind a first word.
 fn second_word(alloc: Global, number: u32, first: &Name, word: &Name, at: u32) -> TextFault
-    ensures { IsFault (piece_fault number (Identifier first.now ∷ []) (Identifier word.now) at) result }
+    ensures { IsFault (second_word_fault number first.now word.now at) result }
 {
     if first.as_slice() != b"internal".as_slice() {
         return TextFault::Syntax { at };

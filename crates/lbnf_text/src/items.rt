@@ -1,9 +1,9 @@
 //! Reading the items of a right side.
-ghost use Rattle.std.specs.Prelude.{◌≡◌, ◌<◌, [], ◌∷◌, length, map, IfOk, OnOk};
-ghost use Rattle.spec_lbnf.specs.declared.definition.RawItem.TheVariants.{Cat, Word};
+ghost use Rattle.std.specs.Prelude.{◌≡◌, ◌<◌, length, map, IfOk, OnOk};
+ghost use Rattle.spec_lbnf.specs.declared.definition.RawItem.TheVariants.{Word};
 ghost use Rattle.spec_lbnf.specs.Words.{is_empty, words_in};
-ghost use Rattle.spec_lbnf.specs.FileReading.{next_on, pure, category_at, item_at, side_at};
-ghost use Rattle.lbnf_text.specs.Parsing.{Gives};
+ghost use Rattle.spec_lbnf.specs.FileReading.{item_at, side_at};
+ghost use Rattle.lbnf_text.specs.Parsing.{Gives, category_item_at};
 
 use crate::parser::{Parser, Stop, text_value};
 use spec_lbnf::RawItem;
@@ -46,7 +46,7 @@ impl<'a> Parser<'a> {
     /// Reads a category, as the items that it gives.
     #[tactic(auto, unfolding(spec_lbnf::specs::FileReading::next_on))]
     fn category_item(&mut self, alloc: Global) -> Result<Items<RawItem>, Stop>
-        ensures read { Gives (next_on (λ cat. pure (Cat cat ∷ [])) (category_at self.old)) result self.new }
+        ensures read { Gives (category_item_at self.old) result self.new }
         ensures shorter { OnOk result (length self.new < length self.old) }
     {
         let cat = self.category(alloc)?;

@@ -1,12 +1,12 @@
 //! The tokens of one definition, read from left to right.
-ghost use Rattle.std.specs.Prelude.{◌≡◌, ◌<◌, ◌↔◌, [], ◌∷◌, length, IfOk, OnOk, IsTrue};
-ghost use Rattle.std.specs.Prelude.{MatchOption};
+ghost use Rattle.std.specs.Prelude.{◌≡◌, ◌<◌, ◌↔◌, [], length, IfOk, OnOk, IsTrue};
 ghost use Rattle.std.specs.Option.{option_copied};
 ghost use Rattle.spec_lbnf.specs.FileBytes.{starts_upper};
 ghost use Rattle.spec_lbnf.specs.FileTokens.{sign_bytes};
-ghost use Rattle.spec_lbnf.specs.FileReading.{is_sign, is_word, upper_name, text_value, number_value};
+ghost use Rattle.spec_lbnf.specs.FileReading.{is_sign, is_word};
+ghost use Rattle.spec_lbnf.specs.FileReading.{upper_name, text_value, number_value};
 ghost use Rattle.spec_lbnf.specs.FileReading.{sign_at, name_at, text_at, number_at};
-ghost use Rattle.lbnf_text.specs.Parsing.{Gives, Splits};
+ghost use Rattle.lbnf_text.specs.Parsing.{Gives, IsFirst, Splits};
 
 use spec_lbnf::{FileToken, PlacedToken, Sign};
 use spec_text::Name;
@@ -149,7 +149,7 @@ impl<'a> Parser<'a> {
 
 /// The first of the tokens, and the tokens behind it.
 pub fn first_of(tokens: &[PlacedToken]) -> Option<(&PlacedToken, &[PlacedToken])>
-    ensures { MatchOption result (tokens.now ≡ []) (λ parts. tokens.now ≡ parts.0.now ∷ parts.1.now) }
+    ensures { IsFirst tokens.now result }
 {
     tokens.split_first()
 }

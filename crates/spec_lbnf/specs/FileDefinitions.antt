@@ -1,5 +1,5 @@
--- Reading the definitions of a file from its tokens. Serves the proofs alone: what the tokens spell is
--- said in GrammarFile, and their first fault in Faults.
+-- Reading the definitions of a file from its tokens. Serves the proofs alone: what the tokens spell
+-- is said in GrammarFile, and their first fault in Faults.
 use Rattle.std.specs.Prelude.{ℕ, zero, suc, ◌-◌, List, [], ◌∷◌, length, take, cond, Result, Ok, Err}
 use Rattle.spec_lbnf.specs.declared.definition.Def.{Def}
 use Rattle.spec_lbnf.specs.declared.token.PlacedToken.{PlacedToken}
@@ -22,12 +22,13 @@ abbrev pub place_of : List PlacedToken → ℕ → ℕ
 place_of [] stop = stop
 place_of (token ∷ rest) stop = token.place
 
--- the fault of a piece that cannot go on with its last tokens, these, by its number and by the place
--- of what stands behind it
+-- the fault of a piece that cannot go on with its last tokens, these, by its number and by the
+-- place of what stands behind it
 abbrev pub stuck_fault : (number : ℕ) → (piece rest : List PlacedToken) → (stop : ℕ) → FileFault
 stuck_fault number piece [] stop = syntax stop
 stuck_fault number piece (token ∷ rest) stop =
-    piece_fault number (bare (take (length piece - length (token ∷ rest)) piece)) token.token token.place
+    piece_fault number (bare (take (length piece - length (token ∷ rest)) piece))
+      token.token token.place
 
 -- the definition that was read of a piece, or its fault
 abbrev pub def_or_fault : (number : ℕ) → (piece : List PlacedToken) → (stop : ℕ) → Read Def
@@ -37,17 +38,19 @@ def_or_fault number piece stop (stuck rest) = Err (stuck_fault number piece rest
 def_or_fault number piece stop (long rest) = Err (syntax (place_of rest stop))
 
 -- the definition of a piece, or its fault
-unfoldable pub piece_def : (number : ℕ) → (piece : List PlacedToken) → (stop : ℕ) → Result Def FileFault
+unfoldable pub piece_def : (number : ℕ) → (piece : List PlacedToken) → (stop : ℕ)
+    → Result Def FileFault
 piece_def number piece stop = def_or_fault number piece stop (def_at piece)
 
 -- a definition, and those behind it
-abbrev pub and_defs : Result Def FileFault → Result (List Def) FileFault → Result (List Def) FileFault
+abbrev pub and_defs : Result Def FileFault → Result (List Def) FileFault
+    → Result (List Def) FileFault
 and_defs (Ok def) (Ok defs) = Ok (def ∷ defs)
 and_defs (Ok def) (Err fault) = Err fault
 and_defs (Err fault) others = Err fault
 
--- the definitions of the tokens, or their first fault, where there are no more tokens than turns; so
--- many definitions stand before them, and this place is behind them
+-- the definitions of the tokens, or their first fault, where there are no more tokens than turns;
+-- so many definitions stand before them, and this place is behind them
 unfoldable pub defs_at : (turns number : ℕ) → (tokens : List PlacedToken) → (stop : ℕ)
     → Result (List Def) FileFault
 defs_at turns number [] stop = Ok []
