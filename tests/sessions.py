@@ -3,8 +3,8 @@
 
     python3 tests/sessions.py CMD [ARG ..]     runs CMD on each script, and prints `N passed, M failed`
 
-CMD reads the script from standard input, as `bin/lbnfchart serve` does. The first case is the
-example of the README, whose replies stand in a file; each other one is
+CMD reads the script from standard input, as `bin/lbnfchart serve` does. The first cases are the
+examples of the README, whose replies stand in files; each other one is
 (name, input bytes, output bytes, status).
 """
 import pathlib
@@ -35,11 +35,12 @@ def broken(at, before=b''):
 EXAMPLES = pathlib.Path(__file__).resolve().parent.parent / 'examples'
 CASES = [
     (
-        'the first example',
-        (EXAMPLES / 'first.script').read_bytes(),
-        (EXAMPLES / 'first.replies').read_bytes(),
+        'the example ' + name,
+        (EXAMPLES / (name + '.script')).read_bytes(),
+        (EXAMPLES / (name + '.replies')).read_bytes(),
         0,
     )
+    for name in ['first', 'brackets', 'levels']
 ]
 
 
