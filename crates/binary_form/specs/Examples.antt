@@ -15,6 +15,7 @@ triples = record {
       rule_of 0 (Category 0 ∷ Category 0 ∷ Category 0 ∷ []) ∷ rule_of 0 (Kind 0 ∷ []) ∷ [];
   categories = codes "S" ∷ [];
   kinds = Word (codes "a") ∷ [];
+  entry = Some (Category 0);
 }
 
 -- category 0 is itself between two kinds, or nothing: `S ::= ( S )`, `S ::=`
@@ -23,6 +24,7 @@ brackets = record {
   rules = rule_of 0 (Kind 0 ∷ Category 0 ∷ Kind 1 ∷ []) ∷ rule_of 0 [] ∷ [];
   categories = codes "S" ∷ [];
   kinds = Word (codes "(") ∷ Word (codes ")") ∷ [];
+  entry = Some (Category 0);
 }
 
 -- the number of a symbol of the grammar of triples

@@ -200,10 +200,7 @@ fn is_name_byte(byte: u8) -> bool
 fn name_len(bytes: &[u8]) -> usize
     ensures { result ≡ prefix_len is_name_byte bytes.now }
 {
-    bytes
-        .iter()
-        .take_while(|byte| is_name_byte(**byte))
-        .count()
+    bytes.iter().take_while(|byte| is_name_byte(**byte)).count()
 }
 
 /// The identifier at the front of a text that begins with a letter, and what is behind it.

@@ -174,7 +174,7 @@ abbrev pub AtLabels : List Def → Unfitness → Type 0
 AtLabels defs fault =
     (number : ℕ)
     × ((IsFirstBad IsBadCoercion defs number × (fault ≡ bad_coercion number))
-      ⊎ (IsFirstBad IsBadList defs number × (fault ≡ bad_list number)))
+    ⊎ (IsFirstBad IsBadList defs number × (fault ≡ bad_list number)))
 
 -- the number of rules is at fault
 abbrev pub AtCount : List Def → Unfitness → Type 0

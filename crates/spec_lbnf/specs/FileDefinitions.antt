@@ -28,7 +28,7 @@ abbrev pub stuck_fault : (number : ℕ) → (piece rest : List PlacedToken) → 
 stuck_fault number piece [] stop = syntax stop
 stuck_fault number piece (token ∷ rest) stop =
     piece_fault number (bare (take (length piece - length (token ∷ rest)) piece))
-      token.token token.place
+    token.token token.place
 
 -- the definition that was read of a piece, or its fault
 abbrev pub def_or_fault : (number : ℕ) → (piece : List PlacedToken) → (stop : ℕ) → Read Def
@@ -58,8 +58,8 @@ defs_at zero number (token ∷ rest) stop = Ok []
 defs_at (suc turns) number (token ∷ rest) stop =
     cond (is_semicolon token.token) (defs_at turns number rest stop)
     (and_defs
-      (piece_def number (piece_at (token ∷ rest)) (place_of (behind_piece (token ∷ rest)) stop))
-      (defs_at turns (suc number) (behind_piece (token ∷ rest)) stop))
+    (piece_def number (piece_at (token ∷ rest)) (place_of (behind_piece (token ∷ rest)) stop))
+    (defs_at turns (suc number) (behind_piece (token ∷ rest)) stop))
 
 -- the definitions that all of the tokens are, or their first fault
 abbrev pub defs_of : (tokens : List PlacedToken) → (stop : ℕ) → Result (List Def) FileFault

@@ -47,7 +47,10 @@ pub enum Def {
         word: Name,
     },
     /// `coercions Name levels`: the levels of precedence above the category.
-    Coercions { name: Name, levels: u16 },
+    Coercions {
+        name: Name,
+        levels: u16,
+    },
     /// `entrypoints Cat, Cat`: the categories that a text may be asked for, one or more.
     Entry(Items<CatName>),
 }

@@ -183,12 +183,12 @@ fit_or_not defs denied =
         acyclic_or_not g (length g.categories)
         (λ (split : AreAcyclicOrNot g (length g.categories)). elim split [
           | inl below ↦ denied (inl (record {
-              labelled = labelled;
-              few = few;
-              own_names = own_names;
-              known = known;
-              acyclic = all_acyclic g own below;
-            }))
+            labelled = labelled;
+            few = few;
+            own_names = own_names;
+            known = known;
+            acyclic = all_acyclic g own below;
+          }))
           | inr least ↦
               let first = first_cyclic g least.0 least.1 least.2 in
               denied (inr (cyclic_category first.0, inr (labelled, inr (few, inr (own_names, inr (known, (first.0, first.1, refl)))))))
