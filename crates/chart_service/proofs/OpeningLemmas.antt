@@ -1,5 +1,5 @@
 -- Accepting a grammar or refusing it, and opening a text.
-use Rattle.std.proofs.Common.{◌≡◌, ℕ, inl, inr, List, length, Option, Some, None, Ok, Err, ◌≤◌, arith, sym, ◌∙◌, ap, subst, option_map}
+use Rattle.std.proofs.Common.{◌≡◌, ℕ, inl, inr, List, length, Option, Some, None, Ok, Err, ◌<◌, ◌≤◌, arith, sym, ◌∙◌, ap, subst, option_map}
 use Rattle.std.specs.Option.{IfSome}
 use Rattle.std.proofs.lemmas.List.{length-map}
 use Rattle.std.proofs.lemmas.Option.{same_Some, none-some}

@@ -1,18 +1,19 @@
 -- Serves the proofs alone: the symbol of a constituent, and the line of each answer.
-use Rattle.std.specs.Prelude.{◌≡◌, ℕ, List, ◌++◌, codes, decimal}
+use Rattle.std.specs.Prelude.{◌≡◌, ℕ, List, ◌++◌, codes, decimal, Option}
 use Rattle.spec_grammar.specs.declared.rule.Symbol.{Symbol}
-use Rattle.spec_grammar.specs.declared.rule.Symbol.TheVariants.{Category}
 use Rattle.spec_lbnf.specs.Expansion.{Expansion}
-use Rattle.spec_session.specs.Script.{Constituent}
-use Rattle.spec_session.specs.Replies.{as_line, IsOfCategory}
+use Rattle.spec_session.specs.Script.{Constituent, entry_whole, category_whole, category_span}
+use Rattle.spec_session.specs.Replies.{as_line}
+use Rattle.lbnf_grammar.specs.Grammars.{FindsCategory}
 use Rattle.chart_service.specs.declared.answering.Answer.{Answer}
 use Rattle.chart_service.specs.declared.answering.Answer.TheVariants.{UnknownCategory}
 use Rattle.chart_service.specs.declared.answering.Answer.TheVariants.{SpanOutside, Yes, No}
 
--- the constituent is of this symbol, which is a category of the grammar
-abbrev pub IsOfSymbol : Expansion → Constituent → Symbol → Type 0
-IsOfSymbol g constituent symbol =
-    (category : ℕ) × (symbol ≡ Category category) × IsOfCategory g constituent category
+-- the symbol that is told of the constituent: the grammar's entry, or the category of the name
+abbrev pub FindsSymbol : Expansion → Constituent → Option Symbol → Type 0
+FindsSymbol g entry_whole found = found ≡ g.entry
+FindsSymbol g (category_whole name) found = FindsCategory g.categories name found
+FindsSymbol g (category_span name first end) found = FindsCategory g.categories name found
 
 -- the line of the answer
 abbrev pub answer_line : Answer → List ℕ

@@ -13,7 +13,7 @@ ghost use Rattle.spec_session.specs.Replies.{IsOfCategory, HasCategory, first_of
 ghost use Rattle.chart_service.specs.Statuses.{IsWriteStop};
 ghost use Rattle.chart_service.specs.Opening.{IsOpened};
 ghost use Rattle.chart_service.specs.Forms.{meant};
-ghost use Rattle.chart_service.specs.Answering.{IsOfSymbol, answer_line};
+ghost use Rattle.chart_service.specs.Answering.{FindsSymbol, answer_line};
 
 use crate::forms::Constituent;
 use crate::opening::Opened;
@@ -34,11 +34,10 @@ pub(crate) enum Answer {
     No,
 }
 
-/// The symbol of the constituent, which is a category.
+/// The symbol of the constituent.
 fn symbol_of(grammar: &Grammar, constituent: &Constituent<'_>) -> Option<Symbol>
     ensures own { IfSome result (IsSymbolOf grammar.now) }
-    ensures found { MatchOption result (HasCategory grammar.now (meant constituent.now) → ⊥)
-        (IsOfSymbol grammar.now (meant constituent.now)) }
+    ensures found { FindsSymbol grammar.now (meant constituent.now) result }
 {
     match constituent {
         Constituent::EntryWhole => grammar.entry(),

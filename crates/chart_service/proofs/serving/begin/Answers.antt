@@ -23,13 +23,6 @@ returns-in_default-clause-ok g c input before comes written =
     (found_none 65536 IsNext (rw c.in_default.is at c.in_ok-block.ensures.ok)) c.offset-start.result c.offset-start.ensures.offset
     (g.K.Sink.written c.refuse_script-in_default.new.sink) c.refuse_script-in_default.result c.refuse_script-in_default.ensures.ok
 
-pub accept-requires : goal.accept-requires
-accept-requires g c =
-    let next : Option (List ℕ) = coming c.read_header.new.ahead (g.S.Source.left c.read_header.new.source) in
-    let later : Option (List ℕ) = coming c.read_grammar.new.ahead (g.S.Source.left c.read_grammar.new.source) in
-    let found = found_grammar c.read_header.new.ahead.offset c.read_grammar.new.ahead.offset next later c.in-Some.block (rw c.in-Some.is at c.in_ok-block.ensures.ok) in
-    record { found = (found.0, found.1) }
-
 pub returns-in-Err-clause-ok : goal.returns-in-Err-clause-ok
 returns-in-Err-clause-ok g c input before comes written =
     let next : Option (List ℕ) = coming c.read_header.new.ahead (g.S.Source.left c.read_header.new.source) in
