@@ -1,9 +1,9 @@
 -- How many rules definitions give, and that their rules, categories and words are few.
-use Rattle.std.proofs.Common.{◌≡◌, ℕ, zero, suc, ◌+◌, ◌*◌, ◌<◌, ◌≤◌, ◌^◌, ◌⊎◌, List, [], ◌∷◌, ◌++◌, length, map, Bool, true, false, not, ◌&&◌, refl, sym, ap, ◌∙◌, inl, inr, arith, length-append, append-nil, take, Some, slice_get, get_or, nat_eq}
-use Rattle.std.specs.List.{flat_map, filter, slice_split, onto_first, list_all, range_with_len, sum_by}
+use Rattle.std.proofs.Common.{◌≡◌, ℕ, zero, suc, ◌+◌, ◌*◌, ◌<◌, ◌≤◌, ◌^◌, ◌⊎◌, List, [], ◌∷◌, ◌++◌, length, map, Bool, true, false, not, refl, sym, ap, ◌∙◌, inl, inr, arith, length-append, append-nil, nat_eq}
+use Rattle.std.specs.List.{flat_map, filter, slice_split, onto_first, list_all, range_with_len}
 use Rattle.std.proofs.lemmas.Bool.{cases_Bool}
 use Rattle.std.proofs.lemmas.Grind.{flat_map-append}
-use Rattle.std.proofs.lemmas.List.{length-map, take_more}
+use Rattle.std.proofs.lemmas.List.{length-map}
 use Rattle.std.proofs.lemmas.List.FromFn.{length-map-range_with_len}
 use Rattle.std.proofs.lemmas.List.Sums.{sum_by-cons}
 use Rattle.spec_grammar.specs.declared.rule.Rule.{Rule as NumberedRule}
@@ -15,7 +15,7 @@ use Rattle.spec_lbnf.specs.declared.definition.Def.{Def}
 use Rattle.spec_lbnf.specs.declared.definition.Def.TheVariants.{Rule, Internal, Terminator, Separator, Coercions, Entry}
 use Rattle.spec_lbnf.specs.FirstForm.{def_size, size_of}
 use Rattle.spec_lbnf.specs.Words.{is_empty, words_in}
-use Rattle.spec_lbnf.specs.Expansion.{word_items, list_of, terminator_rules, separator_rules, level_rule, bracket_rule, coercion_rules, rules_of_def, rules_of, item_categories, item_words, met_categories, internal_category, distinct, categories_of, words_of, symbol_of, numbered_rule, item_count}
+use Rattle.spec_lbnf.specs.Expansion.{word_items, list_of, terminator_rules, separator_rules, level_rule, bracket_rule, coercion_rules, rules_of_def, rules_of, item_categories, item_words, met_categories, internal_category, distinct, symbol_of, numbered_rule, item_count}
 use Rattle.spec_lbnf.specs.Checks.{HasFewRules}
 use Rattle.lbnf_grammar.specs.Numbering.{AreFew}
 use Rattle.lbnf_grammar.proofs.DistinctLemmas.{names_distinct, with_names_length}
@@ -132,7 +132,7 @@ record AreBounded (met internal told size count : ℕ) : Type 0 where
 -- the rules of a terminator
 terminator_bounded : (nonempty : Bool) (cat : CatName) (words : List (List ℕ))
     → (let rules : List RawRule = terminator_rules nonempty cat (map Word words) in
-      AreBounded (met_count rules) 0 (word_count rules) (1 + length words) (length rules))
+    AreBounded (met_count rules) 0 (word_count rules) (1 + length words) (length rules))
 terminator_bounded true cat words = record {
   categories = rw (no_categories words, categories_behind words (Cat (list_of cat) ∷ [])) (omega arith);
   words = rw (all_words words, words_behind words (Cat (list_of cat) ∷ [])) (omega (arith, length-append {A = List ℕ}));
@@ -147,7 +147,7 @@ terminator_bounded false cat words = record {
 -- the rules of a separator
 separator_bounded : (nonempty : Bool) (cat : CatName) (words : List (List ℕ))
     → (let rules : List RawRule = separator_rules nonempty cat (map Word words) in
-      AreBounded (met_count rules) 0 (word_count rules) (1 + length words) (length rules))
+    AreBounded (met_count rules) 0 (word_count rules) (1 + length words) (length rules))
 separator_bounded nonempty cat [] = terminator_bounded nonempty cat []
 separator_bounded true cat (word ∷ words) = record {
   categories = rw (categories_behind words (Cat (list_of cat) ∷ [])) (omega arith);
@@ -173,16 +173,16 @@ levels_words name from (suc levels) = levels_words name (from + 1) levels
 -- the rules of coercions
 coercions_bounded : (name : List ℕ) (levels : ℕ)
     → (let rules : List RawRule = coercion_rules name levels in
-      AreBounded (met_count rules) 0 (word_count rules) 1 (length rules))
+    AreBounded (met_count rules) 0 (word_count rules) 1 (length rules))
 coercions_bounded name levels =
     let front : List RawRule = map (level_rule name) (range_with_len 0 levels) in
     let last : List RawRule = bracket_rule name levels ∷ [] in
     let met : met_count (coercion_rules name levels) ≡ 2 * levels + 2
     = ap length (flat_map-append met_categories front last) ∙ length-append (flat_map met_categories front) (flat_map met_categories last)
-      ∙ ap (λ n. n + 2) (levels_met name 0 levels) in
+    ∙ ap (λ n. n + 2) (levels_met name 0 levels) in
     let words : word_count (coercion_rules name levels) ≡ 2
     = ap length (flat_map-append rule_words front last) ∙ length-append (flat_map rule_words front) (flat_map rule_words last)
-      ∙ ap (λ n. n + 2) (levels_words name 0 levels) in
+    ∙ ap (λ n. n + 2) (levels_words name 0 levels) in
     record {
       categories = omega (arith, met, coercion_count name levels);
       words = omega (arith, words);

@@ -1,10 +1,10 @@
 -- What faults tell of definitions, from what each check tells.
-use Rattle.std.proofs.Common.{◌≡◌, ℕ, List, Option, Some, None, Ok, Err, Result, All, refl, sym, ap, subst, ◌∙◌, inl, inr}
+use Rattle.std.proofs.Common.{◌≡◌, ℕ, List, Option, Some, None, Ok, Err, Result, All, subst, ◌∙◌, inr}
 use Rattle.std.specs.Option.{IfSome}
 use Rattle.spec_grammar.specs.Cycles.{IsAcyclic}
 use Rattle.spec_lbnf.specs.declared.definition.Def.{Def}
 use Rattle.spec_lbnf.specs.Expansion.{Expansion, expansion_of}
-use Rattle.spec_lbnf.specs.Checks.{Unfitness, AtLabels, AtCount, AtOwnName, AtUnknown, AtCycle, IsUnfit, AreFit, IsWellLabelled, HasFewRules, HasOwnNames, AreAllKnown, IsFirstUnknown, unknown_fault, IsFirstCyclic}
+use Rattle.spec_lbnf.specs.Checks.{Unfitness, AtUnknown, IsUnfit, IsWellLabelled, HasFewRules, HasOwnNames, AreAllKnown, IsFirstUnknown, unknown_fault}
 use Rattle.lbnf_grammar.specs.declared.fault.GrammarFault.{GrammarFault}
 use Rattle.lbnf_grammar.specs.Grammars.{unfitness_of, Tells, Expands}
 use Rattle.lbnf_grammar.specs.Checking.{AtCycleOf, PassesCycles}

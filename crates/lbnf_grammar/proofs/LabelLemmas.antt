@@ -1,12 +1,11 @@
 -- The first definition that is not well labelled, and what holds of all definitions up to one.
-use Rattle.std.proofs.Common.{below_more, ◌≡◌, ℕ, ◌+◌, ◌<◌, ◌≤◌, List, [], ◌∷◌, ◌++◌, length, take, get_or, Some, All, slice_get, refl, sym, ap, subst, ◌∙◌, inl, inr}
+use Rattle.std.proofs.Common.{below_more, ◌≡◌, ℕ, ◌+◌, ◌<◌, List, [], ◌∷◌, ◌++◌, length, take, get_or, Some, All, slice_get, refl, sym, ap, subst, ◌∙◌, inl, inr}
 use Rattle.std.proofs.lemmas.List.{take_more}
 use Rattle.std.proofs.lemmas.Option.{slice_get-get_or, slice_get_within, get_or_from_slice_get, same_Some}
-use Rattle.spec_lbnf.specs.declared.definition.CatName.{CatName}
 use Rattle.spec_lbnf.specs.declared.definition.RawItem.{RawItem}
 use Rattle.spec_lbnf.specs.declared.definition.RawItem.TheVariants.{Cat, Word}
 use Rattle.spec_lbnf.specs.declared.definition.Def.{Def}
-use Rattle.spec_lbnf.specs.Checks.{categories_in, IsWellLabelled, IsFirstBad, IsBadCoercion, IsBadList, AtLabels, bad_coercion, bad_list}
+use Rattle.spec_lbnf.specs.Checks.{categories_in, IsWellLabelled, IsBadCoercion, IsBadList, AtLabels, bad_coercion, bad_list}
 
 -- the categories of items side by side
 pub categories_in-append : (items others : List RawItem)
@@ -41,8 +40,7 @@ module _ (P : Def → Type 0) (defs : List Def) where
   all_hold each k d lt = each k (get_or defs k d) lt (slice_get-get_or defs k d lt)
 
 module _ (defs : List Def) (number : ℕ) (def : Def) (at : slice_get defs number ≡ Some def)
-  (earlier : (k : ℕ) (other : Def) → k < number → slice_get defs k ≡ Some other → IsWellLabelled other) where
-
+    (earlier : (k : ℕ) (other : Def) → k < number → slice_get defs k ≡ Some other → IsWellLabelled other) where
   -- a bad coercion behind definitions that are well labelled is at fault
   pub coercion_first : IsBadCoercion def → AtLabels defs (bad_coercion number)
   coercion_first bad = (number, inl (record { def = def; is_def = at; bad = bad; earlier = earlier }, refl))

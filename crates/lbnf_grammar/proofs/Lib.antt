@@ -10,3 +10,4 @@ pub mod CountLemmas
 pub mod LabelLemmas
 pub mod FaultLemmas
 pub mod EntryLemmas
+pub mod MakingLemmas

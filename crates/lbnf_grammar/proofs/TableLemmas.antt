@@ -1,8 +1,7 @@
 -- The tables that are filled are the categories and the words of the rules.
-use Rattle.std.proofs.Common.{◌≡◌, ℕ, ◌+◌, List, [], ◌∷◌, ◌++◌, Option, Some, map, fold, take, slice_get, refl, sym, ap, ◌∙◌, append-nil}
+use Rattle.std.proofs.Common.{◌≡◌, ℕ, List, [], ◌∷◌, ◌++◌, Option, map, fold, refl, sym, ap, ◌∙◌}
 use Rattle.std.specs.List.{flat_map}
 use Rattle.std.specs.Option.{option_map}
-use Rattle.std.proofs.lemmas.Grind.{flat_map-append}
 use Rattle.std.proofs.lemmas.List.Sums.{fold-append}
 use Rattle.spec_grammar.specs.declared.rule.Rule.{Rule}
 use Rattle.spec_grammar.specs.declared.rule.Symbol.{Symbol}
@@ -18,7 +17,6 @@ use Rattle.lbnf_grammar.specs.Grammars.{of_parts}
 use Rattle.lbnf_grammar.specs.Numbering.{with_name, with_names}
 use Rattle.lbnf_grammar.specs.Tables.{with_item, with_rule}
 use Rattle.lbnf_grammar.proofs.DistinctLemmas.{names_distinct}
-use Rattle.lbnf_grammar.proofs.LabelLemmas.{take_next}
 
 -- the words of the rules, with repetitions
 abbrev word_texts : List RawRule → List (List ℕ)

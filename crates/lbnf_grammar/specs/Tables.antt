@@ -1,5 +1,5 @@
 -- The tables of categories and words, filled item by item. Serves the proofs alone.
-use Rattle.std.specs.Prelude.{List, fold}
+use Rattle.std.specs.Prelude.{fold}
 use Rattle.spec_lbnf.specs.declared.definition.RawItem.{RawItem}
 use Rattle.spec_lbnf.specs.declared.definition.RawItem.TheVariants.{Cat, Word}
 use Rattle.spec_lbnf.specs.declared.definition.RawRule.{RawRule}

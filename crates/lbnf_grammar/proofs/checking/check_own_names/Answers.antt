@@ -1,6 +1,6 @@
 use Rattle.std.proofs.Common.{◌≡◌, [], All, MatchOption, subst, ◌∙◌, ap, rules}
 use Rattle.std.specs.List.{flat_map}
-use Rattle.spec_lbnf.specs.Checks.{own_categories, IsPredefined, IsFree, IsFirstName, HasOwnNames}
+use Rattle.spec_lbnf.specs.Checks.{own_categories, IsPredefined, IsFree, IsFirstName}
 use Rattle.lbnf_grammar.specs.Numbering.{with_names}
 use Rattle.lbnf_grammar.proofs.checking.check_own_names.Goals as goal
 

@@ -1,7 +1,7 @@
-use Rattle.std.proofs.Common.{◌≡◌, Some, None, slice_get, sym, ap, refl, ◌∙◌}
+use Rattle.std.proofs.Common.{◌≡◌, Some, slice_get, sym, ap, refl, ◌∙◌}
 use Rattle.std.specs.Option.{option_map}
 use Rattle.std.proofs.lemmas.Option.{slice_get_read}
-use Rattle.spec_lbnf.specs.Expansion.{category_text, first_entry}
+use Rattle.spec_lbnf.specs.Expansion.{category_text}
 use Rattle.lbnf_grammar.proofs.EntryLemmas.{entry_at, entry_past}
 use Rattle.lbnf_grammar.proofs.entry.first_entry.Goals as goal
 

@@ -1,4 +1,4 @@
-use Rattle.std.proofs.Common.{◌≡◌, map, subst, sym, ap, ◌∙◌, rules}
+use Rattle.std.proofs.Common.{◌≡◌, map, subst, sym, rules}
 use Rattle.std.specs.Option.{option_map, IfSome}
 use Rattle.spec_lexing.specs.declared.kind_def.KindDef.TheVariants.{Word as WordKind}
 use Rattle.spec_lbnf.specs.Expansion.{Expansion, HasOwnSymbols, IsSymbolOf, rules_of, numbered_rule, category_symbol, entry_text, expansion_of}

@@ -1,9 +1,7 @@
-use Rattle.std.proofs.Common.{◌≡◌, [], ◌++◌, Some, slice_get, ap, refl, ◌∙◌, rules}
+use Rattle.std.proofs.Common.{[], ap, ◌∙◌}
 use Rattle.std.specs.List.{flat_map}
 use Rattle.std.proofs.lemmas.List.{take_all}
-use Rattle.std.proofs.lemmas.Option.{slice_get_read}
 use Rattle.spec_lbnf.specs.Expansion.{met_categories, internal_category}
-use Rattle.lbnf_grammar.specs.declared.tables.Tables.{Tables}
 use Rattle.lbnf_grammar.specs.Numbering.{with_names}
 use Rattle.lbnf_grammar.proofs.TableLemmas.{internal_behind}
 use Rattle.lbnf_grammar.proofs.tables.tables_of.Goals as goal

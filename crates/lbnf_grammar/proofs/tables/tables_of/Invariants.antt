@@ -8,6 +8,6 @@ use Rattle.lbnf_grammar.proofs.tables.tables_of.Given as goal
 abbrev pub invariant-loop-def : goal.invariant-loop-def
 invariant-loop-def l = record {
   categories : l.tables.categories
-  ≡ with_names (with_names [] (flat_map met_categories l.rules)) (flat_map internal_category (take l.def-index l.defs));
+      ≡ with_names (with_names [] (flat_map met_categories l.rules)) (flat_map internal_category (take l.def-index l.defs));
   words : l.tables.words ≡ words_of l.rules;
 }
