@@ -187,7 +187,8 @@ pub fn rules_of_def(alloc: Global, def: &Def) -> Result<Vec<RawRule>, AllocError
             word,
         } => separator_rules(alloc, *nonempty, cat, words(alloc, word)?.as_slice()),
         Def::Coercions { name, levels } => coercion_rules(alloc, name, *levels),
-        Def::Internal(_) | Def::Entry(_) => Ok(Vec::new(alloc)),
+        Def::Internal(_) => Ok(Vec::new(alloc)),
+        Def::Entry(_) => Ok(Vec::new(alloc)),
     }
 }
 

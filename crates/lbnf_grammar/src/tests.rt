@@ -2,6 +2,7 @@
 mod cycles_and_ranks;
 mod empty_spans;
 mod small_grammars;
+mod whole_files;
 
 use super::*;
 use lbnf_text::{Label, MAX_FILE, Name, read_defs};
