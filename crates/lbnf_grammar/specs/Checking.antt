@@ -1,6 +1,6 @@
 -- The checks of definitions, one by one. Serves the proofs alone.
-use Rattle.std.specs.Prelude.{◌≡◌, ℕ, List, true, false, Option, Some, None, Result, Ok, Err, All}
-use Rattle.std.specs.Prelude.{MatchOption, bytes_eq, length, ◌≢◌}
+use Rattle.std.specs.Prelude.{◌≡◌, ℕ, List, true, false, Option, Some, None, Result, Ok, Err}
+use Rattle.std.specs.Prelude.{bytes_eq, length, ◌≢◌}
 use Rattle.std.specs.List.{list_any}
 use Rattle.spec_grammar.specs.Cycles.{IsAcyclic}
 use Rattle.spec_grammar.specs.declared.rule.Label.{Label}
@@ -9,7 +9,7 @@ use Rattle.spec_lbnf.specs.declared.definition.CatName.{CatName}
 use Rattle.spec_lbnf.specs.declared.definition.RawRule.{RawRule}
 use Rattle.spec_lbnf.specs.declared.definition.Def.{Def}
 use Rattle.spec_lbnf.specs.Expansion.{Expansion}
-use Rattle.spec_lbnf.specs.Checks.{Unfitness, cyclic_category, IsFirstName, IsFirstCyclic}
+use Rattle.spec_lbnf.specs.Checks.{Unfitness, cyclic_category, IsFirstCyclic}
 use Rattle.spec_lbnf.specs.Checks.{IsWellLabelled, IsBadCoercion, IsBadList}
 use Rattle.spec_lbnf.specs.Checks.{IsBadWild, IsBadListRule}
 use Rattle.lbnf_grammar.specs.declared.fault.GrammarFault.{GrammarFault}
@@ -18,7 +18,8 @@ use Rattle.lbnf_grammar.specs.declared.labels.LabelFault.TheVariants.{Coercion, 
 use Rattle.lbnf_grammar.specs.Grammars.{IsWellFormed, Tells}
 
 -- the check is passed with what it gives, or the fault tells such an unfitness
-abbrev pub Checks : {A : Type 0} → (A → Type 0) → (Unfitness → Type 0) → Result A GrammarFault → Type 0
+abbrev pub Checks : {A : Type 0} → (A → Type 0) → (Unfitness → Type 0)
+    → Result A GrammarFault → Type 0
 Checks Passes IsSuch (Ok given) = Passes given
 Checks Passes IsSuch (Err fault) = Tells IsSuch fault
 
@@ -46,19 +47,14 @@ IsListed known name = list_any (bytes_eq name) known ≡ true
 abbrev pub IsUnlisted : List (List ℕ) → List ℕ → Type 0
 IsUnlisted known name = list_any (bytes_eq name) known ≡ false
 
--- the first of the names that is not listed, and None where all are
-abbrev pub FindsUnlisted : List (List ℕ) → List (List ℕ) → Option (List ℕ) → Type 0
-FindsUnlisted known names found =
-    MatchOption found (All (IsListed known) names)
-    (IsFirstName (IsUnlisted known) (IsListed known) names)
-
 -- the first cyclic category of the grammar is at fault
 abbrev pub AtCycleOf : Expansion → Unfitness → Type 0
 AtCycleOf g fault = (name : List ℕ) × IsFirstCyclic g name × (fault ≡ cyclic_category name)
 
 -- the grammar has no cycle and is kept, or its first cyclic category is told
 abbrev pub PassesCycles : Expansion → Result Expansion GrammarFault → Type 0
-PassesCycles g result = Checks (λ (kept : Expansion). IsAcyclic g.rules × (kept ≡ g)) (AtCycleOf g) result
+PassesCycles g result =
+    Checks (λ (kept : Expansion). IsAcyclic g.rules × (kept ≡ g)) (AtCycleOf g) result
 
 -- these parts, and None exactly where they are not well formed
 abbrev pub GivesParts : Expansion → Option Expansion → Type 0

@@ -106,12 +106,12 @@ fn expand_defs(alloc: Global, defs: &[Def]) -> Result<Grammar, GrammarFault>
     acyclic(alloc, parts)
 }
 
-/// The grammar that the definitions stand for, or why they are unfit: the first, in this order, of a
-/// bad label or bad levels, too many rules, a predefined name that has rules, a category that no rule
-/// has, and a category that reaches itself. Rules are counted before any is made.
+/// The grammar that the definitions stand for, or why they are unfit: the first, in this order, of
+/// a bad label or bad levels, too many rules, a predefined name that has rules, a category that no
+/// rule has, and a category that reaches itself. Rules are counted before any is made.
 ///
 /// Categories and words are numbered from 0 as the rules meet them, each rule's own category first,
-/// and the categories that only internal rules have are behind them. Names are copied; it makes the
+/// and the categories that only internal rules have are behind them. Names are copied. It makes the
 /// rules three times and takes one look-up for each item of them, and then what `Grammar::of_rules`
 /// takes for chains of steps.
 pub fn expand(alloc: Global, defs: &Defs) -> Result<Grammar, GrammarFault>

@@ -8,7 +8,7 @@ use spec_lexing::KindDef;
 use spec_text::Name;
 use std::marker::Model;
 
-/// Rules, categories and kinds, each numbered from 0, and the entry. The rules have symbols of these
+/// Rules, categories and kinds, each numbered from 0, and an entry. The rules have symbols of these
 /// alone, the entry is one of them, and a category may reach itself.
 #[derive(Debug, Drop)]
 pub(crate) struct GrammarParts {
