@@ -145,6 +145,36 @@ pub(super) const ACCEPTED: &[(&str, &[u8], &[u8])] = &[
         b"W. S ::= \"(\" S \")\" ; E. S ::= ;",
         b"grammar rules 2 categories 1 kinds 2\n",
     ),
+    (
+        "an empty string",
+        b"A. S ::= \"\" ;",
+        b"grammar rules 1 categories 1 kinds 0\n",
+    ),
+    (
+        "two words in a string",
+        b"A. S ::= \"a b\" ;",
+        b"grammar rules 1 categories 1 kinds 2\n",
+    ),
+    (
+        "a backslash in a word",
+        b"A. S ::= \"\\\\\" ;",
+        b"grammar rules 1 categories 1 kinds 1\n",
+    ),
+    (
+        "the byte 7F in a word",
+        b"A. S ::= \"\x7f\" ;",
+        b"grammar rules 1 categories 1 kinds 1\n",
+    ),
+    (
+        "a semicolon in a word",
+        b"A. S ::= \"a\" ; B. S ::= \";\" ;",
+        b"grammar rules 2 categories 1 kinds 2\n",
+    ),
+    (
+        "a line comment",
+        b"-- one rule\nA. S ::= \"a\" ;",
+        b"grammar rules 1 categories 1 kinds 1\n",
+    ),
 ];
 
 pub(super) const REFUSED: &[(&str, &[u8], &[u8])] = &[
@@ -156,32 +186,32 @@ pub(super) const REFUSED: &[(&str, &[u8], &[u8])] = &[
     (
         "a label of 65 bytes",
         b"AAAAAAAAAAAAAAAAAAAAAAAAAAAAAAAAAAAAAAAAAAAAAAAAAAAAAAAAAAAAAAAAA. S ::= \"a\" ;",
-        b"grammar refused unbuilt 0\n",
+        b"grammar refused syntax 0\n",
     ),
     (
         "a category of 65 bytes",
         b"One. AAAAAAAAAAAAAAAAAAAAAAAAAAAAAAAAAAAAAAAAAAAAAAAAAAAAAAAAAAAAAAAAA ::= \"a\" ;",
-        b"grammar refused unbuilt 0\n",
+        b"grammar refused syntax 5\n",
     ),
     (
         "a label in lower case",
         b"one. S ::= \"a\" ;",
-        b"grammar refused unbuilt 0\n",
+        b"grammar refused unsupported one 0\n",
     ),
     (
         "an item in lower case",
         b"One. S ::= S s ;",
-        b"grammar refused unbuilt 0\n",
+        b"grammar refused syntax 13\n",
     ),
     (
         "a label that begins with a digit",
         b"1A. S ::= \"a\" ;",
-        b"grammar refused unbuilt 0\n",
+        b"grammar refused syntax 0\n",
     ),
     (
         "a predefined name for a category",
         b"A. Integer ::= \"a\" ;",
-        b"grammar refused unbuilt 0\n",
+        b"grammar refused token Integer\n",
     ),
     (
         "a predefined name among the items",
@@ -189,54 +219,24 @@ pub(super) const REFUSED: &[(&str, &[u8], &[u8])] = &[
         b"grammar refused unbuilt 1\n",
     ),
     (
-        "an empty word",
-        b"A. S ::= \"\" ;",
-        b"grammar refused unbuilt 0\n",
-    ),
-    (
-        "a space in a word",
-        b"A. S ::= \"a b\" ;",
-        b"grammar refused unbuilt 0\n",
-    ),
-    (
-        "a backslash in a word",
-        b"A. S ::= \"\\\\\" ;",
-        b"grammar refused unbuilt 0\n",
-    ),
-    (
-        "the byte 7F in a word",
-        b"A. S ::= \"\x7f\" ;",
-        b"grammar refused unbuilt 0\n",
-    ),
-    (
-        "a semicolon in a word",
-        b"A. S ::= \"a\" ; B. S ::= \";\" ;",
-        b"grammar refused unbuilt 1\n",
-    ),
-    (
         "a word without its last quote",
         b"A. S ::= \"a ;",
-        b"grammar refused unbuilt 0\n",
+        b"grammar refused syntax 9\n",
     ),
     (
         "a white byte inside `::=`",
         b"A. S : := \"a\" ;",
-        b"grammar refused unbuilt 0\n",
+        b"grammar refused syntax 5\n",
     ),
     (
-        "a line comment",
-        b"-- one rule\nA. S ::= \"a\" ;",
-        b"grammar refused unbuilt 0\n",
-    ),
-    (
-        "white pieces are not counted",
-        b" ; ;; A. S ::= \"a\" ; \n; B. S ::= s ;",
+        "empty definitions are not counted",
+        b" ; ;; A. S ::= \"a\" ; \n; token T 'a' ;",
         b"grammar refused unbuilt 1\n",
     ),
     (
-        "the first of two pieces that are not built",
+        "the first of two faults",
         b"A. S ::= \"a\" ; B. S ::= s ; C. S ::= t ;",
-        b"grammar refused unbuilt 1\n",
+        b"grammar refused syntax 24\n",
     ),
     (
         "an unknown category",
@@ -249,14 +249,14 @@ pub(super) const REFUSED: &[(&str, &[u8], &[u8])] = &[
         b"grammar refused category U 0\n",
     ),
     (
-        "a definition that is not built stands before an unknown category",
+        "a fault of syntax stands before an unknown category",
         b"A. S ::= T T ; B. S ::= s ;",
-        b"grammar refused unbuilt 1\n",
+        b"grammar refused syntax 24\n",
     ),
     (
-        "a definition that is not built stands before a cycle",
+        "a fault of syntax stands before a cycle",
         b"A. S ::= S ; B. S ::= s ;",
-        b"grammar refused unbuilt 1\n",
+        b"grammar refused syntax 22\n",
     ),
     (
         "an unknown category behind an empty right side",
