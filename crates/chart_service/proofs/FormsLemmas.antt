@@ -13,10 +13,6 @@ use Rattle.std.proofs.lemmas.Str.{IsUtf8-from_ascii}
 use Rattle.std.proofs.lemmas.Str.Parse.{IsNumeralModel, numerals_by_value, tells_all_ascii_digits, parse_digits}
 use Rattle.std.proofs.lemmas.Fmt.{digits_decimal, digits_value-decimal, decimal-digits_value, decimal_digit, decimal_nonempty, decimal_injective, first_decimal, IsAscii-from_digits}
 
--- texts of digits, by the test that the code makes
-AreDigits : List ℕ → Type 0
-AreDigits word = all_ascii_digits word ≡ true
-
 model : IsNumeralModel (λ word. all_ascii_digits word ≡ true) (digits_value 10)
 model = numerals_by_value (λ word. all_ascii_digits word ≡ true) tells_all_ascii_digits
 

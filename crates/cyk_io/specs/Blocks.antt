@@ -6,8 +6,8 @@ use Rattle.cyk_io.specs.declared.fault.IoFault.{IoFault}
 use Rattle.cyk_io.specs.declared.fault.IoFault.TheVariants.{Read, Write, Memory}
 use Rattle.cyk_io.specs.Streams.{Takes, Stays, IsAtEnd, ReadAhead}
 
--- what was found, read from one offset to another: a block that is kept; a longer one, of which nothing is kept; or
--- fewer bytes, behind which the input ends
+-- what was found, read from one offset to another: a block that is kept; a longer one, of which
+-- nothing is kept; or fewer bytes, behind which the input ends
 abbrev pub BlockReads : ℕ → ℕ → ℕ → ℕ → Option (List ℕ) → Option (List ℕ) → List ℕ
     → ReadBlock → Type 0
 BlockReads count keep from to old new into Kept =
@@ -36,7 +36,8 @@ EachBlockHasAnAnswer =
     → (answer : ReadBlock) × (to : ℕ) × (new : Option (List ℕ)) × (into : List ℕ)
     × BlockReads count keep from to (Some told) new into answer
 
--- where the bytes that come are told, two reads of a block give the same answer, and the same rest and offset
+-- where the bytes that come are told, two reads of a block give the same answer, and the same rest
+-- and offset
 abbrev pub EachBlockHasOneAnswer : Type 0
 EachBlockHasOneAnswer =
     (count keep from : ℕ) (told : List ℕ) (answer other : ReadBlock) (to to_other : ℕ)

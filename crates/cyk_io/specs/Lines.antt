@@ -15,8 +15,8 @@ HasNoLf bytes = All (λ byte. byte ≢ 10) bytes
 abbrev pub IsLine : ℕ → List ℕ → Type 0
 IsLine most line = HasNoLf line × (length line ≤ most)
 
--- what was found, read from one offset to another: a line and its LF; one byte more than a line may have, and no LF
--- among them; or a line that the input ends behind, with no LF
+-- what was found, read from one offset to another: a line and its LF; one byte more than a line may
+-- have, and no LF among them; or a line that the input ends behind, with no LF
 abbrev pub LineReads : ℕ → ℕ → ℕ → Option (List ℕ) → Option (List ℕ) → List ℕ → ReadLine → Type 0
 LineReads most from to old new line Line =
     Takes old new (line ++ 10 ∷ []) × IsLine most line × (to ≡ from + length line + 1)
@@ -43,7 +43,8 @@ EachLineHasAnAnswer =
     → (answer : ReadLine) × (to : ℕ) × (new : Option (List ℕ)) × (line : List ℕ)
     × LineReads most from to (Some told) new line answer
 
--- where the bytes that come are told, two reads of a line give the same answer, and the same line, rest and offset
+-- where the bytes that come are told, two reads of a line give the same answer, and the same line,
+-- rest and offset
 abbrev pub EachLineHasOneAnswer : Type 0
 EachLineHasOneAnswer =
     (most from : ℕ) (told : List ℕ) (answer other : ReadLine) (to to_other : ℕ)

@@ -2,8 +2,8 @@
 use Rattle.std.specs.Prelude.{◌≡◌, ◌↔◌, ℕ, ◌+◌, ◌-◌, ◌^◌, List, min}
 use Rattle.std.specs.List.{Contains}
 
--- the bytes left or written, the most that a call moves, the calls that fail by their numbers from 1, and how many
--- calls there were and how many of them failed
+-- the bytes left or written, the most that a call moves, the calls that fail by their numbers from
+-- 1, and how many calls there were and how many of them failed
 pub record InPieces : Type 0 where
   pub bytes : List ℕ
   pub piece : ℕ

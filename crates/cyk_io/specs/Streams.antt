@@ -1,5 +1,5 @@
--- What a caller sees of a source and of a sink: the bytes that are left in the one and those that are written to the
--- other, where they are told, and what is read ahead of a source.
+-- What a caller sees of a source and of a sink: the bytes that are left in the one and those that
+-- are written to the other, where they are told, and what is read ahead of a source.
 use Rattle.std.specs.Prelude.{◌≡◌, ℕ, ◌<◌, ◌≤◌, List, [], ◌++◌, length, take, Option, Some, Result}
 use Rattle.std.specs.Prelude.{Bool, MatchResult}
 use Rattle.std.specs.Option.{option_map}
@@ -25,13 +25,15 @@ GrowsByPrefix old new bytes = (n : ℕ) × (n ≤ length bytes) × Grows old new
 abbrev pub IsAtEnd : Option (List ℕ) → Type 0
 IsAtEnd left = (told : List ℕ) → left ≡ Some told → told ≡ []
 
--- a read took the front of what was left, and took nothing only at the end, or it failed and took nothing
+-- a read took the front of what was left, and took nothing only at the end, or it failed and took
+-- nothing
 abbrev pub Reads : {E : Type 0} → Option (List ℕ) → Option (List ℕ) → Result ℕ E → List ℕ → Type 0
 Reads old new result into = MatchResult result
     (λ n. (n ≤ length into) × Takes old new (take n into) × (n ≡ 0 → 0 < length into → IsAtEnd new))
     (λ _. Stays old new)
 
--- a write appended a prefix of these bytes, and not the empty one, or it failed and appended nothing
+-- a write appended a prefix of these bytes, and not the empty one, or it failed and appended
+-- nothing
 abbrev pub Writes : {E : Type 0} → Option (List ℕ) → Option (List ℕ) → Result ℕ E → List ℕ → Type 0
 Writes old new result from = MatchResult result
     (λ n. (n ≤ length from) × (0 < length from → 0 < n) × Grows old new (take n from))

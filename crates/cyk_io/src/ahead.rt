@@ -1,5 +1,5 @@
-//! Bytes that were read ahead of what was asked for, and the offset of the byte that comes next. A source is read only
-//! where none of them is left, so that after a fault none is held.
+//! Bytes that were read ahead of what was asked for, and the offset of the byte that comes next. A
+//! source is read only where none of them is left, so that after a fault none is held.
 ghost use Rattle.std.specs.Prelude.{◌≡◌, ℕ, ◌+◌, ◌-◌, ◌<◌, ◌≤◌, ◌^◌, ◌↔◌, [], ◌∷◌, IsTrue, IsFalse};
 ghost use Rattle.std.specs.Prelude.{IsErr, OnOk, OnErr, MatchOption, MatchResult, drop, length};
 ghost use Rattle.cyk_io.specs.Causes.{HasCause};
@@ -12,8 +12,8 @@ use std::marker::Model;
 /// How many bytes are read ahead at most.
 const MAX_AHEAD: usize = 4096;
 
-/// Up to 4,096 bytes that were read ahead of a source, the offset of the next byte in the input, and whether the end of
-/// the input was seen. One belongs to one source.
+/// Up to 4,096 bytes that were read ahead of a source, the offset of the next byte in the input,
+/// and whether the end of the input was seen. One belongs to one source.
 #[derive(Drop)]
 pub struct Ahead {
     buffer: [u8; MAX_AHEAD],
@@ -55,7 +55,8 @@ impl Ahead {
         }
     }
 
-    /// How many bytes of the input were taken: the offset of the next byte. At most 4,096 bytes are held from there on.
+    /// How many bytes of the input were taken: the offset of the next byte. At most 4,096 bytes are
+    /// held from there on.
     pub fn offset(&self) -> u64
         ensures offset { result ≡ self.now.offset }
         ensures fits { length self.now.held ≤ MAX_AHEAD }
@@ -122,7 +123,8 @@ fn fill<S: Source>(source: &mut S, ahead: &mut Ahead) -> Result<(), Failed>
     Ok(())
 }
 
-/// Reads ahead where nothing is held. Nothing is held behind it only at the end, or where the read failed.
+/// Reads ahead where nothing is held. Nothing is held behind it only at the end, or where the read
+/// failed.
 pub(crate) fn refill<S: Source>(source: &mut S, ahead: &mut Ahead) -> Result<(), Failed>
     requires end { IsTrue ahead.old.ended → IsAtEnd (S.left source.old) }
     ensures cause { HasCause (S.faults source.old) (S.faults source.new) (IsErr result) }

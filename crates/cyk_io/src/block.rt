@@ -42,9 +42,9 @@ fn take_held(ahead: &mut Ahead, most: usize, kept: bool, into: &mut Vec<u8>) -> 
     count
 }
 
-/// Reads a block of `count` bytes. One of at most `keep` bytes is kept: `into` is the block and nothing else, and room
-/// for it is reserved before anything is read. Of a longer one nothing is kept, and it takes no memory. `Write` never
-/// comes.
+/// Reads a block of `count` bytes. One of at most `keep` bytes is kept: `into` is the block and
+/// nothing else, and room for it is reserved before anything is read. Of a longer one nothing is
+/// kept, and it takes no memory. `Write` never comes.
 pub fn read_exact_n<S: Source>(
     source: &mut S,
     ahead: &mut Ahead,

@@ -1,5 +1,5 @@
-//! Lines and blocks of bytes from one source, and bytes to one sink. Each fault that a call answers is one that the
-//! source or the sink has counted.
+//! Lines and blocks of bytes from one source, and bytes to one sink. Each fault that a call answers
+//! is one that the source or the sink has counted.
 #![tactic(auto)]
 
 mod ahead;

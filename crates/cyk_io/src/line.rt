@@ -71,9 +71,9 @@ pub enum ReadLine {
     Ended(u64),
 }
 
-/// Reads the bytes up to the next LF into `line`, which is emptied first, and goes past the LF. It takes no memory, and
-/// `Read` is the one fault that it answers: the bytes taken till then stand in `line`, and the next read goes on behind
-/// them.
+/// Reads the bytes up to the next LF into `line`, which is emptied first, and goes past the LF. It
+/// takes no memory, and `Read` is the one fault that it answers: the bytes taken till then stand in
+/// `line`, and the next read goes on behind them.
 pub fn read_line<S: Source, const N: usize>(
     source: &mut S,
     ahead: &mut Ahead,

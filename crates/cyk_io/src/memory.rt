@@ -5,7 +5,8 @@ use crate::{Failed, Sink, SinkFault, Source};
 use std::alloc::Global;
 use std::marker::Model;
 
-/// A source over bytes that never fails, seen as the bytes that are left. It gives as many as are asked for.
+/// A source over bytes that never fails, seen as the bytes that are left. It gives as many as are
+/// asked for.
 #[derive(Drop)]
 pub struct CleanSource {
     bytes: Vec<u8>,
@@ -56,7 +57,8 @@ impl Source for CleanSource {
     }
 }
 
-/// A sink over memory that never fails, seen as the bytes written so far. It takes all that it is given.
+/// A sink over memory that never fails, seen as the bytes written so far. It takes all that it is
+/// given.
 #[derive(Drop)]
 pub struct CleanSink {
     bytes: Vec<u8>,

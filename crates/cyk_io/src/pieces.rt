@@ -1,4 +1,5 @@
-//! A source and a sink over memory that move bytes in pieces, and fail at the calls that they are told.
+//! A source and a sink over memory that move bytes in pieces, and fail at the calls that they are
+//! told.
 ghost use Rattle.std.specs.Prelude.{◌≡◌, ◌↔◌, ℕ, ◌+◌, ◌-◌, ◌^◌, ◌≤◌, [], IsTrue, IsErr, IsErrOf};
 ghost use Rattle.std.specs.Prelude.{IfOk, min, Contains};
 ghost use Rattle.cyk_io.specs.Causes.{HasCause, HasRisen};
@@ -43,7 +44,8 @@ impl FaultPlan {
     }
 }
 
-/// A source over bytes that gives them in pieces, and fails at some reads. A read that fails takes nothing.
+/// A source over bytes that gives them in pieces, and fails at some reads. A read that fails takes
+/// nothing.
 #[derive(Drop)]
 pub struct ByteSource {
     bytes: CleanSource,
@@ -69,8 +71,8 @@ impl Model for ByteSource {
 }
 
 impl ByteSource {
-    /// Gives at most `piece` bytes a read, and fails the reads whose numbers, from 1, stand in `fail_at`, in any order.
-    /// It takes no memory.
+    /// Gives at most `piece` bytes a read, and fails the reads whose numbers, from 1, stand in
+    /// `fail_at`, in any order. It takes no memory.
     pub fn new(bytes: Vec<u8>, piece: usize, fail_at: Vec<u64>) -> ByteSource
         requires { 1 ≤ piece }
         ensures { result ≡ in_pieces bytes.items piece fail_at.items }
@@ -104,7 +106,8 @@ impl Source for ByteSource {
     }
 }
 
-/// A sink over memory that takes bytes in pieces, and fails at some writes. A write that fails appends nothing.
+/// A sink over memory that takes bytes in pieces, and fails at some writes. A write that fails
+/// appends nothing.
 #[derive(Drop)]
 pub struct ByteSink {
     bytes: CleanSink,
@@ -130,8 +133,8 @@ impl Model for ByteSink {
 }
 
 impl ByteSink {
-    /// Takes at most `piece` bytes a write, and fails the writes whose numbers, from 1, stand in `fail_at`, in any
-    /// order. `alloc` serves the writes.
+    /// Takes at most `piece` bytes a write, and fails the writes whose numbers, from 1, stand in
+    /// `fail_at`, in any order. `alloc` serves the writes.
     pub fn new(alloc: Global, piece: usize, fail_at: Vec<u64>) -> ByteSink
         requires { 1 ≤ piece }
         ensures { result ≡ in_pieces [] piece fail_at.items }

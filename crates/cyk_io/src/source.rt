@@ -15,7 +15,8 @@ pub trait Source {
     /// How many reads have failed, up to 2^64 - 1.
     ghost faults: { Self → ℕ };
 
-    /// Reads bytes into the front of `into`, and answers how many. Where `into` has room, 0 means the end.
+    /// Reads bytes into the front of `into`, and answers how many. Where `into` has room, 0 means
+    /// the end.
     fn read(&mut self, into: &mut [u8]) -> Result<usize, Failed>
         ensures bytes { Reads (left self.old) (left self.new) result into.new }
         ensures cause { HasCause (faults self.old) (faults self.new) (IsErr result) };

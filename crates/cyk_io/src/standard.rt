@@ -1,5 +1,6 @@
-//! A source over any reader of std and a sink over any writer. They tell no bytes, since no contract can say what a
-//! file or a terminal gives or takes, and count the faults that std reports.
+//! A source over any reader of std and a sink over any writer. They tell no bytes, since no
+//! contract can say what a file or a terminal gives or takes, and count the faults that std
+//! reports.
 ghost use Rattle.std.specs.Prelude.{◌≡◌, ℕ, ◌≤◌, IfErr, IsErrOf};
 ghost use Rattle.cyk_io.specs.Causes.{HasCause, HasRisen};
 ghost use Rattle.cyk_io.specs.Streams.{Writes};
@@ -50,8 +51,8 @@ impl<R: Read + Drop> Source for StdSource<R> {
     }
 }
 
-/// A sink over any writer, seen as the count of its faults. It tells no bytes, and flushes after each write. A write
-/// that takes none of its bytes and a flush that fails are faults too.
+/// A sink over any writer, seen as the count of its faults. It tells no bytes, and flushes after
+/// each write. A write that takes none of its bytes and a flush that fails are faults too.
 #[derive(Drop)]
 pub struct StdSink<W: Write + Drop> {
     writer: W,

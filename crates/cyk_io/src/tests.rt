@@ -1,4 +1,5 @@
-//! Each call succeeds at concrete types, and reads and writes that fail in mid-stream leave what they should.
+//! Each call succeeds at concrete types, and reads and writes that fail in mid-stream leave what
+//! they should.
 ghost use Rattle.std.specs.Prelude.{◌≤◌};
 
 use crate::{

@@ -57,10 +57,6 @@ module _ (g : Expansion) (links : List (List ℕ)) (are : AreSteps g links) wher
   none_cyclic_more n before last =
       below_more (λ c. IsCyclic g.rules c → ⊥) n before (λ cyclic. last ((cyclic_number n).1 cyclic))
 
--- without targets the height is 0
-pub height_start : (values : List ℕ) → IsHeight [] values 0
-height_start values = record { found = inl refl; above = λ t has. absurd (omega (arith, has.1)) }
-
 -- one target more makes the height at least one more than its value
 pub height_more :
     (targets values : List ℕ) (target old new : ℕ)

@@ -1,11 +1,10 @@
--- The texts of categories are UTF-8, and the parts of a string are words.
-use Rattle.std.proofs.Common.{◌≡◌, ℕ, ◌<◌, List, [], ◌∷◌, Bor, map, replicate, refl, ap, lit<}
+-- The texts of categories are UTF-8.
+use Rattle.std.proofs.Common.{ℕ, ◌<◌, List, replicate, lit<}
 use Rattle.std.specs.Str.{IsUtf8}
 use Rattle.std.proofs.lemmas.List.Elements.{All-replicate}
 use Rattle.std.proofs.lemmas.Str.{IsUtf8-from_ascii, IsUtf8-append, IsUtf8-had}
 use Rattle.std.proofs.lemmas.Str.Ascii.{IsAscii-from_all}
 use Rattle.spec_lbnf.specs.declared.definition.CatName.{CatName}
-use Rattle.spec_lbnf.specs.declared.definition.RawItem.TheVariants.{Word}
 use Rattle.spec_lbnf.specs.Expansion.{category_text}
 
 -- a byte below 128, over and over
@@ -16,8 +15,3 @@ same_bytes n byte low = IsUtf8-from_ascii (replicate n byte) (IsAscii-from_all (
 pub category_utf8 : (cat : CatName) → ∥ IsUtf8 cat.name ∥₁ → IsUtf8 (category_text cat)
 category_utf8 cat utf8 =
     IsUtf8-append _ _ (same_bytes cat.depth 91 (lit< tt)) (IsUtf8-append _ _ (IsUtf8-had cat.name utf8) (same_bytes cat.depth 93 (lit< tt)))
-
--- the items of parts are those of their texts
-pub words_of_parts : (parts : List (Bor (List ℕ))) → map (λ part. Word part.now) parts ≡ map Word (map (λ part. part.now) parts)
-words_of_parts [] = refl
-words_of_parts (part ∷ parts) = ap (λ items. Word part.now ∷ items) (words_of_parts parts)

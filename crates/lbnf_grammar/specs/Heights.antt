@@ -1,5 +1,6 @@
 -- The longest chains of at most so many steps. Serves the proofs alone.
-use Rattle.std.specs.Prelude.{◌≡◌, ℕ, ◌+◌, ◌<◌, ◌≤◌, ◌⊎◌, List, [], length, slice_index_or, Contains}
+use Rattle.std.specs.Prelude.{◌≡◌, ℕ, ◌+◌, ◌<◌, ◌≤◌, ◌⊎◌, List, [], length, slice_index_or}
+use Rattle.std.specs.Prelude.{Contains}
 use Rattle.spec_grammar.specs.declared.rule.Rule.{Rule}
 use Rattle.spec_grammar.specs.Cycles.{HasChain}
 use Rattle.spec_lbnf.specs.Expansion.{Expansion}

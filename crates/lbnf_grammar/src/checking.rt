@@ -14,7 +14,7 @@ ghost use Rattle.lbnf_grammar.specs.Checking.{Checks, IsListed, IsUnlisted};
 use crate::fault::GrammarFault;
 use crate::names::Names;
 use crate::naming::{all_own_categories, named_categories};
-use crate::texts::copy_name;
+use lbnf_text::copy_name;
 use spec_lbnf::Def;
 use spec_text::Name;
 use std::alloc::Global;

@@ -21,7 +21,6 @@ mod ranking;
 mod stepping;
 mod tables;
 mod texts;
-mod words;
 
 pub use expanding::expand;
 pub use fault::GrammarFault;

@@ -7,8 +7,8 @@ ghost use Rattle.spec_lbnf.specs.Expansion.{terminator_rules, separator_rules, c
 ghost use Rattle.spec_lbnf.specs.Expansion.{level_category, level_rule, bracket_rule};
 ghost use Rattle.spec_lbnf.specs.Expansion.{rules_of_def, rules_of};
 
-use crate::texts::{copy_category, copy_items, copy_name, copy_rule, numbered_name};
-use crate::words::{word_item, words};
+use crate::texts::{copy_category, copy_items, copy_rule, numbered_name};
+use lbnf_text::{copy_name, word_item, words};
 use spec_grammar::Label;
 use spec_lbnf::{CatName, Def, RawItem, RawRule};
 use spec_text::Name;

@@ -120,8 +120,9 @@ impl Grammar {
     /// It looks at each item once, and then at the chains of steps: it passes over the items for
     /// the nullable categories, at most once more than there are of them, looks at each item twice
     /// for the steps, searches from each step of each category, and for the ranks goes round by
-    /// round over all steps, at most as many rounds as there are categories. Beside the ranks, which
-    /// the grammar keeps, it takes memory for the steps and for a few numbers of each category.
+    /// round over all steps, at most as many rounds as there are categories. Beside the ranks,
+    /// which the grammar keeps, it takes memory for the steps and for a few numbers of each
+    /// category.
     pub fn of_rules(
         alloc: Global,
         rules: Vec<Rule>,

@@ -6,7 +6,8 @@ ghost use Rattle.lbnf_grammar.specs.Numbering.{with_names};
 
 use crate::names::Names;
 use crate::naming::internal_category;
-use crate::texts::{category_text, copy_name};
+use crate::texts::category_text;
+use lbnf_text::copy_name;
 use spec_lbnf::{Def, RawItem, RawRule};
 use std::alloc::{AllocError, Global};
 

@@ -28,8 +28,8 @@ fn unknown_in(alloc: Global, bytes: &[u8]) -> Option<(Name, u32)> {
     }
 }
 
-const SUMS: &[u8] =
-    b"Add . Exp ::= Exp Tail; Rest . Tail ::= Plus Exp; P . Plus ::= \"+\"; One . Exp ::= \"1\"; Two . Exp ::= \"+\"";
+const SUMS: &[u8] = b"Add . Exp ::= Exp Tail; Rest . Tail ::= Plus Exp; \
+    P . Plus ::= \"+\"; One . Exp ::= \"1\"; Two . Exp ::= \"+\"";
 
 #[test]
 fn categories_are_numbered_as_the_rules_meet_them(rt: HostRuntime) -> Result<(), Fail> {

@@ -1,20 +1,14 @@
-//! The texts of categories, and copies of names and labels.
+//! The texts of categories, and copies of labels, categories, items and rules.
 ghost use Rattle.std.specs.Prelude.{◌≡◌, ◌++◌, IfOk};
 ghost use Rattle.std.specs.Fmt.{decimal};
 ghost use Rattle.spec_lbnf.specs.Expansion.{category_text};
 
+use lbnf_text::copy_name;
 use spec_grammar::Label;
 use spec_lbnf::{CatName, RawItem, RawRule};
 use spec_text::Name;
 use sqlite_items::Items;
 use std::alloc::{AllocError, Global};
-
-pub fn copy_name(alloc: Global, name: &Name) -> Result<Name, AllocError>
-    ensures { IfOk result (λ copy. copy ≡ name.now) }
-{
-    let bytes = Vec::from_slice(alloc, name.as_slice())?;
-    Ok(Name::of(bytes))
-}
 
 pub fn copy_label(alloc: Global, label: &Label) -> Result<Label, AllocError>
     ensures { IfOk result (λ copy. copy ≡ label.now) }

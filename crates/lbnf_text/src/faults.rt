@@ -8,7 +8,8 @@ ghost use Rattle.spec_lbnf.specs.FileDefinitions.{place_of, stuck_fault};
 ghost use Rattle.lbnf_text.specs.Faulting.{identifier, second_word_fault, IsFault, IsStart};
 
 use crate::fault::TextFault;
-use crate::parser::{copy_name, first_of, is_sign, starts_upper};
+use crate::parser::{first_of, is_sign, starts_upper};
+use crate::texts::copy_name;
 use spec_lbnf::{FileToken, PlacedToken, Sign};
 use spec_text::Name;
 use std::alloc::{AllocError, Global};

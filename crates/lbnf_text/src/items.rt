@@ -1,46 +1,13 @@
 //! Reading the items of a right side.
-ghost use Rattle.std.specs.Prelude.{◌≡◌, ◌<◌, length, map, IfOk, OnOk};
-ghost use Rattle.spec_lbnf.specs.declared.definition.RawItem.TheVariants.{Word};
-ghost use Rattle.spec_lbnf.specs.Words.{is_empty, words_in};
+ghost use Rattle.std.specs.Prelude.{◌<◌, length, OnOk};
 ghost use Rattle.spec_lbnf.specs.FileReading.{item_at, side_at};
 ghost use Rattle.lbnf_text.specs.Parsing.{Gives, category_item_at};
 
 use crate::parser::{Parser, Stop, text_value};
+use crate::texts::words;
 use spec_lbnf::RawItem;
-use spec_text::Name;
 use sqlite_items::Items;
-use std::alloc::{AllocError, Global};
-
-fn is_empty(word: &[u8]) -> bool
-    ensures { result ≡ is_empty word.now }
-{
-    match word {
-        [] => true,
-        [_, ..] => false,
-    }
-}
-
-/// The parts of a string between its spaces, without empty ones.
-fn word_parts(alloc: Global, text: &[u8]) -> Result<Vec<&[u8]>, AllocError>
-    ensures { IfOk result (λ parts. map (λ p. p.now) parts.items ≡ words_in text.now) }
-{
-    text.split(|byte| *byte == b' ')
-        .filter(|word| !is_empty(word))
-        .collect(alloc)
-}
-
-/// The words of a string, as items.
-fn words(alloc: Global, text: &Name) -> Result<Items<RawItem>, AllocError>
-    ensures { IfOk result (λ items. items ≡ map Word (words_in text.now)) }
-{
-    let parts = word_parts(alloc, text.as_slice())?;
-    let mut items = Items::new(alloc);
-    for part in parts.iter() {
-        let word = Vec::from_slice(alloc, part)?;
-        items.push(RawItem::Word(Name::of(word)))?;
-    }
-    Ok(items)
-}
+use std::alloc::Global;
 
 impl<'a> Parser<'a> {
     /// Reads a category, as the items that it gives.

@@ -4,7 +4,8 @@ ghost use Rattle.spec_lbnf.specs.FileReading.{nil_at, one_at, colon_label_at, pa
 ghost use Rattle.spec_lbnf.specs.FileReading.{sign_label_at, label_at};
 ghost use Rattle.lbnf_text.specs.Parsing.{Gives};
 
-use crate::parser::{Parser, Stop, copy_name, is_sign, upper_name};
+use crate::parser::{Parser, Stop, is_sign, upper_name};
+use crate::texts::copy_name;
 use spec_grammar::Label;
 use spec_lbnf::{PlacedToken, Sign};
 use std::alloc::Global;

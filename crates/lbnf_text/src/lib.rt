@@ -12,6 +12,7 @@ mod labels;
 mod parser;
 mod reading;
 mod scanner;
+mod texts;
 
 pub use defs::Defs;
 pub use fault::TextFault;
@@ -19,6 +20,7 @@ pub use reading::{MAX_FILE, read_defs};
 pub use spec_grammar::Label;
 pub use spec_lbnf::{CatName, Def, RawItem, RawRule};
 pub use spec_text::Name;
+pub use texts::{copy_name, word_item, words};
 
 #[cfg(test)]
 mod tests;

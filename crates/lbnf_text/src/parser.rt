@@ -8,6 +8,7 @@ ghost use Rattle.spec_lbnf.specs.FileReading.{upper_name, text_value, number_val
 ghost use Rattle.spec_lbnf.specs.FileReading.{sign_at, name_at, text_at, number_at};
 ghost use Rattle.lbnf_text.specs.Parsing.{Gives, IsFirst, Splits};
 
+use crate::texts::copy_name;
 use spec_lbnf::{FileToken, PlacedToken, Sign};
 use spec_text::Name;
 use std::alloc::{AllocError, Global};
@@ -203,14 +204,6 @@ pub fn upper_name(token: &FileToken) -> Option<&Name>
         FileToken::Character(_) => None,
         FileToken::Sign(_) => None,
     }
-}
-
-/// The name of the same bytes.
-pub fn copy_name(alloc: Global, name: &Name) -> Result<Name, AllocError>
-    ensures { IfOk result (λ copy. copy ≡ name.now) }
-{
-    let bytes = Vec::from_slice(alloc, name.as_slice())?;
-    Ok(Name::of(bytes))
 }
 
 /// The text that the token is.

@@ -98,7 +98,8 @@ fn behind_space(text: &str) -> Option<&str>
 
 /// The first scalar, and what is behind it.
 fn split_first(text: &str) -> Option<(char, &str)>
-    ensures split { MatchOption result (text.now ≡ []) (λ x. text.now ≡ encode_utf8 x.0 ++ x.1.now) }
+    ensures split { MatchOption result (text.now ≡ [])
+        (λ x. text.now ≡ encode_utf8 x.0 ++ x.1.now) }
     ensures scalar { IfSome result (λ x. IsScalar x.0) }
     ensures shorter { IfSome result (λ x. length x.1.now < length text.now) }
 {

@@ -157,7 +157,3 @@ added_within old new from to adds below within m n has = elim ((adds.links m n).
       omega (arith, is, adds.count)
   | inr added ↦ omega (arith, added.1, below, adds.count)
 ]
-
--- no links are within any count
-pub none_within : (count : ℕ) (links : List (List ℕ)) → AreNoLinks count links → AreLinksWithin links
-none_within count links none m n has = absurd (no_link count m n (rw none at has))

@@ -1,11 +1,13 @@
 -- What the functions of src/laws.rt say of derivation.
-use Rattle.std.specs.Prelude.{◌≡◌, ℕ, ◌+◌, ◌<◌, ◌≤◌, ◌↔◌, List, [], ◌∷◌, Option, Some, length, slice_get}
+use Rattle.std.specs.Prelude.{◌≡◌, ℕ, ◌+◌, ◌<◌, ◌≤◌, ◌↔◌, List, [], ◌∷◌, Option, Some, length}
+use Rattle.std.specs.Prelude.{slice_get}
 use Rattle.spec_grammar.specs.declared.rule.Symbol.{Symbol}
 use Rattle.spec_grammar.specs.declared.rule.Symbol.TheVariants.{Category, Kind}
 use Rattle.spec_grammar.specs.declared.rule.Rule.{Rule}
 use Rattle.spec_grammar.specs.Derivation.{Derives, DerivesAll, IsNullable}
 
--- a symbol is nullable exactly where it derives the empty span at a place of a text, whichever they are
+-- a symbol is nullable exactly where it derives the empty span at a place of a text, whichever they
+-- are
 abbrev pub NullableDerivesEverywhere : Type 0
 NullableDerivesEverywhere =
     (rules : List Rule) (kinds : List (Option ℕ)) (s : Symbol) (i : ℕ)

@@ -156,8 +156,8 @@ pub record IsFirstCyclic (g : Expansion) (name : List ℕ) : Type 0 where
   pub cyclic : IsCyclic g.rules category
   pub earlier : (c : ℕ) → c < category → IsCyclic g.rules c → ⊥
 
--- why definitions are unfit: a bad coercion or a bad list, by its number; too many rules, so many; a
--- predefined name that rules are given for; a category that is not known, and the number of the
+-- why definitions are unfit: a bad coercion or a bad list, by its number; too many rules, so many;
+-- a predefined name that rules are given for; a category that is not known, and the number of the
 -- definition that names it; such a definition alone, where the name is predefined, since predefined
 -- kinds are not built; a category that reaches itself
 pub data Unfitness : Type 0 where

@@ -1,6 +1,9 @@
--- The grammar that definitions stand for: its rules in file order, and the numbers of its categories and kinds.
-use Rattle.std.specs.Prelude.{◌≡◌, ℕ, ◌+◌, ◌<◌, List, [], ◌∷◌, ◌++◌, length, map, filter, flat_map, All}
-use Rattle.std.specs.Prelude.{not, replicate, bytes_eq, Some, slice_get, zero, codes, Bool, true, false}
+-- The grammar that definitions stand for: its rules in file order, and the numbers of its
+-- categories and kinds.
+use Rattle.std.specs.Prelude.{◌≡◌, ℕ, ◌+◌, ◌<◌, List, [], ◌∷◌, ◌++◌, length, map, filter, flat_map}
+use Rattle.std.specs.Prelude.{All}
+use Rattle.std.specs.Prelude.{not, replicate, bytes_eq, Some, slice_get, zero, codes, Bool, true}
+use Rattle.std.specs.Prelude.{false}
 use Rattle.std.specs.Prelude.{cond, Option, None}
 use Rattle.std.specs.Option.{option_map, option_or}
 use Rattle.std.specs.Fmt.{decimal}
@@ -18,7 +21,8 @@ use Rattle.spec_lbnf.specs.declared.definition.RawItem.TheVariants.{Cat, Word}
 use Rattle.spec_lbnf.specs.declared.definition.RawRule.{RawRule}
 use Rattle.spec_lbnf.specs.declared.definition.Def.{Def}
 use Rattle.spec_lbnf.specs.declared.definition.Def.TheVariants.{Rule as RuleDef, Internal}
-use Rattle.spec_lbnf.specs.declared.definition.Def.TheVariants.{Terminator, Separator, Coercions, Entry}
+use Rattle.spec_lbnf.specs.declared.definition.Def.TheVariants.{Terminator, Separator, Coercions}
+use Rattle.spec_lbnf.specs.declared.definition.Def.TheVariants.{Entry}
 
 -- an expanded grammar: its rules, the texts of its categories, and its kinds, each by number, and
 -- the symbol that is asked for where none is named
@@ -45,7 +49,8 @@ HasOwnSymbols g = (r : ℕ) (rule : Rule) → slice_get g.rules r ≡ Some rule 
 abbrev pub item_count : List Rule → ℕ
 item_count rules = sum_by (λ (rule : Rule). length rule.items) rules
 
--- how many symbols a chart of the grammar has to tell apart: categories, kinds and all items of all rules
+-- how many symbols a chart of the grammar has to tell apart: categories, kinds and all items of all
+-- rules
 abbrev pub symbol_count : Expansion → ℕ
 symbol_count g = length g.categories + length g.kinds + item_count g.rules
 

@@ -1,5 +1,6 @@
 -- What a grammar file spells, or its first fault.
-use Rattle.std.specs.Prelude.{◌≡◌, ℕ, ◌<◌, ◌≤◌, List, [], ◌∷◌, ◌++◌, length, codes, Bool, true, false}
+use Rattle.std.specs.Prelude.{◌≡◌, ℕ, ◌<◌, ◌≤◌, List, [], ◌∷◌, ◌++◌, length, codes, Bool, true}
+use Rattle.std.specs.Prelude.{false}
 use Rattle.std.specs.Prelude.{map, bytes_eq, cond, IsUtf8}
 use Rattle.std.specs.List.{list_any, slice_split}
 use Rattle.std.specs.Str.Lossy.{utf8_valid_len}
@@ -81,7 +82,8 @@ abbrev pub piece_fault : ℕ → List FileToken → FileToken → ℕ → FileFa
 piece_fault number [] (Identifier word) at =
     cond (starts_upper word) (syntax at) (word_fault number word at)
 piece_fault number (Identifier first ∷ []) (Identifier word) at =
-    cond (bytes_eq first (codes "internal")) (cond (starts_upper word) (syntax at) (unsupported word at))
+    cond (bytes_eq first (codes "internal"))
+    (cond (starts_upper word) (syntax at) (unsupported word at))
     (syntax at)
 piece_fault number (Identifier first ∷ []) (SignToken OpenParen) at =
     cond (starts_upper first) (unsupported (codes "(") at) (syntax at)

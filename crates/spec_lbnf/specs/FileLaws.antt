@@ -1,5 +1,5 @@
--- What is true of the tokens of a grammar file: what stands at the front of bytes is one token or one
--- space, so that a file has one scan, and the places of its tokens rise.
+-- What is true of the tokens of a grammar file: what stands at the front of bytes is one token or
+-- one space, so that a file has one scan, and the places of its tokens rise.
 use Rattle.std.specs.Prelude.{◌≡◌, ℕ, ◌+◌, ◌≤◌, List, [], ◌∷◌, length}
 use Rattle.spec_lbnf.specs.declared.token.FileToken.{FileToken}
 use Rattle.spec_lbnf.specs.declared.token.PlacedToken.{PlacedToken}

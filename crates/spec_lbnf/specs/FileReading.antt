@@ -1,6 +1,7 @@
 -- Reading the tokens of a definition from left to right. Serves the proofs alone: what tokens spell
 -- is said in GrammarFile.
-use Rattle.std.specs.Prelude.{◌≡◌, ℕ, zero, suc, ◌+◌, List, [], ◌∷◌, ◌++◌, length, drop, codes, Bool}
+use Rattle.std.specs.Prelude.{◌≡◌, ℕ, zero, suc, ◌+◌, List, [], ◌∷◌, ◌++◌, length, drop, codes}
+use Rattle.std.specs.Prelude.{Bool}
 use Rattle.std.specs.Prelude.{true, false, cond, nat_le, bytes_eq, map, Option, Some, None}
 use Rattle.spec_grammar.specs.declared.rule.Label.{Label}
 use Rattle.spec_grammar.specs.declared.rule.Label.TheVariants.{Named, Wild, Nil, Cons, One}
@@ -236,7 +237,8 @@ more_entries_at (suc turns) (token ∷ rest) =
 -- one category or more, up to the end of the tokens
 unfoldable pub entries_at : Reader (List CatName)
 entries_at tokens =
-    (category_at >>= (λ cat. more_entries_at (length tokens) >>= (λ cats. pure (cat ∷ cats)))) tokens
+    (category_at >>= (λ cat. more_entries_at (length tokens)
+    >>= (λ cats. pure (cat ∷ cats)))) tokens
 
 -- the value, where no token is left
 unfoldable pub to_end : {A : Type 0} → A → Reader A
@@ -246,7 +248,8 @@ to_end value (token ∷ rest) = stuck (token ∷ rest)
 -- the definition that begins with this word, behind it, or else a rule
 unfoldable pub def_by : PlacedToken → Reader Def
 def_by token rest =
-    cond (is_word (codes "internal") token.token) ((rule_at >>= (λ rule. pure (Internal rule))) rest)
+    cond (is_word (codes "internal") token.token)
+    ((rule_at >>= (λ rule. pure (Internal rule))) rest)
     (cond (is_word (codes "terminator") token.token) (list_macro_at Terminator rest)
     (cond (is_word (codes "separator") token.token) (list_macro_at Separator rest)
     (cond (is_word (codes "coercions") token.token) (coercions_at rest)

@@ -1,5 +1,6 @@
 -- What the tokens of a grammar file spell: each form of definition is one line.
-use Rattle.std.specs.Prelude.{◌≡◌, ℕ, ◌<◌, ◌≤◌, List, [], ◌∷◌, ◌++◌, length, codes, Bool, true, false}
+use Rattle.std.specs.Prelude.{◌≡◌, ℕ, ◌<◌, ◌≤◌, List, [], ◌∷◌, ◌++◌, length, codes, Bool, true}
+use Rattle.std.specs.Prelude.{false}
 use Rattle.std.specs.Prelude.{not, nat_eq, All, filter, map, flat_map, replicate}
 use Rattle.std.specs.List.{slice_split}
 use Rattle.spec_grammar.specs.declared.rule.Label.{Label}

@@ -2,7 +2,8 @@
 use Rattle.std.specs.Prelude.{◌≡◌, ℕ, ◌↔◌, List, Some, slice_get, Contains, IfSome}
 use Rattle.spec_grammar.specs.Cycles.{IsAcyclic}
 use Rattle.spec_lbnf.specs.declared.definition.Def.{Def}
-use Rattle.spec_lbnf.specs.Expansion.{Expansion, distinct, number_of, expansion_of, HasOwnSymbols, IsSymbolOf}
+use Rattle.spec_lbnf.specs.Expansion.{Expansion, distinct, number_of, expansion_of, HasOwnSymbols}
+use Rattle.spec_lbnf.specs.Expansion.{IsSymbolOf}
 use Rattle.spec_lbnf.specs.Checks.{AreAllKnown, IsFirstCyclic, Unfitness, AreFit, IsUnfit}
 
 -- the rules that definitions give have symbols of their grammar alone

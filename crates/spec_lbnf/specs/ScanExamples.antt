@@ -12,10 +12,11 @@ use Rattle.spec_lbnf.specs.FileTokens.{IsScan}
 abbrev pub at : ℕ → FileToken → PlacedToken
 at place token = record { token = token; place = place }
 
--- the identifier a, and the identifier b
+-- the identifier a
 abbrev pub a : FileToken
 a = Identifier (codes "a")
 
+-- the identifier b
 abbrev pub b : FileToken
 b = Identifier (codes "b")
 

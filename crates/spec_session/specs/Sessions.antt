@@ -2,8 +2,10 @@
 -- grammar and texts alone.
 use Rattle.std.specs.Prelude.{◌≡◌, ℕ, List, [], ◌∷◌, ◌++◌, codes, decimal}
 use Rattle.spec_lbnf.specs.Expansion.{Expansion}
-use Rattle.spec_session.specs.Script.{Command, header, grammar, Ending, ended, broken, Begins, IsScript}
-use Rattle.spec_session.specs.Replies.{as_line, IsAccepted, IsRefused, grammar_reply, IsReply, texts_after}
+use Rattle.spec_session.specs.Script.{Command, header, grammar, Ending, ended, broken, Begins}
+use Rattle.spec_session.specs.Script.{IsScript}
+use Rattle.spec_session.specs.Replies.{as_line, IsAccepted, IsRefused, grammar_reply, IsReply}
+use Rattle.spec_session.specs.Replies.{texts_after}
 
 -- the bytes are the replies to the commands, in order
 abbrev pub AreReplies : Expansion → List (List ℕ) → List Command → List ℕ → Type 0

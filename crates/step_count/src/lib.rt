@@ -1,4 +1,5 @@
-//! A counter of steps that is handed down through calls, so that their contracts can bound what they count.
+//! A counter of steps that is handed down through calls, so that their contracts can bound what
+//! they count.
 #![tactic(auto)]
 
 mod steps;

@@ -1,4 +1,5 @@
-//! The counter. Its number lives in a ledger, so it is seen by contracts alone and takes no room when it runs.
+//! The counter. Its number lives in a ledger, so it is seen by contracts alone and takes no room
+//! when it runs.
 ghost use Rattle.std.specs.Prelude.{◌≡◌, ◌+◌, ◌<◌};
 
 use std::marker::Model;

@@ -2,7 +2,8 @@
 -- begin with it and are not empty, in the order of their ends. The row of the last token stands
 -- first.
 use Rattle.std.specs.Prelude.{◌≡◌, ℕ, ◌+◌, ◌-◌, ◌<◌, ◌≤◌, ◌≢◌, List, [], ◌∷◌, Option, Some, None}
-use Rattle.std.specs.Prelude.{if◌then◌else◌, ◌==◌, length, slice_get, slice_index_or, Result, MatchResult}
+use Rattle.std.specs.Prelude.{if◌then◌else◌, ◌==◌, length, slice_get, slice_index_or, Result}
+use Rattle.std.specs.Prelude.{MatchResult}
 use Rattle.std.specs.declared.alloc.Global.{Global}
 use Rattle.std.specs.declared.sync.Arc.{Arc}
 use Rattle.cell_sets.specs.Grids.{grid_of}

@@ -142,8 +142,9 @@ fn a_rank_is_the_length_of_the_longest_chain_of_steps(rt: HostRuntime) -> Result
 }
 
 /// Sums of products of atoms, and a statement that is a sum.
-const LEVELS: &[u8] =
-    b"Add . Sum ::= Sum \"+\" Product; S . Sum ::= Product; Mul . Product ::= Product \"*\" Atom; P . Product ::= Atom; One . Atom ::= \"1\"; Do . Statement ::= Sum";
+const LEVELS: &[u8] = b"Add . Sum ::= Sum \"+\" Product; S . Sum ::= Product; \
+    Mul . Product ::= Product \"*\" Atom; P . Product ::= Atom; One . Atom ::= \"1\"; \
+    Do . Statement ::= Sum";
 
 #[test]
 fn an_expanded_grammar_has_ranks(rt: HostRuntime) -> Result<(), Fail> {

@@ -98,64 +98,68 @@ fn answer(alloc: Global, bytes: &[u8]) -> Result<String, AllocError> {
     }
 }
 
+/// Files, and the rules that they stand for.
+const RULES: &[(&str, &str)] = &[
+    ("A. E ::= \"a\" E ;", "A E:0 = '0' E:0; entry E:0"),
+    (
+        "terminator E \";\" ; A. E ::= \"a\" ;",
+        "[] [E]:0 =; (:) [E]:0 = E:1 '0' [E]:0; A E:1 = '1'; entry [E]:0",
+    ),
+    (
+        "terminator nonempty E \";\" ; A. E ::= \"a\" ;",
+        "(:[]) [E]:0 = E:1 '0'; (:) [E]:0 = E:1 '0' [E]:0; A E:1 = '1'; entry [E]:0",
+    ),
+    (
+        "separator E \",\" ; A. E ::= \"a\" ;",
+        "[] [E]:0 =; (:[]) [E]:0 = E:1; (:) [E]:0 = E:1 '0' [E]:0; A E:1 = '1'; entry [E]:0",
+    ),
+    (
+        "separator nonempty E \",\" ; A. E ::= \"a\" ;",
+        "(:[]) [E]:0 = E:1; (:) [E]:0 = E:1 '0' [E]:0; A E:1 = '1'; entry [E]:0",
+    ),
+    (
+        "separator E \"\" ; A. E ::= \"a\" ;",
+        "[] [E]:0 =; (:) [E]:0 = E:1 [E]:0; A E:1 = '0'; entry [E]:0",
+    ),
+    (
+        "separator nonempty E \"  \" ; A. E ::= \"a\" ;",
+        "(:[]) [E]:0 = E:1; (:) [E]:0 = E:1 [E]:0; A E:1 = '0'; entry [E]:0",
+    ),
+    (
+        "separator E \"a b\" ; A. E ::= \"b\" ;",
+        "[] [E]:0 =; (:[]) [E]:0 = E:1; (:) [E]:0 = E:1 '0' '1' [E]:0; A E:1 = '1'; \
+         entry [E]:0",
+    ),
+    (
+        "terminator [E] \".\" ; terminator E \";\" ; A. E ::= \"a\" ;",
+        "[] [[E]]:0 =; (:) [[E]]:0 = [E]:1 '0' [[E]]:0; [] [E]:1 =; \
+         (:) [E]:1 = E:2 '1' [E]:1; A E:2 = '2'; entry [[E]]:0",
+    ),
+    (
+        "coercions E 1 ;",
+        "_ E:0 = E1:1; _ E1:1 = '0' E:0 '1'; entry E:0",
+    ),
+    (
+        "coercions E 02 ;",
+        "_ E:0 = E1:1; _ E1:1 = E2:2; _ E2:2 = '0' E:0 '1'; entry E:0",
+    ),
+    (
+        "internal Hid. T ::= U ; A. S ::= \"a\" T ;",
+        "A S:0 = '0' T:1; entry S:0",
+    ),
+    ("internal Hid. T ::= U ;", "entry"),
+    ("", "entry"),
+];
+
 #[test]
 fn each_form_gives_its_rules(rt: HostRuntime) -> Result<(), Fail> {
-    let cases = [
-        ("A. E ::= \"a\" E ;", "A E:0 = '0' E:0; entry E:0"),
-        (
-            "terminator E \";\" ; A. E ::= \"a\" ;",
-            "[] [E]:0 =; (:) [E]:0 = E:1 '0' [E]:0; A E:1 = '1'; entry [E]:0",
-        ),
-        (
-            "terminator nonempty E \";\" ; A. E ::= \"a\" ;",
-            "(:[]) [E]:0 = E:1 '0'; (:) [E]:0 = E:1 '0' [E]:0; A E:1 = '1'; entry [E]:0",
-        ),
-        (
-            "separator E \",\" ; A. E ::= \"a\" ;",
-            "[] [E]:0 =; (:[]) [E]:0 = E:1; (:) [E]:0 = E:1 '0' [E]:0; A E:1 = '1'; entry [E]:0",
-        ),
-        (
-            "separator nonempty E \",\" ; A. E ::= \"a\" ;",
-            "(:[]) [E]:0 = E:1; (:) [E]:0 = E:1 '0' [E]:0; A E:1 = '1'; entry [E]:0",
-        ),
-        (
-            "separator E \"\" ; A. E ::= \"a\" ;",
-            "[] [E]:0 =; (:) [E]:0 = E:1 [E]:0; A E:1 = '0'; entry [E]:0",
-        ),
-        (
-            "separator nonempty E \"  \" ; A. E ::= \"a\" ;",
-            "(:[]) [E]:0 = E:1; (:) [E]:0 = E:1 [E]:0; A E:1 = '0'; entry [E]:0",
-        ),
-        (
-            "separator E \"a b\" ; A. E ::= \"b\" ;",
-            "[] [E]:0 =; (:[]) [E]:0 = E:1; (:) [E]:0 = E:1 '0' '1' [E]:0; A E:1 = '1'; entry [E]:0",
-        ),
-        (
-            "terminator [E] \".\" ; terminator E \";\" ; A. E ::= \"a\" ;",
-            "[] [[E]]:0 =; (:) [[E]]:0 = [E]:1 '0' [[E]]:0; [] [E]:1 =; (:) [E]:1 = E:2 '1' [E]:1; A E:2 = '2'; entry [[E]]:0",
-        ),
-        (
-            "coercions E 1 ;",
-            "_ E:0 = E1:1; _ E1:1 = '0' E:0 '1'; entry E:0",
-        ),
-        (
-            "coercions E 02 ;",
-            "_ E:0 = E1:1; _ E1:1 = E2:2; _ E2:2 = '0' E:0 '1'; entry E:0",
-        ),
-        (
-            "internal Hid. T ::= U ; A. S ::= \"a\" T ;",
-            "A S:0 = '0' T:1; entry S:0",
-        ),
-        ("internal Hid. T ::= U ;", "entry"),
-        ("", "entry"),
-    ];
-    for (file, want) in cases {
+    for (file, want) in RULES {
         let grammar = expanded(rt.alloc(), file.as_bytes())
             .ok_or("the form")?
             .ok()
             .ok_or("a grammar")?;
         let rules = rules_text(rt.alloc(), &grammar)?;
-        assert_eq!(rt; rules.as_str(), want, "at {file}");
+        assert_eq!(rt; rules.as_str(), *want, "at {file}");
     }
     Ok(())
 }
@@ -319,68 +323,70 @@ fn names_that_are_predefined_or_unknown_are_told(rt: HostRuntime) -> Result<(), 
     Ok(())
 }
 
+/// Files with two faults, and the one that is told.
+const TWO_FAULTS: &[(&str, &str)] = &[
+    ("A. [E] ::= ; _. E ::= ;", "list 0"),
+    ("_. E ::= ; A. [E] ::= ;", "coercion 0"),
+    ("A. E ::= ; A. [E] ::= ; coercions E 0 ;", "list 1"),
+    ("A. E ::= ; coercions E 0 ; A. [E] ::= ;", "coercion 1"),
+    ("_. [E] ::= ;", "coercion 0"),
+    ("_. [E] ::= E E ;", "coercion 0"),
+    ("internal A. [E] ::= ; _. E ::= ;", "list 0"),
+    ("internal _. E ::= ; []. E ::= ;", "coercion 0"),
+    ("; ; A. E ::= ; ; _. E ::= ;", "coercion 1"),
+    ("coercions E 9999 ; _. E ::= ;", "coercion 1"),
+    ("coercions E 9999 ; A. [E] ::= ;", "list 1"),
+    ("coercions E 9999 ; coercions E 0 ;", "coercion 1"),
+    ("coercions Ident 9999 ; (:). [E] ::= E ;", "list 1"),
+    ("A. Ident ::= ; _. E ::= ;", "coercion 1"),
+    ("A. Ident ::= ; A. [E] ::= ;", "list 1"),
+    ("A. [Ident] ::= ;", "list 0"),
+    ("S. S ::= T ; _. E ::= ;", "coercion 1"),
+    ("S. S ::= T ; []. E ::= ;", "list 1"),
+    ("entrypoints T ; coercions E 0 ;", "coercion 1"),
+    ("S. S ::= Ident ; coercions E 0 ;", "coercion 1"),
+    ("A. S ::= S ; _. E ::= ;", "coercion 1"),
+    ("A. S ::= S ; (:[]). [E] ::= ;", "list 1"),
+    ("coercions Ident 1024 ;", "rules 1025"),
+    ("A. Ident ::= ; coercions E 1024 ;", "rules 1026"),
+    ("internal A. Char ::= ; coercions E 1024 ;", "rules 1025"),
+    ("S. S ::= T ; coercions E 1024 ;", "rules 1026"),
+    ("S. S ::= Ident ; coercions E 1024 ;", "rules 1026"),
+    ("entrypoints T ; coercions E 1024 ;", "rules 1025"),
+    ("A. S ::= S ; coercions E 1024 ;", "rules 1026"),
+    ("B. E ::= T ; A. Integer ::= ;", "token Integer"),
+    ("entrypoints T ; A. Integer ::= ;", "token Integer"),
+    ("A. E ::= Ident ; B. Char ::= ;", "token Char"),
+    ("A. Ident ::= Ident ;", "token Ident"),
+    ("A. Double ::= ; B. Integer ::= ;", "token Double"),
+    ("internal A. Char ::= ; B. Ident ::= ;", "token Char"),
+    ("B. Ident ::= ; internal A. Char ::= ;", "token Ident"),
+    ("A. S ::= S ; B. String ::= ;", "token String"),
+    (
+        "coercions E 1 ; A. E1 ::= E ; coercions Char 1 ;",
+        "token Char",
+    ),
+    ("S. S ::= Ident T ;", "unbuilt 0"),
+    ("S. S ::= T Ident ;", "category T 0"),
+    ("S. S ::= T U ;", "category T 0"),
+    ("A. S ::= U ; B. S ::= T ;", "category U 0"),
+    ("entrypoints T ; S. S ::= U ;", "category T 0"),
+    ("S. S ::= U ; entrypoints T ;", "category U 0"),
+    ("entrypoints Ident, T ; A. S ::= ;", "unbuilt 0"),
+    ("entrypoints T, Ident ; A. S ::= ;", "category T 0"),
+    ("separator T \",\" ; entrypoints Ident ;", "category T 0"),
+    ("A. S ::= S ; B. S ::= T ;", "category T 1"),
+    ("A. S ::= S ; B. S ::= Ident ;", "unbuilt 1"),
+    ("A. S ::= S ; entrypoints T ;", "category T 1"),
+    ("A. T ::= S ; B. S ::= S ;", "cyclic S"),
+    ("A. T ::= S T ; B. S ::= S ; C. S ::= ;", "cyclic T"),
+];
+
 #[test]
 fn of_two_faults_the_one_that_is_looked_for_first_is_told(rt: HostRuntime) -> Result<(), Fail> {
-    let cases = [
-        ("A. [E] ::= ; _. E ::= ;", "list 0"),
-        ("_. E ::= ; A. [E] ::= ;", "coercion 0"),
-        ("A. E ::= ; A. [E] ::= ; coercions E 0 ;", "list 1"),
-        ("A. E ::= ; coercions E 0 ; A. [E] ::= ;", "coercion 1"),
-        ("_. [E] ::= ;", "coercion 0"),
-        ("_. [E] ::= E E ;", "coercion 0"),
-        ("internal A. [E] ::= ; _. E ::= ;", "list 0"),
-        ("internal _. E ::= ; []. E ::= ;", "coercion 0"),
-        ("; ; A. E ::= ; ; _. E ::= ;", "coercion 1"),
-        ("coercions E 9999 ; _. E ::= ;", "coercion 1"),
-        ("coercions E 9999 ; A. [E] ::= ;", "list 1"),
-        ("coercions E 9999 ; coercions E 0 ;", "coercion 1"),
-        ("coercions Ident 9999 ; (:). [E] ::= E ;", "list 1"),
-        ("A. Ident ::= ; _. E ::= ;", "coercion 1"),
-        ("A. Ident ::= ; A. [E] ::= ;", "list 1"),
-        ("A. [Ident] ::= ;", "list 0"),
-        ("S. S ::= T ; _. E ::= ;", "coercion 1"),
-        ("S. S ::= T ; []. E ::= ;", "list 1"),
-        ("entrypoints T ; coercions E 0 ;", "coercion 1"),
-        ("S. S ::= Ident ; coercions E 0 ;", "coercion 1"),
-        ("A. S ::= S ; _. E ::= ;", "coercion 1"),
-        ("A. S ::= S ; (:[]). [E] ::= ;", "list 1"),
-        ("coercions Ident 1024 ;", "rules 1025"),
-        ("A. Ident ::= ; coercions E 1024 ;", "rules 1026"),
-        ("internal A. Char ::= ; coercions E 1024 ;", "rules 1025"),
-        ("S. S ::= T ; coercions E 1024 ;", "rules 1026"),
-        ("S. S ::= Ident ; coercions E 1024 ;", "rules 1026"),
-        ("entrypoints T ; coercions E 1024 ;", "rules 1025"),
-        ("A. S ::= S ; coercions E 1024 ;", "rules 1026"),
-        ("B. E ::= T ; A. Integer ::= ;", "token Integer"),
-        ("entrypoints T ; A. Integer ::= ;", "token Integer"),
-        ("A. E ::= Ident ; B. Char ::= ;", "token Char"),
-        ("A. Ident ::= Ident ;", "token Ident"),
-        ("A. Double ::= ; B. Integer ::= ;", "token Double"),
-        ("internal A. Char ::= ; B. Ident ::= ;", "token Char"),
-        ("B. Ident ::= ; internal A. Char ::= ;", "token Ident"),
-        ("A. S ::= S ; B. String ::= ;", "token String"),
-        (
-            "coercions E 1 ; A. E1 ::= E ; coercions Char 1 ;",
-            "token Char",
-        ),
-        ("S. S ::= Ident T ;", "unbuilt 0"),
-        ("S. S ::= T Ident ;", "category T 0"),
-        ("S. S ::= T U ;", "category T 0"),
-        ("A. S ::= U ; B. S ::= T ;", "category U 0"),
-        ("entrypoints T ; S. S ::= U ;", "category T 0"),
-        ("S. S ::= U ; entrypoints T ;", "category U 0"),
-        ("entrypoints Ident, T ; A. S ::= ;", "unbuilt 0"),
-        ("entrypoints T, Ident ; A. S ::= ;", "category T 0"),
-        ("separator T \",\" ; entrypoints Ident ;", "category T 0"),
-        ("A. S ::= S ; B. S ::= T ;", "category T 1"),
-        ("A. S ::= S ; B. S ::= Ident ;", "unbuilt 1"),
-        ("A. S ::= S ; entrypoints T ;", "category T 1"),
-        ("A. T ::= S ; B. S ::= S ;", "cyclic S"),
-        ("A. T ::= S T ; B. S ::= S ; C. S ::= ;", "cyclic T"),
-    ];
-    for (file, want) in cases {
+    for (file, want) in TWO_FAULTS {
         let told = answer(rt.alloc(), file.as_bytes())?;
-        assert_eq!(rt; told.as_str(), want, "at {file}");
+        assert_eq!(rt; told.as_str(), *want, "at {file}");
     }
     Ok(())
 }

@@ -1,6 +1,6 @@
 use Rattle.std.proofs.Common.{◌≡◌, map, take}
 use Rattle.spec_lbnf.specs.declared.definition.RawItem.TheVariants.{Word}
-use Rattle.lbnf_grammar.proofs.words.words.Given as goal
+use Rattle.lbnf_text.proofs.texts.words.Given as goal
 
 -- the items are the parts so far
 abbrev pub invariant-loop-part : goal.invariant-loop-part

@@ -2,7 +2,7 @@ use Rattle.std.proofs.Common.{not, lit<, rules, tests}
 use Rattle.std.proofs.lemmas.Iterator.Consumers.{map_from_collect, YieldsList-from_filter}
 use Rattle.std.proofs.lemmas.Iterator.Splits.{YieldsList-from_str_split}
 use Rattle.spec_lbnf.specs.Words.{is_empty}
-use Rattle.lbnf_grammar.proofs.words.word_parts.Goals as goal
+use Rattle.lbnf_text.proofs.texts.word_parts.Goals as goal
 
 pub returns : goal.returns
 returns c =

@@ -1,4 +1,4 @@
-//! The words of a string, as items.
+//! Copies of names, and the words of strings.
 ghost use Rattle.std.specs.Prelude.{◌≡◌, map, not, IfOk};
 ghost use Rattle.spec_lbnf.specs.Words.{is_empty, words_in};
 ghost use Rattle.spec_lbnf.specs.Expansion.{word_items};
@@ -8,6 +8,14 @@ use spec_lbnf::RawItem;
 use spec_text::Name;
 use sqlite_items::Items;
 use std::alloc::{AllocError, Global};
+
+/// The name of the same bytes, which are copied.
+pub fn copy_name(alloc: Global, name: &Name) -> Result<Name, AllocError>
+    ensures { IfOk result (λ copy. copy ≡ name.now) }
+{
+    let bytes = Vec::from_slice(alloc, name.as_slice())?;
+    Ok(Name::of(bytes))
+}
 
 fn has_bytes(part: &str) -> bool
     ensures { result ≡ not (is_empty part.now) }
@@ -24,7 +32,7 @@ fn word_parts(alloc: Global, text: &str) -> Result<Vec<&str>, AllocError>
         .collect(alloc)
 }
 
-/// A word, as an item.
+/// A word, as an item. Its bytes are copied.
 pub fn word_item(alloc: Global, word: &str) -> Result<RawItem, AllocError>
     ensures { IfOk result (λ item. item ≡ Word word.now) }
 {
@@ -32,7 +40,8 @@ pub fn word_item(alloc: Global, word: &str) -> Result<RawItem, AllocError>
     Ok(RawItem::Word(Name::of(bytes)))
 }
 
-/// The words of a string, as items.
+/// The words of a string, as items: it is cut at its spaces, and empty words vanish, as in a right
+/// side of the BNF Converter's notation. Their bytes are copied.
 pub fn words(alloc: Global, text: &Name) -> Result<Items<RawItem>, AllocError>
     ensures { IfOk result (λ items. items ≡ word_items text.now) }
 {

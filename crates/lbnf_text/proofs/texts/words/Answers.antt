@@ -2,8 +2,8 @@ use Rattle.std.proofs.Common.{◌≡◌, List, ℕ, Bor, map, ap, ◌∙◌, rul
 use Rattle.std.proofs.lemmas.List.{take_all}
 use Rattle.spec_lbnf.specs.declared.definition.RawItem.TheVariants.{Word}
 use Rattle.spec_lbnf.specs.Words.{words_in}
-use Rattle.lbnf_grammar.proofs.TextLemmas.{words_of_parts}
-use Rattle.lbnf_grammar.proofs.words.words.Goals as goal
+use Rattle.lbnf_text.proofs.WordLemmas.{words_of_parts}
+use Rattle.lbnf_text.proofs.texts.words.Goals as goal
 
 pub returns : goal.returns
 returns c =
