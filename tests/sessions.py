@@ -11,6 +11,8 @@ import pathlib
 import subprocess
 import sys
 
+import grammar_files
+
 # The beginning that most cases share, and the offsets that their breaks name:
 #   0 `script 1`   9 `grammar 33`   20 the block   53 its LF   54 `open 3`   61 the block   65 the first question
 G = b'Cat. S ::= S S ; One. S ::= "a" ;'
@@ -569,6 +571,17 @@ case('refused: the input ends behind the grammar', with_grammar(b'A. S ::= s ;',
 case('refused: the input ends behind a cyclic grammar', with_grammar(b'A. S ::= S ;', b''), cyclic(b'S'), 2)
 case('refused: a break behind a cyclic grammar has no effect', with_grammar(b'A. S ::= S ;', b'hass S\n'), cyclic(b'S'), 2)
 case('refused: a break behind the grammar has no effect', with_grammar(b'A. S ::= S T ;', b'hass S\n'), unknown(b'T', 0), 2)
+
+# ---- Grammar files by their lines, and questions on some of them.
+
+for file, line in grammar_files.ROWS:
+    refuses = line.startswith(b'refused')
+    case('the file ' + repr(file[:60]), with_grammar(file, b'open 0\n\nend\n'),
+         b'grammar ' + line + (b'\n' if refuses else b'\nversion 0 tokens 0\nend\n'), 2 if refuses else 0)
+
+for file, line, text, tokens, questions, answers in grammar_files.ASKED:
+    case('asked: ' + repr(file[:60]), with_grammar(file, open_text(text) + b'\n'.join(questions + [END])),
+         b'grammar ' + line + b'\n' + version(tokens) + b'\n'.join(answers + [END]), 0)
 
 
 def run(command):
