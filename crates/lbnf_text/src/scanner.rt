@@ -23,6 +23,12 @@ const MAX_NAME: usize = 64;
 /// The most digits of a number.
 const MAX_DIGITS: usize = 4;
 
+/// What opens a block comment.
+const OPENING: &str = "{-";
+
+/// What closes a block comment.
+const CLOSING: &str = "-}";
+
 /// The tokens of a file, and the place up to which they reach: the end of the file, or the first
 /// byte at which no token begins.
 #[derive(Debug, Drop)]
@@ -56,7 +62,7 @@ fn behind_line(text: &str) -> &str
 fn behind_closing(text: &str) -> Option<&str>
     ensures { option_map (λ x. x.now) result ≡ behind_closing text.now }
 {
-    let (_block, rest) = text.split_once("-}")?;
+    let (_block, rest) = text.split_once(CLOSING)?;
     Some(rest)
 }
 
@@ -90,7 +96,7 @@ fn behind_space(text: &str) -> Option<&str>
     if let Some(line) = text.strip_prefix("--") {
         return Some(behind_line(line));
     }
-    if let Some(comment) = text.strip_prefix("{-") {
+    if let Some(comment) = text.strip_prefix(OPENING) {
         return behind_closing(comment);
     }
     behind_white(text)
