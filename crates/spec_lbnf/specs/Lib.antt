@@ -14,3 +14,4 @@ pub mod FileLaws
 pub mod ScanExamples
 pub mod ReadingLaws
 pub mod ReadingExamples
+pub mod ExpansionExamples
