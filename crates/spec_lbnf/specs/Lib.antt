@@ -15,3 +15,4 @@ pub mod ScanExamples
 pub mod ReadingLaws
 pub mod ReadingExamples
 pub mod ExpansionExamples
+pub mod CheckExamples
