@@ -8,7 +8,7 @@ use Rattle.std.proofs.lemmas.List.Elements.{All-nil, All-from_recursion}
 use Rattle.std.proofs.lemmas.List.FromFn.{length-map-range_with_len}
 use Rattle.std.proofs.lemmas.Option.{same_Some}
 use Rattle.spec_grammar.specs.declared.rule.Label.{Label}
-use Rattle.spec_grammar.specs.declared.rule.Label.TheVariants.{Named, Wild}
+use Rattle.spec_grammar.specs.declared.rule.Label.TheVariants.{Named, Wild, Nil, Cons, One}
 use Rattle.spec_grammar.specs.declared.rule.Symbol.{Symbol}
 use Rattle.spec_grammar.specs.declared.rule.Symbol.TheVariants.{Category, Kind}
 use Rattle.spec_grammar.specs.declared.rule.Rule.{Rule as NumberedRule}
@@ -16,19 +16,33 @@ use Rattle.spec_grammar.specs.Derivation.{IsNullable}
 use Rattle.spec_grammar.specs.Cycles.{StepsTo, Leads}
 use Rattle.spec_lbnf.specs.declared.definition.RawItem.{RawItem}
 use Rattle.spec_lbnf.specs.declared.definition.RawItem.TheVariants.{Word}
+use Rattle.spec_lbnf.specs.declared.definition.RawRule.{RawRule}
 use Rattle.spec_lbnf.specs.declared.definition.Def.{Def}
 use Rattle.spec_lbnf.specs.declared.definition.Def.TheVariants.{Rule, Coercions}
 use Rattle.spec_lbnf.specs.Expansion.{level_rule, bracket_rule, rules_of, expansion_of}
-use Rattle.spec_lbnf.specs.Checks.{IsBadCoercion, IsWellLabelled, predefined_names, IsFree, IsKnown, NamesKnown}
-use Rattle.spec_lbnf.specs.Checks.{IsFirstBad, IsFirstUnknown, IsFirstRepeated, HasOwnNames, AreAllKnown, IsFirstCyclic, unknown_fault}
-use Rattle.spec_lbnf.specs.Checks.{Unfitness, IsUnfit, AreFit, bad_coercion, too_many_rules, repeated_token, unknown_category, unbuilt_name, cyclic_category}
+use Rattle.spec_lbnf.specs.Checks.{IsBadCoercion, IsBadList, IsWellLabelled, predefined_names, IsFree, IsKnown, NamesKnown}
+use Rattle.spec_lbnf.specs.Checks.{IsFirstBad, IsFirstUnknown, IsFirstRepeated, HasOwnNames, IsFirstCyclic, unknown_fault}
+use Rattle.spec_lbnf.specs.Checks.{Unfitness, IsUnfit, AreFit, bad_coercion, bad_list, too_many_rules, repeated_token, unknown_category, unbuilt_name, cyclic_category}
 use Rattle.spec_lbnf.specs.ExpansionExamples.{rule, category}
-use Rattle.spec_lbnf.specs.CheckExamples.{word_rule, passing_rule, double_rule, named_list, internal_rule, SmallChecks}
+use Rattle.spec_lbnf.specs.CheckExamples.{word_rule, passing_rule, element, double_rule, named_list, internal_rule, SmallChecks}
 use Rattle.spec_lbnf.proofs.NameLemmas.{found_there, there_found}
 
 -- a name that the test does not find is not in the list
 not_there : (names : List (List ℕ)) (name : List ℕ) → list_any (bytes_eq name) names ≡ false → Contains names name → ⊥
 not_there names name none there = false≢true (sym none ∙ there_found names name there)
+
+-- a name that the test does not find among the predefined ones is free
+free : (name : List ℕ) → list_any (bytes_eq name) predefined_names ≡ false → IsFree name
+free name none = not_there predefined_names name none
+
+module _ {X : Type 0} (P : X → Type 0) where
+  -- each element of a list of one
+  all_one : (x : X) → P x → All P (x ∷ [])
+  all_one x p = All-from_recursion P (x ∷ []) (p, tt)
+
+  -- each element of a list of two
+  all_two : (x y : X) → P x → P y → All P (x ∷ y ∷ [])
+  all_two x y p q = All-from_recursion P (x ∷ y ∷ []) (p, (q, tt))
 
 -- what holds of the first definition holds of each before the second
 first_alone : (P : Def → Type 0) (first : Def) (defs : List Def) → P first
@@ -40,6 +54,10 @@ first_alone P first defs holds (suc k) other less is = absurd (omega arith)
 named_label : (label name : List ℕ) (items : List RawItem) → IsWellLabelled (Rule (rule (Named label) 0 name items))
 named_label label name items = ((λ bad. cc (bad.0)), (λ bad. omega (arith, bad)))
 
+-- as that of one word is
+word_label : IsWellLabelled word_rule
+word_label = named_label (codes "A") (codes "S") (Word (codes "a") ∷ [])
+
 -- and so is a rule without a label of its own that has one category
 passing_label : (name other : List ℕ) → IsWellLabelled (passing_rule name other)
 passing_label name other = ((λ bad. bad.1 refl), (λ bad. omega (arith, bad.0)))
@@ -49,7 +67,8 @@ levels_label : (name : List ℕ) (levels : ℕ) → 0 < levels → IsWellLabelle
 levels_label name levels some = ((λ bad. omega (arith, some, bad)), (λ bad. bad))
 
 -- the second definition is the first bad coercion
-second_coercion : (first second : Def) → IsWellLabelled first → IsBadCoercion second → IsUnfit (first ∷ second ∷ []) (bad_coercion 1)
+second_coercion : (first second : Def) → IsWellLabelled first → IsBadCoercion second
+    → IsUnfit (first ∷ second ∷ []) (bad_coercion 1)
 second_coercion first second good bad =
     let is_first : IsFirstBad IsBadCoercion (first ∷ second ∷ []) 1 = record {
       def = second;
@@ -59,17 +78,30 @@ second_coercion first second good bad =
     } in
     inl (1, inl (is_first, refl))
 
+-- the first definition is a bad list
+first_list : (first : Def) (defs : List Def) → IsBadList first → IsUnfit (first ∷ defs) (bad_list 0)
+first_list first defs bad =
+    let is_first : IsFirstBad IsBadList (first ∷ defs) 0 = record {
+      def = first;
+      is_def = refl;
+      bad = bad;
+      earlier = λ k other less. absurd (omega arith);
+    } in
+    inl (0, inr (is_first, refl))
+
 -- coercions give a rule for each level, and one for the brackets
 coercions_count : (name : List ℕ) (levels : ℕ) → length (rules_of (Coercions name levels ∷ [])) ≡ levels + 1
 coercions_count name levels =
-    rw (append-nil (map (level_rule name) (range_with_len 0 levels) ++ bracket_rule name levels ∷ []), length-append, length-map-range_with_len) refl
+    let steps : List RawRule = map (level_rule name) (range_with_len 0 levels) in
+    rw (append-nil (steps ++ bracket_rule name levels ∷ []), length-append, length-map-range_with_len) refl
 
 -- 1,024 levels are too many
-many_levels : (name : List ℕ) (levels : ℕ) → levels ≡ 1024 → IsUnfit (Coercions name levels ∷ []) (too_many_rules (levels + 1))
+many_levels : (name : List ℕ) (levels : ℕ) → levels ≡ 1024
+    → IsUnfit (Coercions name levels ∷ []) (too_many_rules (levels + 1))
 many_levels name levels are =
-    let labelled : IsWellLabelled (Coercions name levels) = levels_label name levels (omega arith) in
+    let labelled = all_one IsWellLabelled (Coercions name levels) (levels_label name levels (omega arith)) in
     let count = coercions_count name levels in
-    inr (All-from_recursion IsWellLabelled (Coercions name levels ∷ []) (labelled, tt), inl (omega (arith, are, count), ap too_many_rules (sym count)))
+    inr (labelled, inl (omega (arith, are, count), ap too_many_rules (sym count)))
 
 -- a predefined name with a rule
 own_name : IsUnfit (passing_rule (codes "Integer") (codes "T") ∷ []) (repeated_token (codes "Integer"))
@@ -83,7 +115,8 @@ own_name =
       bad = found_there predefined_names name refl;
       good = All-nil IsFree;
     } in
-    inr (All-from_recursion IsWellLabelled defs (passing_label name (codes "T"), tt), inr (omega arith, inl (name, first, refl)))
+    let labelled = all_one IsWellLabelled (passing_rule name (codes "T")) (passing_label name (codes "T")) in
+    inr (labelled, inr (omega arith, inl (name, first, refl)))
 
 -- a rule of S, and behind it one for S whose one item is another category
 module _ (label : Label) (items : List RawItem) (name : List ℕ) (other : bytes_eq name (codes "S") ≡ false) where
@@ -95,8 +128,8 @@ module _ (label : Label) (items : List RawItem) (name : List ℕ) (other : bytes
 
   two_free : HasOwnNames two_rules
   two_free =
-      let free : IsFree (codes "S") = not_there predefined_names (codes "S") refl in
-      All-from_recursion IsFree (codes "S" ∷ codes "S" ∷ []) (free, (free, tt))
+      let own : IsFree (codes "S") = free (codes "S") refl in
+      all_two IsFree (codes "S") (codes "S") own own
 
   second_unknown : NamesKnown two_rules first_rule → IsFirstUnknown two_rules name 1
   second_unknown known = record {
@@ -113,9 +146,11 @@ module _ (label : Label) (items : List RawItem) (name : List ℕ) (other : bytes
   }
 
   -- where the first rule is good, the category is the first unknown one
-  no_rule : (fault : Unfitness) → IsWellLabelled first_rule → NamesKnown two_rules first_rule → fault ≡ unknown_fault name 1 → IsUnfit two_rules fault
+  no_rule : (fault : Unfitness) → IsWellLabelled first_rule → NamesKnown two_rules first_rule
+      → fault ≡ unknown_fault name 1 → IsUnfit two_rules fault
   no_rule fault good known is =
-      let labelled : All IsWellLabelled two_rules = All-from_recursion IsWellLabelled two_rules (good, (passing_label (codes "S") name, tt)) in
+      let second : IsWellLabelled (passing_rule (codes "S") name) = passing_label (codes "S") name in
+      let labelled = all_two IsWellLabelled first_rule (passing_rule (codes "S") name) good second in
       inr (labelled, inr (omega arith, inr (two_free, inl (name, 1, second_unknown known, is))))
 
 -- the one item of a right side is its item
@@ -136,10 +171,10 @@ word_stands (suc r) a b numbered before behind is items = absurd (cc)
 -- so it is fit
 word : AreFit (word_rule ∷ [])
 word = record {
-  labelled = All-from_recursion IsWellLabelled (word_rule ∷ []) (named_label (codes "A") (codes "S") (Word (codes "a") ∷ []), tt);
+  labelled = all_one IsWellLabelled word_rule word_label;
   few = omega arith;
-  own_names = All-from_recursion IsFree (codes "S" ∷ []) (not_there predefined_names (codes "S") refl, tt);
-  known = All-from_recursion (NamesKnown (word_rule ∷ [])) (word_rule ∷ []) (All-nil (IsKnown (word_rule ∷ [])), tt);
+  own_names = all_one IsFree (codes "S") (free (codes "S") refl);
+  known = all_one (NamesKnown (word_rule ∷ [])) word_rule (All-nil (IsKnown (word_rule ∷ [])));
   acyclic = λ c cyclic.
       let step = (cyclic.1).1 in
       word_stands step.r c (cyclic.1).0 step.rule step.before step.behind step.is_rule step.is_item;
@@ -171,13 +206,15 @@ internal_steps (suc r) b numbered before behind is items = absurd (cc)
 -- so the definitions are fit
 internal : AreFit with_internal
 internal = record {
-  labelled = All-from_recursion IsWellLabelled with_internal
-      (named_label (codes "B") (codes "U") (category (codes "T") ∷ []), (passing_label (codes "S") (codes "U"), tt));
+  labelled =
+      let hidden = named_label (codes "B") (codes "U") (category (codes "T") ∷ []) in
+      all_two IsWellLabelled internal_rule (passing_rule (codes "S") (codes "U")) hidden (passing_label (codes "S") (codes "U"));
   few = omega arith;
-  own_names = All-from_recursion IsFree (codes "U" ∷ codes "S" ∷ [])
-      (not_there predefined_names (codes "U") refl, (not_there predefined_names (codes "S") refl, tt));
-  known = All-from_recursion (NamesKnown with_internal) with_internal
-      (All-nil (IsKnown with_internal), (All-from_recursion (IsKnown with_internal) (codes "U" ∷ []) (found_there (codes "U" ∷ codes "S" ∷ []) (codes "U") refl, tt), tt));
+  own_names = all_two IsFree (codes "U") (codes "S") (free (codes "U") refl) (free (codes "S") refl);
+  known =
+      let there : IsKnown with_internal (codes "U") = found_there (codes "U" ∷ codes "S" ∷ []) (codes "U") refl in
+      all_two (NamesKnown with_internal) internal_rule (passing_rule (codes "S") (codes "U"))
+      (All-nil (IsKnown with_internal)) (all_one (IsKnown with_internal) (codes "U") there);
   acyclic = λ c cyclic.
       let first = (cyclic.1).1 in
       let start = internal_steps first.r (cyclic.1).0 first.rule first.before first.behind first.is_rule first.is_item in
@@ -230,47 +267,47 @@ first_cycle = record {
 -- the other checks are passed
 cycle : IsUnfit with_cycle (cyclic_category (codes "S"))
 cycle =
-    let first_free : IsFree (codes "R") = not_there predefined_names (codes "R") refl in
-    let second_free : IsFree (codes "S") = not_there predefined_names (codes "S") refl in
-    let there : All (IsKnown with_cycle) (codes "S" ∷ []) = All-from_recursion (IsKnown with_cycle) (codes "S" ∷ []) (found_there (codes "R" ∷ codes "S" ∷ []) (codes "S") refl, tt) in
-    let labelled : All IsWellLabelled with_cycle = All-from_recursion IsWellLabelled with_cycle (passing_label (codes "R") (codes "S"), (passing_label (codes "S") (codes "S"), tt)) in
-    let own_names : HasOwnNames with_cycle = All-from_recursion IsFree (codes "R" ∷ codes "S" ∷ []) (first_free, (second_free, tt)) in
-    let known : AreAllKnown with_cycle = All-from_recursion (NamesKnown with_cycle) with_cycle (there, (there, tt)) in
+    let first : Def = passing_rule (codes "R") (codes "S") in
+    let second : Def = passing_rule (codes "S") (codes "S") in
+    let is_there : IsKnown with_cycle (codes "S") = found_there (codes "R" ∷ codes "S" ∷ []) (codes "S") refl in
+    let there = all_one (IsKnown with_cycle) (codes "S") is_there in
+    let labelled = all_two IsWellLabelled first second (passing_label (codes "R") (codes "S")) (passing_label (codes "S") (codes "S")) in
+    let own_names = all_two IsFree (codes "R") (codes "S") (free (codes "R") refl) (free (codes "S") refl) in
+    let known = all_two (NamesKnown with_cycle) first second there there in
     inr (labelled, inr (omega arith, inr (own_names, inr (known, (codes "S", first_cycle, refl)))))
 
 -- a word, and a category that no rule has, behind it
 behind_word : (name : List ℕ) (fault : Unfitness) → bytes_eq name (codes "S") ≡ false → fault ≡ unknown_fault name 1
     → IsUnfit (word_rule ∷ passing_rule (codes "S") name ∷ []) fault
 behind_word name fault other is =
-    let items : List RawItem = Word (codes "a") ∷ [] in
-    no_rule (Named (codes "A")) items name other fault (named_label (codes "A") (codes "S") items) (All-nil (IsKnown (word_rule ∷ passing_rule (codes "S") name ∷ []))) is
+    let none = All-nil (IsKnown (word_rule ∷ passing_rule (codes "S") name ∷ [])) in
+    no_rule (Named (codes "A")) (Word (codes "a") ∷ []) name other fault word_label none is
 
 -- a cycle, and such a category behind it
-behind_cycle : IsUnfit (passing_rule (codes "S") (codes "S") ∷ passing_rule (codes "S") (codes "T") ∷ []) (unknown_category (codes "T") 1)
+behind_cycle :
+    IsUnfit (passing_rule (codes "S") (codes "S") ∷ passing_rule (codes "S") (codes "T") ∷ []) (unknown_category (codes "T") 1)
 behind_cycle =
     let defs : List Def = passing_rule (codes "S") (codes "S") ∷ passing_rule (codes "S") (codes "T") ∷ [] in
-    let there : All (IsKnown defs) (codes "S" ∷ []) = All-from_recursion (IsKnown defs) (codes "S" ∷ []) (found_there (codes "S" ∷ codes "S" ∷ []) (codes "S") refl, tt) in
-    no_rule Wild (category (codes "S") ∷ []) (codes "T") refl (unknown_category (codes "T") 1) (passing_label (codes "S") (codes "S")) there refl
+    let is_there : IsKnown defs (codes "S") = found_there (codes "S" ∷ codes "S" ∷ []) (codes "S") refl in
+    let good = passing_label (codes "S") (codes "S") in
+    no_rule Wild (element ∷ []) (codes "T") refl (unknown_category (codes "T") 1) good (all_one (IsKnown defs) (codes "S") is_there) refl
 
 pub small_checks : SmallChecks
 small_checks = record {
   word = word;
   internal = internal;
-  two_items = second_coercion word_rule double_rule (named_label (codes "A") (codes "S") (Word (codes "a") ∷ [])) (refl, λ one. omega (arith, one));
-  named_list = inl (
-    0,
-    inr (
-      record {
-        def = named_list;
-        is_def = refl;
-        bad = omega arith;
-        earlier = λ k other less. absurd (omega arith);
-      },
-      refl,
-    ),
-  );
+  two_items = second_coercion word_rule double_rule word_label (refl, λ one. omega (arith, one));
+  named_list = first_list named_list (Coercions (codes "E") 0 ∷ []) (omega arith);
+  nil_of_no_list = first_list (Rule (rule Nil 0 (codes "S") [])) [] (inl (λ is_list. omega (arith, is_list)));
+  one_of_no_item = first_list (Rule (rule One 1 (codes "S") [])) [] (inr (λ one. omega (arith, one)));
+  cons_of_no_list =
+      first_list (Rule (rule Cons 1 (codes "S") (element ∷ element ∷ []))) [] (inr (λ is_list. omega (arith, is_list)));
+  list_of_no_list =
+      first_list (Rule (rule Wild 1 (codes "S") (element ∷ []))) [] (omega arith, λ is_list. omega (arith, is_list));
   many_rules = many_levels (codes "E") 1024 refl;
-  no_level = second_coercion (Coercions (codes "E") 1024) (Coercions (codes "E") 0) (levels_label (codes "E") 1024 (omega arith)) refl;
+  no_level =
+      let good = levels_label (codes "E") 1024 (omega arith) in
+      second_coercion (Coercions (codes "E") 1024) (Coercions (codes "E") 0) good refl;
   own_name = own_name;
   no_rule = behind_word (codes "T") (unknown_category (codes "T") 1) refl refl;
   predefined = behind_word (codes "Char") (unbuilt_name 1) refl refl;

@@ -1,6 +1,7 @@
 -- Small definitions that are fit, and small ones that are unfit, for each reason, by hand.
 use Rattle.std.specs.Prelude.{ℕ, List, [], ◌∷◌, codes}
-use Rattle.spec_grammar.specs.declared.rule.Label.TheVariants.{Named, Wild}
+use Rattle.spec_grammar.specs.declared.rule.Label.TheVariants.{Named, Wild, Nil, Cons, One}
+use Rattle.spec_lbnf.specs.declared.definition.RawItem.{RawItem}
 use Rattle.spec_lbnf.specs.declared.definition.RawItem.TheVariants.{Word}
 use Rattle.spec_lbnf.specs.declared.definition.Def.{Def}
 use Rattle.spec_lbnf.specs.declared.definition.Def.TheVariants.{Rule, Internal, Coercions}
@@ -16,9 +17,13 @@ word_rule = Rule (rule (Named (codes "A")) 0 (codes "S") (Word (codes "a") ∷ [
 abbrev pub passing_rule : (name other : List ℕ) → Def
 passing_rule name other = Rule (rule Wild 0 name (category other ∷ []))
 
+-- the category S, as an item
+abbrev pub element : RawItem
+element = category (codes "S")
+
 -- the rule _ . S ::= S S
 abbrev pub double_rule : Def
-double_rule = Rule (rule Wild 0 (codes "S") (category (codes "S") ∷ category (codes "S") ∷ []))
+double_rule = Rule (rule Wild 0 (codes "S") (element ∷ element ∷ []))
 
 -- the rule A . [S] ::=
 abbrev pub named_list : Def
@@ -38,6 +43,13 @@ pub record SmallChecks : Type 0 where
   pub two_items : IsUnfit (word_rule ∷ double_rule ∷ []) (bad_coercion 1)
   -- a rule for lists has no name as its label; the coercions of no level stand behind it
   pub named_list : IsUnfit (named_list ∷ Coercions (codes "E") 0 ∷ []) (bad_list 0)
+  -- [] . S ::=, and (:[]) . [S] ::=, and (:) . [S] ::= S S, and _ . [S] ::= S
+  pub nil_of_no_list : IsUnfit (Rule (rule Nil 0 (codes "S") []) ∷ []) (bad_list 0)
+  pub one_of_no_item : IsUnfit (Rule (rule One 1 (codes "S") []) ∷ []) (bad_list 0)
+  pub cons_of_no_list :
+      IsUnfit (Rule (rule Cons 1 (codes "S") (element ∷ element ∷ [])) ∷ []) (bad_list 0)
+  pub list_of_no_list :
+      IsUnfit (Rule (rule Wild 1 (codes "S") (element ∷ [])) ∷ []) (bad_list 0)
   -- each of 1,024 levels gives a rule, and the brackets are one more
   pub many_rules : IsUnfit (Coercions (codes "E") 1024 ∷ []) (too_many_rules 1025)
   -- labels come before the number of rules
