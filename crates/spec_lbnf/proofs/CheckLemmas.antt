@@ -1,18 +1,17 @@
 -- Definitions are fit, or unfit for one reason.
 use Rattle.std.proofs.Common.{◌≡◌, ℕ, ◌<◌, ◌⊎◌, List, [], ◌∷◌, ◌++◌, length, All, Contains, Some, slice_get, refl, sym, ap, subst, ◌∙◌, inl, inr, arith}
-use Rattle.std.specs.Prelude.{flat_map}
 use Rattle.std.specs.List.{AllByRecursion}
 use Rattle.std.proofs.lemmas.List.Elements.{All-contains, Contains-append_right, Contains-get_or, recursion_from_All}
 use Rattle.std.proofs.lemmas.Option.{slice_get_within, get_or_from_slice_get, same_Some}
-use Rattle.spec_grammar.specs.declared.rule.Label.TheVariants.{Named, Wild, Nil, Cons, One}
+use Rattle.spec_grammar.specs.declared.rule.Label.TheVariants.{Wild}
 use Rattle.spec_lbnf.specs.declared.definition.CatName.{CatName}
 use Rattle.spec_lbnf.specs.declared.definition.RawRule.{RawRule}
 use Rattle.spec_lbnf.specs.declared.definition.Def.{Def}
 use Rattle.spec_lbnf.specs.declared.definition.Def.TheVariants.{Rule as RuleDef, Internal, Terminator, Separator, Coercions, Entry}
-use Rattle.spec_lbnf.specs.Expansion.{rules_of, expansion_of}
+use Rattle.spec_lbnf.specs.Expansion.{expansion_of}
 use Rattle.spec_lbnf.specs.Checks.{IsFirstName, IsPredefined, IsFree, IsUnknown, IsKnown, NamesKnown, IsFirstUnknown, named_categories, AreAllKnown}
 use Rattle.spec_lbnf.specs.Checks.{categories_in, IsBadWild, IsBadCoercion, IsOneElement, IsBadLabel, IsBadListRule, IsBadList, IsWellLabelled, IsFirstBad}
-use Rattle.spec_lbnf.specs.Checks.{HasFewRules, HasOwnNames, AreFit, IsUnfit, AtLabels, AtCount, AtOwnName, AtUnknown, AtCycle, unknown_fault}
+use Rattle.spec_lbnf.specs.Checks.{HasFewRules, HasOwnNames, AtLabels, AtCount, AtOwnName, AtUnknown, AtCycle, unknown_fault}
 use Rattle.spec_lbnf.specs.Checks.{Unfitness, bad_coercion, bad_list, repeated_token, cyclic_category}
 use Rattle.spec_lbnf.specs.Laws.{FitOrUnfit, OneUnfitness}
 use Rattle.spec_lbnf.proofs.CycleLemmas.{three_ways, acyclic_or_cyclic, one_cyclic}

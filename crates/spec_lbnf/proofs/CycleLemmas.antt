@@ -1,8 +1,6 @@
 -- A grammar is without a cycle, or has one first cyclic category.
-use Rattle.std.proofs.Common.{◌≡◌, ℕ, ◌<◌, ◌⊎◌, List, Some, slice_get, sym, ap, ◌∙◌, inl, inr, arith}
+use Rattle.std.proofs.Common.{◌≡◌, ℕ, ◌<◌, ◌⊎◌, Some, slice_get, sym, ap, ◌∙◌, inl, inr, arith}
 use Rattle.std.proofs.lemmas.Option.{same_Some}
-use Rattle.spec_lbnf.specs.Expansion.{Expansion}
-use Rattle.spec_lbnf.specs.Checks.{IsFirstCyclic}
 use Rattle.spec_lbnf.specs.Laws.{AcyclicOrCyclic, OneCyclic}
 
 -- a number is below another, the same, or above it

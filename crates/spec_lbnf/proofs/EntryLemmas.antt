@@ -1,15 +1,14 @@
 -- Where all categories are known, the entry is one of the grammar's categories.
-use Rattle.std.proofs.Common.{◌≡◌, ℕ, ◌<◌, ◌⊎◌, List, [], ◌∷◌, ◌++◌, length, map, Some, None, Option, Contains, All, slice_get, refl, sym, subst, ap, inl, inr, arith}
+use Rattle.std.proofs.Common.{◌≡◌, ℕ, ◌<◌, ◌⊎◌, List, [], ◌∷◌, ◌++◌, length, map, Some, None, Option, Contains, refl, inl, inr, arith}
 use Rattle.std.specs.List.{flat_map, AllByRecursion}
 use Rattle.std.specs.Option.{option_map, option_or, IfSome}
 use Rattle.std.proofs.lemmas.Grind.{flat_map-append}
 use Rattle.std.proofs.lemmas.List.Elements.{Contains-append_left, Contains-append_right, Contains-append_cases, Contains-get_or, recursion_from_All}
-use Rattle.spec_lbnf.specs.declared.definition.CatName.{CatName}
 use Rattle.spec_lbnf.specs.declared.definition.RawRule.{RawRule}
 use Rattle.spec_lbnf.specs.declared.definition.Def.{Def}
 use Rattle.spec_lbnf.specs.declared.definition.Def.TheVariants.{Rule as RuleDef, Internal, Terminator, Separator, Coercions, Entry}
-use Rattle.spec_lbnf.specs.Expansion.{IsSymbolOf, category_text, rules_of, rules_of_def, internal_category, met_categories, item_categories, categories_of, number_of, expansion_of, first_entry, first_category, entry_text, category_symbol}
-use Rattle.spec_lbnf.specs.Checks.{IsKnown, NamesKnown, AreAllKnown, own_categories}
+use Rattle.spec_lbnf.specs.Expansion.{IsSymbolOf, category_text, rules_of, rules_of_def, internal_category, met_categories, item_categories, categories_of, number_of, expansion_of, first_entry, first_category, category_symbol}
+use Rattle.spec_lbnf.specs.Checks.{IsKnown, NamesKnown, own_categories}
 use Rattle.spec_lbnf.specs.Laws.{OwnEntry}
 use Rattle.spec_lbnf.proofs.SymbolLemmas.{category_names, distinct_number}
 

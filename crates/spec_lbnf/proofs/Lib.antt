@@ -3,6 +3,7 @@ pub mod RunLemmas
 pub mod CheckLemmas
 pub mod CycleLemmas
 pub mod NameLemmas
+pub mod CheckExamples
 pub mod SymbolLemmas
 pub mod EntryLemmas
 pub mod BoundaryLemmas

@@ -15,12 +15,12 @@ same_name : (x y : List ℕ) → bytes_eq x y ≡ true → x ≡ y
 same_name x y e = (bytes_eq-Decides x y).0 e
 
 -- a name that the test finds is in the list
-found_there : (names : List (List ℕ)) (name : List ℕ) → list_any (bytes_eq name) names ≡ true
+pub found_there : (names : List (List ℕ)) (name : List ℕ) → list_any (bytes_eq name) names ≡ true
     → Contains names name
 found_there names name h = Contains-from_any {eq = bytes_eq} same_name name names h
 
 -- a name in the list is found by the test
-there_found : (names : List (List ℕ)) (name : List ℕ) → Contains names name
+pub there_found : (names : List (List ℕ)) (name : List ℕ) → Contains names name
     → list_any (bytes_eq name) names ≡ true
 there_found names name there = list_any-from_Contains nat_list_eq_equiv name names there
 

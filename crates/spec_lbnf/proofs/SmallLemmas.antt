@@ -18,7 +18,7 @@ use Rattle.spec_lbnf.specs.Expansion.{category_text}
 use Rattle.spec_lbnf.specs.Words.{is_empty, words_in}
 use Rattle.spec_lbnf.specs.GrammarFile.{IsCategory, category_tokens, label_tokens, WrittenItem, category, string, IsWritten, written_tokens, written_items, SpellsRule, entry_tokens, nonempty_tokens, keyword, SpellsDef, is_semicolon, pieces_of, AreSpelledBy}
 use Rattle.spec_lbnf.specs.Faults.{bare, EndsOpen, Spells}
-use Rattle.spec_lbnf.specs.Limits.{IsShallow, IsSmallItem, IsSmall, size_of, AreWithinLimits}
+use Rattle.spec_lbnf.specs.Limits.{IsShallow, IsSmallItem, IsSmall}
 use Rattle.spec_lbnf.specs.ReadingLaws.{DefsWithinLimits}
 use Rattle.spec_lbnf.proofs.DefSizeLemmas.{two_bytes_for_each}
 use Rattle.spec_lbnf.proofs.TokenTestLemmas.{name_has_byte}

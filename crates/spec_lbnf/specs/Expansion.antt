@@ -1,10 +1,8 @@
 -- The grammar that definitions stand for: its rules in file order, and the numbers of its
 -- categories and kinds.
 use Rattle.std.specs.Prelude.{◌≡◌, ℕ, ◌+◌, ◌<◌, List, [], ◌∷◌, ◌++◌, length, map, filter, flat_map}
-use Rattle.std.specs.Prelude.{All}
-use Rattle.std.specs.Prelude.{not, replicate, bytes_eq, Some, slice_get, zero, codes, Bool, true}
-use Rattle.std.specs.Prelude.{false}
-use Rattle.std.specs.Prelude.{cond, Option, None}
+use Rattle.std.specs.Prelude.{All, not, replicate, bytes_eq, slice_get, zero, codes, Bool, cond}
+use Rattle.std.specs.Prelude.{Option, Some, None}
 use Rattle.std.specs.Option.{option_map, option_or}
 use Rattle.std.specs.Fmt.{decimal}
 use Rattle.std.specs.List.{position_or_len, sum_by, range_with_len}

@@ -1,8 +1,7 @@
 -- Reading the tokens of a definition from left to right. Serves the proofs alone: what tokens spell
 -- is said in GrammarFile.
-use Rattle.std.specs.Prelude.{◌≡◌, ℕ, zero, suc, ◌+◌, List, [], ◌∷◌, ◌++◌, length, drop, codes}
-use Rattle.std.specs.Prelude.{Bool}
-use Rattle.std.specs.Prelude.{true, false, cond, nat_le, bytes_eq, map, Option, Some, None}
+use Rattle.std.specs.Prelude.{ℕ, zero, suc, ◌+◌, List, [], ◌∷◌, ◌++◌, length, drop, codes}
+use Rattle.std.specs.Prelude.{Bool, true, false, cond, nat_le, bytes_eq, map, Option, Some, None}
 use Rattle.spec_grammar.specs.declared.rule.Label.{Label}
 use Rattle.spec_grammar.specs.declared.rule.Label.TheVariants.{Named, Wild, Nil, Cons, One}
 use Rattle.spec_lbnf.specs.declared.definition.CatName.{CatName}
@@ -13,7 +12,7 @@ use Rattle.spec_lbnf.specs.declared.definition.Def.{Def}
 use Rattle.spec_lbnf.specs.declared.definition.Def.TheVariants.{Rule, Internal, Terminator}
 use Rattle.spec_lbnf.specs.declared.definition.Def.TheVariants.{Separator, Coercions, Entry}
 use Rattle.spec_lbnf.specs.declared.token.Sign.{Sign}
-use Rattle.spec_lbnf.specs.declared.token.Sign.TheVariants.{Dot, Semicolon, Gives, Colon, Comma}
+use Rattle.spec_lbnf.specs.declared.token.Sign.TheVariants.{Dot, Gives, Colon, Comma}
 use Rattle.spec_lbnf.specs.declared.token.Sign.TheVariants.{OpenBracket, CloseBracket, OpenParen}
 use Rattle.spec_lbnf.specs.declared.token.Sign.TheVariants.{CloseParen, Underscore}
 use Rattle.spec_lbnf.specs.declared.token.FileToken.{FileToken}

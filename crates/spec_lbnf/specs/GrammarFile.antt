@@ -1,7 +1,6 @@
 -- What the tokens of a grammar file spell: each form of definition is one line.
-use Rattle.std.specs.Prelude.{◌≡◌, ℕ, ◌<◌, ◌≤◌, List, [], ◌∷◌, ◌++◌, length, codes, Bool, true}
-use Rattle.std.specs.Prelude.{false}
-use Rattle.std.specs.Prelude.{not, nat_eq, All, filter, map, flat_map, replicate}
+use Rattle.std.specs.Prelude.{◌≡◌, ℕ, ◌<◌, List, [], ◌∷◌, ◌++◌, length, codes, Bool, true}
+use Rattle.std.specs.Prelude.{false, not, All, filter, map, flat_map, replicate}
 use Rattle.std.specs.List.{slice_split}
 use Rattle.spec_grammar.specs.declared.rule.Label.{Label}
 use Rattle.spec_grammar.specs.declared.rule.Label.TheVariants.{Named, Wild, Nil, Cons, One}
@@ -12,7 +11,6 @@ use Rattle.spec_lbnf.specs.declared.definition.RawRule.{RawRule}
 use Rattle.spec_lbnf.specs.declared.definition.Def.{Def}
 use Rattle.spec_lbnf.specs.declared.definition.Def.TheVariants.{Rule, Internal, Terminator}
 use Rattle.spec_lbnf.specs.declared.definition.Def.TheVariants.{Separator, Coercions, Entry}
-use Rattle.spec_lbnf.specs.declared.token.Sign.{Sign}
 use Rattle.spec_lbnf.specs.declared.token.Sign.TheVariants.{Dot, Semicolon, Gives, Colon, Comma}
 use Rattle.spec_lbnf.specs.declared.token.Sign.TheVariants.{OpenBracket, CloseBracket, OpenParen}
 use Rattle.spec_lbnf.specs.declared.token.Sign.TheVariants.{CloseParen, Underscore}

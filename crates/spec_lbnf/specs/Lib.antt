@@ -14,3 +14,5 @@ pub mod FileLaws
 pub mod ScanExamples
 pub mod ReadingLaws
 pub mod ReadingExamples
+pub mod ExpansionExamples
+pub mod CheckExamples

@@ -2,8 +2,7 @@
 -- the proofs alone: what tokens are is said in FileTokens.
 use Rattle.std.specs.Prelude.{ℕ, zero, suc, ◌-◌, List, [], ◌∷◌, length, take, drop, codes, Bool}
 use Rattle.std.specs.Prelude.{true, false, cond, not, ◌&&◌, nat_eq, nat_le, bytes_eq, Option, Some}
-use Rattle.std.specs.Prelude.{None, chars}
-use Rattle.std.specs.Prelude.{option_map, option_and_then, slice_index}
+use Rattle.std.specs.Prelude.{None, chars, option_map, option_and_then, slice_index}
 use Rattle.std.specs.Char.{encode_utf8}
 use Rattle.std.specs.List.{prefix_len, list_any}
 use Rattle.std.specs.Str.{all_scalars}

@@ -2,6 +2,8 @@
 ghost use Rattle.spec_lbnf.specs.Laws.{OwnSymbols, OwnEntry, FitOrUnfit, OneUnfitness};
 ghost use Rattle.spec_lbnf.specs.Laws.{NumbersNameBack};
 ghost use Rattle.spec_lbnf.specs.Laws.{AcyclicOrCyclic, OneCyclic, DistinctNames};
+ghost use Rattle.spec_lbnf.specs.ExpansionExamples.{SmallExpansions};
+ghost use Rattle.spec_lbnf.specs.CheckExamples.{SmallChecks};
 
 /// Each rule of the grammar that definitions stand for is of a category of that grammar, and its
 /// items are categories and kinds of it, whether or not each category has a rule.
@@ -36,4 +38,14 @@ pub fn numbers_name_back()
 /// of the list.
 pub fn distinct_names()
     ensures { DistinctNames }
+{}
+
+/// What small definitions stand for, by hand.
+pub fn small_expansions()
+    ensures { SmallExpansions }
+{}
+
+/// That small definitions are fit, or why they are unfit, by hand.
+pub fn small_checks()
+    ensures { SmallChecks }
 {}

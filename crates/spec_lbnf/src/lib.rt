@@ -11,6 +11,7 @@ pub use definition::{CatName, Def, RawItem, RawRule};
 pub use file_laws::{one_scan, one_token_or_space, small_scans, some_scan, tokens_rise};
 pub use laws::{
     acyclic_or_cyclic, distinct_names, fit_or_unfit, numbers_name_back, own_entry, own_symbols,
+    small_checks, small_expansions,
 };
 pub use reading_laws::{
     defs_or_fault, defs_within_limits, one_first_fault, one_list_of_defs, small_readings,
