@@ -125,12 +125,12 @@ one_script input commands others ending final s t = same_script input commands e
 -- where the grammar is refused, the refusal is all that is told
 pub refusal_is_all : RefusalIsAll
 refusal_is_all input block line at rest begins refusal out status session =
-    (refused_session input block line at rest begins refusal out status session).0
+    refused_session input block line at rest begins refusal out status session
 
 -- behind the replies to a script its last line is told, and nothing more
 pub replies_then_last_line : RepliesThenLastLine
 replies_then_last_line input commands ending told s replies out status session =
-    (script_session input commands ending told s replies out status session).0
+    script_session input commands ending told s replies out status session
 
 -- the replies to the first commands are told first
 pub replies_come_first : RepliesComeFirst

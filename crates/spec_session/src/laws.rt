@@ -18,12 +18,13 @@ pub fn replies_come_first()
     ensures { RepliesComeFirst }
 {}
 
-/// Behind the replies to all commands of a script its session writes the last line, and no more.
+/// Behind the replies to all commands of a script its session writes the last line, and no more. Its
+/// status is that of the script's end: 0, or 3 where the script is broken.
 pub fn replies_then_last_line()
     ensures { RepliesThenLastLine }
 {}
 
-/// Where the grammar is refused, its refusal is all that the session writes.
+/// Where the grammar is refused, its refusal is all that the session writes, and its status is 2.
 pub fn refusal_is_all()
     ensures { RefusalIsAll }
 {}
