@@ -81,7 +81,7 @@ pub data IsRefusedFor (block reason : List ℕ) : Type 0 where
       → IsRefusedFor block reason
   unfit : (defs : List Def) (why : Unfitness) → Spells block defs → IsUnfit defs why
       → reason ≡ unfit_reason why → IsRefusedFor block reason
-  crowded : (defs : List Def) → Spells block defs → AreFit defs
+  too_many_symbols : (defs : List Def) → Spells block defs → AreFit defs
       → 2048 < symbol_count (expansion_of defs)
       → reason ≡ symbols_reason (symbol_count (expansion_of defs)) → IsRefusedFor block reason
 
