@@ -10,7 +10,7 @@ use Rattle.spec_lbnf.specs.declared.definition.Def.{Def}
 use Rattle.spec_lbnf.specs.Expansion.{Expansion, expansion_of, symbol_count}
 use Rattle.spec_lbnf.specs.Faults.{Spells, IsFirstFault, FileFault, too_large, is_large}
 use Rattle.spec_lbnf.specs.Checks.{AreFit, IsUnfit, Unfitness}
-use Rattle.spec_session.specs.Replies.{IsRefused, IsRefusedFor, AreAccepted, faulty, unfit, crowded, fault_reason, unfit_reason, symbols_reason, version_reply}
+use Rattle.spec_session.specs.Replies.{IsRefused, IsRefusedFor, AreAccepted, faulty, unfit, too_many_symbols, fault_reason, unfit_reason, symbols_reason, version_reply}
 use Rattle.lbnf_text.specs.Reading.{file_fault_of}
 use Rattle.lbnf_text.specs.declared.fault.TextFault.TheVariants.{TooLarge}
 use Rattle.lbnf_grammar.specs.Grammars.{unfitness_of}
@@ -43,11 +43,11 @@ accepted block defs g language spells fit e made =
     ((defs, spells, all, same), spelled_fit defs language.grammar same)
 
 -- a grammar of too many symbols is refused for their count
-pub crowded_language : (block : List ℕ) (defs : List Def) (g : Expansion) (fault : BinaryFault)
+pub too_many_symbols_refused : (block : List ℕ) (defs : List Def) (g : Expansion) (fault : BinaryFault)
     → Spells block defs → AreFit defs → g ≡ expansion_of defs → MakesLanguage g (Err fault)
     → ReadsLanguage block (Err (Binary fault))
-crowded_language block defs g BinaryMemory spells fit e made = tt
-crowded_language block defs g (TooManySymbols count) spells fit e made =
+too_many_symbols_refused block defs g BinaryMemory spells fit e made = tt
+too_many_symbols_refused block defs g (TooManySymbols count) spells fit e made =
     (defs, spells, fit, made.0 ∙ ap symbol_count e, made.1)
 
 -- a block of too many bytes has this as its first fault
@@ -72,7 +72,7 @@ reason_is block (Grammar fault) reason h is =
     unfit h.0 why.0 h.1 why.1 why.2
 reason_is block (Binary BinaryMemory) reason h is = absurd (none-some reason is)
 reason_is block (Binary (TooManySymbols count)) reason h is =
-    crowded h.0 h.1 h.2 (omega (arith, h.3, h.4)) (sym (same_Some (symbols_reason count) reason is) ∙ ap symbols_reason h.3)
+    too_many_symbols h.0 h.1 h.2 (omega (arith, h.3, h.4)) (sym (same_Some (symbols_reason count) reason is) ∙ ap symbols_reason h.3)
 
 -- the line that refuses is the fault's
 pub refusal_is : (block : List ℕ) (fault : LanguageFault) (line : List ℕ) → ReadsLanguage block (Err fault) → IsRefusal fault line → IsRefused block line

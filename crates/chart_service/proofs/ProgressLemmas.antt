@@ -90,7 +90,7 @@ module _ (input before : List ℕ) where
         script = record { at = at; rest = rest; in_order = in_order; begins = begins; ends = ends }
 
         sure : (out : List ℕ) (n : ℕ) → IsSession input out n → (more : List ℕ) × (out ≡ (told ++ last_line ending) ++ more)
-        sure out n s = ([], replies_then_last_line input front ending told script replies out n s ∙ sym (append-nil (told ++ last_line ending)))
+        sure out n s = ([], (replies_then_last_line input front ending told script replies out n s).0 ∙ sym (append-nil (told ++ last_line ending)))
 
   -- one more command whose reply was cut short
   pub cut_behind : (front : List Command) (at : ℕ) (rest told line : List ℕ) → IsInOrder front → Begins 0 input front at rest → AreAllReplies front (told ++ line) → (old new : Option (List ℕ)) → old ≡ Some (before ++ told) → GrowsByPrefix old new line → (status : Status) → IsFaultStatus (number_of status) → Ends input before new status
@@ -106,7 +106,7 @@ module _ (input before : List ℕ) where
 
       by_line : (line : List ℕ) → IsGrammarLine block line → GrowsByPrefix old new line → (status : Status) → IsFaultStatus (number_of status) → Ends input before new status
       by_line line (inl r) cut status fault =
-          cut_short [] line (λ out n s. ([], refusal_is_all input block line at rest begins r out n s ∙ sym (append-nil line))) old new none_yet cut status fault
+          cut_short [] line (λ out n s. ([], (refusal_is_all input block line at rest begins r out n s).0 ∙ sym (append-nil line))) old new none_yet cut status fault
       by_line line (inr a) cut status fault =
           let P : List ℕ → Type 0 = AreAllReplies (header ∷ grammar block ∷ []) in
           cut_behind (header ∷ grammar block ∷ []) at rest [] line tt begins (subst P (sym a.2) (grammar_told a.0 block a.1)) old new none_yet cut status fault

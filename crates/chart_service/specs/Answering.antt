@@ -1,9 +1,9 @@
 -- Serves the proofs alone: the symbol of a constituent, and the line of each answer.
-use Rattle.std.specs.Prelude.{◌≡◌, ℕ, List, ◌++◌, codes, decimal, Option}
+use Rattle.std.specs.Prelude.{◌≡◌, List, ℕ, Option}
 use Rattle.spec_grammar.specs.declared.rule.Symbol.{Symbol}
 use Rattle.spec_lbnf.specs.Expansion.{Expansion}
 use Rattle.spec_session.specs.Script.{Constituent, entry_whole, category_whole, category_span}
-use Rattle.spec_session.specs.Replies.{as_line}
+use Rattle.spec_session.specs.Replies.{unknown_category_line, outside_line, yes_line, no_line}
 use Rattle.lbnf_grammar.specs.Grammars.{FindsCategory}
 use Rattle.chart_service.specs.declared.answering.Answer.{Answer}
 use Rattle.chart_service.specs.declared.answering.Answer.TheVariants.{UnknownCategory}
@@ -17,7 +17,7 @@ FindsSymbol g (category_span name first end) found = FindsCategory g.categories 
 
 -- the line of the answer
 abbrev pub answer_line : Answer → List ℕ
-answer_line UnknownCategory = as_line (codes "refused category")
-answer_line (SpanOutside tokens) = codes "refused span " ++ as_line (decimal tokens)
-answer_line Yes = as_line (codes "yes")
-answer_line No = as_line (codes "no")
+answer_line UnknownCategory = unknown_category_line
+answer_line (SpanOutside tokens) = outside_line tokens
+answer_line Yes = yes_line
+answer_line No = no_line

@@ -1,7 +1,7 @@
 -- Serves the proofs alone: what a line of a script is found to be.
 use Rattle.std.specs.Prelude.{◌≡◌, ℕ, ◌^◌, ◌<◌, ◌≤◌, List, ◌∷◌, ◌++◌, length, slice_index, true}
 use Rattle.std.specs.Prelude.{codes, decimal, Option, Some, None, Contains}
-use Rattle.std.specs.List.{list_all, All}
+use Rattle.std.specs.List.{list_all}
 use Rattle.std.specs.Char.{is_ascii_digit}
 use Rattle.spec_session.specs.Script.{Constituent as Named, entry_whole, category_whole}
 use Rattle.spec_session.specs.Script.{category_span, constituent_text, IsNameable, has, line_of}
@@ -37,10 +37,6 @@ ReadsCount line beginning most (Some n) =
 abbrev pub CutsAtSpace : List ℕ → Option (List ℕ × List ℕ) → Type 0
 CutsAtSpace bytes None = Contains bytes 32 → ⊥
 CutsAtSpace bytes (Some (word, rest)) = (bytes ≡ word ++ (32 ∷ rest)) × (Contains word 32 → ⊥)
-
--- no byte is a space or LF
-abbrev pub AreOfWord : List ℕ → Type 0
-AreOfWord bytes = All (λ byte. (byte ≡ 32 → ⊥) × (byte ≡ 10 → ⊥)) bytes
 
 -- the constituent of a script that the code's one stands for
 abbrev pub meant : Constituent → Named

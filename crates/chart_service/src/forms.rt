@@ -5,8 +5,9 @@ ghost use Rattle.std.specs.Prelude.{option_map};
 ghost use Rattle.std.specs.List.{list_all};
 ghost use Rattle.std.specs.Char.{is_ascii_digit};
 ghost use Rattle.cyk_io.specs.Lines.{HasNoLf};
+ghost use Rattle.spec_session.specs.Script.{AreOfWord};
 ghost use Rattle.chart_service.specs.Forms.{HasNumberForm, ReadsNumber, ReadsBehind, ReadsCount};
-ghost use Rattle.chart_service.specs.Forms.{CutsAtSpace, AreOfWord, ReadsConstituent, ReadsHas};
+ghost use Rattle.chart_service.specs.Forms.{CutsAtSpace, ReadsConstituent, ReadsHas};
 ghost use Rattle.chart_service.specs.Forms.{ReadsQuestion};
 
 /// What a question names.

@@ -1,12 +1,12 @@
 -- Each input is a script, and the commands of a script have replies. So no input is without a session.
-use Rattle.std.proofs.Common.{◌≡◌, ℕ, zero, suc, ◌+◌, ◌^◌, ◌<◌, ◌⊎◌, inl, inr, List, [], ◌∷◌, ◌++◌, length, codes, decimal, refl, sym, ◌∙◌, ap, arith, length-append}
+use Rattle.std.proofs.Common.{◌≡◌, ℕ, zero, suc, ◌+◌, ◌^◌, ◌<◌, ◌⊎◌, inl, inr, List, [], ◌∷◌, ◌++◌, length, refl, sym, ◌∙◌, ap, arith, length-append}
 use Rattle.std.specs.Str.{IsAscii}
 use Rattle.std.proofs.lemmas.Bool.{cases_lt}
 use Rattle.spec_lexing.specs.declared.token.Token.{Token}
 use Rattle.spec_lexing.proofs.KindsLemmas.{some_tokens}
 use Rattle.spec_lbnf.specs.Expansion.{Expansion}
 use Rattle.spec_session.specs.Script.{Constituent, Command, header, grammar, opens, has, line_of, block_of, text_of, IsWithinLimits, AreQuestions, IsInOrder, Begins, GoesOn, IsAtEnd, Ending, ended, broken, IsScript}
-use Rattle.spec_session.specs.Replies.{as_line, grammar_reply, version_reply, HasCategory, first_of, end_of, IsWithin, IsOutside, IsDerived, IsAnswer, refused_category, refused_span, yes, no, IsCurrent}
+use Rattle.spec_session.specs.Replies.{grammar_reply, version_reply, HasCategory, first_of, end_of, IsWithin, IsOutside, IsDerived, unknown_category_line, outside_line, yes_line, no_line, IsAnswer, refused_category, refused_span, yes, no, IsCurrent}
 use Rattle.spec_session.specs.Sessions.{AreReplies, last_line, last_status, IsSession, refused, whole}
 use Rattle.spec_session.specs.Existence.{SomeSession}
 use Rattle.spec_session.proofs.DenialLemmas.{IsUndeniable, decided}
@@ -121,15 +121,14 @@ module _ (g : Expansion) (tokens : List Token) (constituent : Constituent) where
   answer_within known span denied =
       let Derived : Type 0 = IsDerived g tokens constituent in
       decided Derived (λ (split : Derived ⊎ (Derived → ⊥)). elim split [
-        | inl derived ↦ denied (as_line (codes "yes"), yes span derived refl)
-        | inr other ↦ denied (as_line (codes "no"), no known span other refl)
+        | inl derived ↦ denied (yes_line, yes span derived refl)
+        | inr other ↦ denied (no_line, no known span other refl)
       ])
 
   -- a question on another span is refused
   answer_outside : HasCategory g constituent → IsOutside (length tokens) constituent → HasAnswer
   answer_outside known outside =
-      let line : List ℕ = codes "refused span " ++ as_line (decimal (length tokens)) in
-      (line, refused_span known outside refl)
+      (outside_line (length tokens), refused_span known outside refl)
 
   -- a question on a category of the grammar has an answer
   answer_known : HasCategory g constituent → IsUndeniable HasAnswer
@@ -149,7 +148,7 @@ module _ (g : Expansion) (tokens : List Token) (constituent : Constituent) where
       let Known : Type 0 = HasCategory g constituent in
       decided Known (λ (split : Known ⊎ (Known → ⊥)). elim split [
         | inl known ↦ answer_known known denied
-        | inr other ↦ denied (as_line (codes "refused category"), refused_category other refl)
+        | inr other ↦ denied (unknown_category_line, refused_category other refl)
       ])
 
 module _ (g : Expansion) where

@@ -60,11 +60,13 @@ pub front_of_script : (input : List ℕ) (commands : List Command) (ending : End
     IsScript input commands ending → AreAllReplies commands told → StartsWith (told ++ last_line ending) cut →
     (out : List ℕ) (status : ℕ) → IsSession input out status → StartsWith out cut
 front_of_script input commands ending told cut s replies starts out status session =
-    (starts.0, replies_then_last_line input commands ending told s replies out status session ∙ starts.1)
+    let all = replies_then_last_line input commands ending told s replies out status session in
+    (starts.0, all.0 ∙ starts.1)
 
 -- and so is a front of the line that refuses the grammar
 pub front_of_refusal : (input block line cut : List ℕ) (at : ℕ) (rest : List ℕ) →
     Begins 0 input (header ∷ grammar block ∷ []) at rest → IsRefused block line → StartsWith line cut →
     (out : List ℕ) (status : ℕ) → IsSession input out status → StartsWith out cut
 front_of_refusal input block line cut at rest begins refusal starts out status session =
-    (starts.0, refusal_is_all input block line at rest begins refusal out status session ∙ starts.1)
+    let all = refusal_is_all input block line at rest begins refusal out status session in
+    (starts.0, all.0 ∙ starts.1)

@@ -10,7 +10,7 @@ use Rattle.spec_lbnf.specs.Checks.{IsUnfit}
 use Rattle.spec_lbnf.proofs.FaultLemmas.{one_file_of_defs, one_first_fault, spelled_or_faulty}
 use Rattle.spec_lbnf.proofs.CheckLemmas.{fit_or_unfit, one_unfitness}
 use Rattle.spec_session.specs.Script.{Constituent, Command, header, grammar, opens, has}
-use Rattle.spec_session.specs.Replies.{IsAccepted, IsRefused, IsRefusedFor, faulty, unfit, crowded, fault_reason, unfit_reason, symbols_reason, refusal_line, version_reply, HasCategory, IsWithin, IsOutside, IsDerived, IsAnswer, refused_category, refused_span, yes, no, IsCurrent, IsReply}
+use Rattle.spec_session.specs.Replies.{IsAccepted, IsRefused, IsRefusedFor, faulty, unfit, too_many_symbols, fault_reason, unfit_reason, symbols_reason, refusal_line, version_reply, HasCategory, IsWithin, IsOutside, IsDerived, IsAnswer, refused_category, refused_span, yes, no, IsCurrent, IsReply}
 
 -- a block is accepted as one grammar
 pub one_grammar : (block : List ℕ) (g other : Expansion) → IsAccepted block g → IsAccepted block other →
@@ -22,7 +22,7 @@ pub accepted_or_refused : (block line : List ℕ) (g : Expansion) → IsAccepted
 accepted_or_refused block line g h (reason, faulty fault first e, is) = spelled_or_faulty block h.0 fault h.1 first
 accepted_or_refused block line g h (reason, unfit defs why spells unfit_so e, is) =
     fit_or_unfit h.0 why h.2.fit (rw (one_file_of_defs block h.0 defs h.1 spells) unfit_so)
-accepted_or_refused block line g h (reason, crowded defs spells fit many e, is) =
+accepted_or_refused block line g h (reason, too_many_symbols defs spells fit many e, is) =
     let same : h.0 ≡ defs = one_file_of_defs block h.0 defs h.1 spells in
     let few : symbol_count (expansion_of defs) ≤ 2048
     = subst (λ (d : List Def). symbol_count (expansion_of d) ≤ 2048) same h.2.few in
@@ -34,20 +34,20 @@ one_reason block reason other (faulty fault first e) (faulty fault' first' e') =
     e ∙ ap fault_reason (one_first_fault block fault fault' first first') ∙ sym e'
 one_reason block reason other (faulty fault first e) (unfit defs why spells unfit_so e') =
     absurd (spelled_or_faulty block defs fault spells first)
-one_reason block reason other (faulty fault first e) (crowded defs spells fit many e') =
+one_reason block reason other (faulty fault first e) (too_many_symbols defs spells fit many e') =
     absurd (spelled_or_faulty block defs fault spells first)
 one_reason block reason other (unfit defs why spells unfit_so e') (faulty fault first e) =
     absurd (spelled_or_faulty block defs fault spells first)
 one_reason block reason other (unfit defs why spells unfit_so e) (unfit defs' why' spells' unfit_too e') =
     let again : IsUnfit defs why' = rw (one_file_of_defs block defs defs' spells spells') unfit_too in
     e ∙ ap unfit_reason (one_unfitness defs why why' unfit_so again) ∙ sym e'
-one_reason block reason other (unfit defs why spells unfit_so e) (crowded defs' spells' fit many e') =
+one_reason block reason other (unfit defs why spells unfit_so e) (too_many_symbols defs' spells' fit many e') =
     absurd (fit_or_unfit defs why (rw (one_file_of_defs block defs defs' spells spells') fit) unfit_so)
-one_reason block reason other (crowded defs spells fit many e) (faulty fault first e') =
+one_reason block reason other (too_many_symbols defs spells fit many e) (faulty fault first e') =
     absurd (spelled_or_faulty block defs fault spells first)
-one_reason block reason other (crowded defs spells fit many e) (unfit defs' why spells' unfit_so e') =
+one_reason block reason other (too_many_symbols defs spells fit many e) (unfit defs' why spells' unfit_so e') =
     absurd (fit_or_unfit defs why fit (rw (one_file_of_defs block defs defs' spells spells') unfit_so))
-one_reason block reason other (crowded defs spells fit many e) (crowded defs' spells' fit' many' e') =
+one_reason block reason other (too_many_symbols defs spells fit many e) (too_many_symbols defs' spells' fit' many' e') =
     let same : defs ≡ defs' = one_file_of_defs block defs defs' spells spells' in
     e ∙ ap (λ (d : List Def). symbols_reason (symbol_count (expansion_of d))) same ∙ sym e'
 

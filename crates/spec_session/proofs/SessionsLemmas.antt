@@ -40,13 +40,15 @@ replies_start g texts (command ∷ commands) behind told out h k =
 -- so are the replies to the first commands of a script
 all_replies_start : (commands behind : List Command) (told out : List ℕ) →
     AreAllReplies commands told → AreAllReplies (commands ++ behind) out → StartsWith out told
+all_replies_start [] behind told out h k = (out, rw h refl)
+all_replies_start (header ∷ []) behind told out h k = (out, rw h refl)
 all_replies_start (header ∷ grammar block ∷ commands) behind told out h k =
     let one : k.0 ≡ h.0 = one_grammar block k.0 h.0 k.2 h.2 in
     let again : out ≡ grammar_reply h.0 ++ k.1 = k.4 ∙ ap (λ g. grammar_reply g ++ k.1) one in
     let replies : AreReplies h.0 [] (commands ++ behind) k.1 = rw (sym one) k.3 in
     let tail = replies_start h.0 [] commands behind h.1 k.1 h.3 replies in
     starts_after (grammar_reply h.0) out k.1 told h.1 h.4 again tail
-all_replies_start commands behind told out h k = (out, rw h refl)
+all_replies_start commands behind told out h k = absurd h
 
 -- commands have one text of replies
 same_replies : (commands : List Command) (told out : List ℕ) →
@@ -75,10 +77,12 @@ module _ (block line : List ℕ) (refusal : IsRefused block line) where
   -- before it nothing is told
   nothing_told : (commands behind : List Command) (told : List ℕ) →
       header ∷ grammar block ∷ [] ≡ commands ++ behind → AreAllReplies commands told → told ≡ []
+  nothing_told [] behind told e h = h
+  nothing_told (header ∷ []) behind told e h = h
   nothing_told (header ∷ grammar other ∷ commands) behind told e h =
       let same : block ≡ other = ap block_behind e in
       absurd (accepted_or_refused block line h.0 (rw same h.2) refusal)
-  nothing_told commands behind told e h = h
+  nothing_told commands behind told e h = absurd h
 
 -- where an input is a script with these replies
 module _ (input : List ℕ) (commands : List Command) (ending : Ending) (told : List ℕ)
@@ -125,12 +129,12 @@ one_script input commands others ending final s t = same_script input commands e
 -- where the grammar is refused, the refusal is all that is told
 pub refusal_is_all : RefusalIsAll
 refusal_is_all input block line at rest begins refusal out status session =
-    (refused_session input block line at rest begins refusal out status session).0
+    refused_session input block line at rest begins refusal out status session
 
 -- behind the replies to a script its last line is told, and nothing more
 pub replies_then_last_line : RepliesThenLastLine
 replies_then_last_line input commands ending told s replies out status session =
-    (script_session input commands ending told s replies out status session).0
+    script_session input commands ending told s replies out status session
 
 -- the replies to the first commands are told first
 pub replies_come_first : RepliesComeFirst

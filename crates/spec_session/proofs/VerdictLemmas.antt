@@ -1,18 +1,18 @@
 -- A block is accepted as a grammar or refused: that one of the two is so cannot be denied.
-use Rattle.std.proofs.Common.{◌≡◌, ℕ, zero, suc, ◌<◌, ◌⊎◌, inl, inr, List, ◌∷◌, ◌++◌, length, Some, slice_get, refl, subst, arith}
+use Rattle.std.proofs.Common.{◌≡◌, ℕ, zero, suc, ◌<◌, ◌⊎◌, inl, inr, List, length, Some, slice_get, refl, subst, arith}
 use Rattle.std.specs.Prelude.{All, flat_map}
 use Rattle.std.proofs.lemmas.Bool.{cases_lt}
 use Rattle.std.proofs.lemmas.List.Elements.{All-from_recursion}
 use Rattle.spec_lbnf.specs.declared.definition.Def.{Def}
-use Rattle.spec_lbnf.specs.Faults.{Spells, FileFault, IsFirstFault}
+use Rattle.spec_lbnf.specs.Faults.{Spells}
 use Rattle.spec_lbnf.specs.Expansion.{Expansion, HasOwnSymbols, expansion_of, rules_of, symbol_count}
-use Rattle.spec_lbnf.specs.Checks.{IsKnown, IsUnknown, NamesKnown, AreAllKnown, IsFirstUnknown, IsFirstCyclic, named_categories, IsPredefined, IsFree, IsFirstRepeated, HasOwnNames, own_categories}
-use Rattle.spec_lbnf.specs.Checks.{IsBadCoercion, IsBadList, IsWellLabelled, IsFirstBad, HasFewRules, AreFit, IsUnfit, Unfitness, AtLabels, bad_coercion, bad_list, too_many_rules, repeated_token, unknown_fault, cyclic_category}
+use Rattle.spec_lbnf.specs.Checks.{IsKnown, NamesKnown, AreAllKnown, IsFirstUnknown, IsFirstCyclic, named_categories, IsFree, IsFirstRepeated, HasOwnNames, own_categories}
+use Rattle.spec_lbnf.specs.Checks.{IsWellLabelled, HasFewRules, AreFit, IsUnfit, Unfitness, AtLabels, bad_coercion, bad_list, too_many_rules, repeated_token, unknown_fault, cyclic_category}
 use Rattle.spec_lbnf.proofs.ListLemmas.{item_at}
 use Rattle.spec_lbnf.proofs.SymbolLemmas.{own_symbols}
 use Rattle.spec_lbnf.proofs.FaultLemmas.{defs_or_fault}
 use Rattle.spec_grammar.specs.Cycles.{IsCyclic, IsAcyclic}
-use Rattle.spec_session.specs.Replies.{IsAccepted, AreAccepted, IsRefused, IsRefusedFor, faulty, unfit, crowded, fault_reason, unfit_reason, symbols_reason, refusal_line}
+use Rattle.spec_session.specs.Replies.{IsAccepted, AreAccepted, IsRefused, IsRefusedFor, faulty, unfit, too_many_symbols, fault_reason, unfit_reason, symbols_reason, refusal_line}
 use Rattle.spec_session.proofs.DenialLemmas.{IsUndeniable, decided, FirstWithout, AllOrFirst, all_or_first, first_place, holds_earlier}
 
 module _ (defs : List Def) where
@@ -228,7 +228,7 @@ fit_verdict : (block : List ℕ) (defs : List Def) → Spells block defs → Are
 fit_verdict block defs spelled fit =
     let count : ℕ = symbol_count (expansion_of defs) in
     elim (cases_lt 2048 count) [
-      | inl many ↦ refused block (symbols_reason count) (crowded defs spelled fit many refl)
+      | inl many ↦ refused block (symbols_reason count) (too_many_symbols defs spelled fit many refl)
       | inr few ↦
           let accepted : AreAccepted defs = record { fit = fit; few = few } in
           inl (expansion_of defs, (defs, spelled, accepted, refl))

@@ -2,7 +2,7 @@
 use Rattle.std.specs.Prelude.{◌≡◌, ℕ, List, [], ◌∷◌, ◌++◌}
 use Rattle.spec_session.specs.Script.{Command, header, grammar, IsInOrder, Begins, Ending, IsScript}
 use Rattle.spec_session.specs.Replies.{IsRefused}
-use Rattle.spec_session.specs.Sessions.{AreAllReplies, last_line, IsSession}
+use Rattle.spec_session.specs.Sessions.{AreAllReplies, last_line, last_status, IsSession}
 
 -- an input is at most one script: these commands, and this end
 abbrev pub OneScript : Type 0
@@ -27,18 +27,19 @@ RepliesComeFirst =
     (more : List ℕ) × (out ≡ told ++ more)
 
 -- where an input is a script whose commands have replies, its session writes these and the last
--- line
+-- line, and ends with the status of the script's end
 abbrev pub RepliesThenLastLine : Type 0
 RepliesThenLastLine =
     (input : List ℕ) (commands : List Command) (ending : Ending) (told : List ℕ) →
     IsScript input commands ending → AreAllReplies commands told →
     (out : List ℕ) (status : ℕ) → IsSession input out status →
-    out ≡ told ++ last_line ending
+    (out ≡ told ++ last_line ending) × (status ≡ last_status ending)
 
 -- where an input begins with a header and a refused grammar, its session writes the refusal alone
+-- and ends with status 2
 abbrev pub RefusalIsAll : Type 0
 RefusalIsAll =
     (input block line : List ℕ) (at : ℕ) (rest : List ℕ) →
     Begins 0 input (header ∷ grammar block ∷ []) at rest → IsRefused block line →
     (out : List ℕ) (status : ℕ) → IsSession input out status →
-    out ≡ line
+    (out ≡ line) × (status ≡ 2)

@@ -3,3 +3,4 @@ pub mod Script
 pub mod Replies
 pub mod Laws
 pub mod Existence
+pub mod Examples

@@ -81,7 +81,7 @@ pub data IsRefusedFor (block reason : List ℕ) : Type 0 where
       → IsRefusedFor block reason
   unfit : (defs : List Def) (why : Unfitness) → Spells block defs → IsUnfit defs why
       → reason ≡ unfit_reason why → IsRefusedFor block reason
-  crowded : (defs : List Def) → Spells block defs → AreFit defs
+  too_many_symbols : (defs : List Def) → Spells block defs → AreFit defs
       → 2048 < symbol_count (expansion_of defs)
       → reason ≡ symbols_reason (symbol_count (expansion_of defs)) → IsRefusedFor block reason
 
@@ -140,20 +140,34 @@ pub record IsDerived (g : Expansion) (tokens : List Token) (constituent : Consti
   pub derives : Derives g.rules (kinds_of tokens) (Category category) (first_of constituent)
       (end_of (length tokens) constituent)
 
+-- the line that refuses a question on a category that is none of the grammar's
+abbrev pub unknown_category_line : List ℕ
+unknown_category_line = as_line (codes "refused category")
+
+-- the line that refuses a question on a span that is none of a text of so many tokens
+abbrev pub outside_line : ℕ → List ℕ
+outside_line tokens = codes "refused span " ++ as_line (decimal tokens)
+
+-- the answer that a constituent is derived
+abbrev pub yes_line : List ℕ
+yes_line = as_line (codes "yes")
+
+-- the answer that it is not
+abbrev pub no_line : List ℕ
+no_line = as_line (codes "no")
+
 -- the answer to whether a constituent is derived: yes or no by derivation,
 -- and a refusal where it is of no category, or else where it is no span of the text
 pub data IsAnswer (g : Expansion) (tokens : List Token) (constituent : Constituent)
     (line : List ℕ) : Type 0 where
-  refused_category : (HasCategory g constituent → ⊥) → line ≡ as_line (codes "refused category")
+  refused_category : (HasCategory g constituent → ⊥) → line ≡ unknown_category_line
       → IsAnswer g tokens constituent line
   refused_span : HasCategory g constituent → IsOutside (length tokens) constituent
-      → line ≡ codes "refused span " ++ as_line (decimal (length tokens))
-      → IsAnswer g tokens constituent line
+      → line ≡ outside_line (length tokens) → IsAnswer g tokens constituent line
   yes : IsWithin (length tokens) constituent → IsDerived g tokens constituent
-      → line ≡ as_line (codes "yes") → IsAnswer g tokens constituent line
+      → line ≡ yes_line → IsAnswer g tokens constituent line
   no : HasCategory g constituent → IsWithin (length tokens) constituent
-      → (IsDerived g tokens constituent → ⊥) → line ≡ as_line (codes "no")
-      → IsAnswer g tokens constituent line
+      → (IsDerived g tokens constituent → ⊥) → line ≡ no_line → IsAnswer g tokens constituent line
 
 -- the texts after a command, the current one last: a text that is opened is the next one
 abbrev pub texts_after : List (List ℕ) → Command → List (List ℕ)

@@ -42,10 +42,14 @@ block_of (has constituent) = []
 abbrev pub text_of : Command → List ℕ
 text_of command = line_of command ++ (10 ∷ block_of command)
 
+-- no byte is a space or LF
+abbrev pub AreOfWord : List ℕ → Type 0
+AreOfWord bytes = All (λ byte. (byte ≡ 32 → ⊥) × (byte ≡ 10 → ⊥)) bytes
+
 -- the bytes are a word: one byte or more, none of them a space or LF
 pub record IsWord (bytes : List ℕ) : Type 0 where
   pub some : 0 < length bytes
-  pub each : All (λ byte. (byte ≡ 32 → ⊥) × (byte ≡ 10 → ⊥)) bytes
+  pub each : AreOfWord bytes
 
 -- the constituent's category is a word, and its numbers have nine digits at most
 abbrev pub IsNameable : Constituent → Type 0

@@ -25,12 +25,14 @@ last_status ended = 0
 last_status (broken at) = 3
 
 -- the bytes are the replies to all the commands, where the grammar, if there is one, is accepted;
--- the header has none
+-- the header has none, and commands that are not in order have no replies
 abbrev pub AreAllReplies : List Command → List ℕ → Type 0
+AreAllReplies [] out = out ≡ []
+AreAllReplies (header ∷ []) out = out ≡ []
 AreAllReplies (header ∷ grammar block ∷ commands) out =
     (g : Expansion) × (replies : List ℕ) × IsAccepted block g × AreReplies g [] commands replies
     × (out ≡ grammar_reply g ++ replies)
-AreAllReplies commands out = out ≡ []
+AreAllReplies commands out = ⊥
 
 -- the session of the input writes these bytes and ends with this status: it ends at a grammar that
 -- is refused, with its line alone and status 2; else it goes to the script's end

@@ -1,6 +1,7 @@
 //! Laws of scripts and sessions. Each is the contract of a function with an empty body.
 ghost use Rattle.spec_session.specs.Laws.{OneScript, OneSession, RepliesComeFirst};
 ghost use Rattle.spec_session.specs.Laws.{RepliesThenLastLine, RefusalIsAll};
+ghost use Rattle.spec_session.specs.Examples.{SmallSessions};
 
 /// An input is at most one script: its commands, and where it ends or breaks.
 pub fn one_script()
@@ -19,11 +20,17 @@ pub fn replies_come_first()
 {}
 
 /// Behind the replies to all commands of a script its session writes the last line, and no more.
+/// Its status is that of the script's end: 0, or 3 where the script is broken.
 pub fn replies_then_last_line()
     ensures { RepliesThenLastLine }
 {}
 
-/// Where the grammar is refused, its refusal is all that the session writes.
+/// Where the grammar is refused, its refusal is all that the session writes, and its status is 2.
 pub fn refusal_is_all()
     ensures { RefusalIsAll }
+{}
+
+/// What the sessions of small inputs write, and their status, by hand.
+pub fn small_sessions()
+    ensures { SmallSessions }
 {}

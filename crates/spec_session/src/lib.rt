@@ -8,4 +8,5 @@ mod laws;
 pub use existence::some_session;
 pub use laws::{
     one_script, one_session, refusal_is_all, replies_come_first, replies_then_last_line,
+    small_sessions,
 };
