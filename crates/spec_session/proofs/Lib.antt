@@ -7,3 +7,5 @@ pub mod DenialLemmas
 pub mod VerdictLemmas
 pub mod ExistenceLemmas
 pub mod ExamplesLemmas
+pub mod GrammarExample
+pub mod SessionExamples

@@ -86,7 +86,7 @@ same_back front back other more size e =
     same_rest other back more (ap (λ bytes. bytes ++ back) (sym fronts) ∙ e)
 
 -- decimal texts are told by the test of digits
-model : IsNumeralModel (λ word. all_ascii_digits word ≡ true) (digits_value 10)
+pub model : IsNumeralModel (λ word. all_ascii_digits word ≡ true) (digits_value 10)
 model = numerals_by_value (λ word. all_ascii_digits word ≡ true) tells_all_ascii_digits
 
 -- a number has digits alone

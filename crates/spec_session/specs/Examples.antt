@@ -1,6 +1,14 @@
 -- The sessions of small inputs, by hand.
-use Rattle.std.specs.Prelude.{codes}
+use Rattle.std.specs.Prelude.{ℕ, List, ◌++◌, codes}
 use Rattle.spec_session.specs.Sessions.{IsSession}
+
+-- the bytes of a script up to its questions: a grammar of one rule, and a text of one token
+abbrev pub front : List ℕ
+front = codes "script 1\ngrammar 9\nA.S::=\"a\"\nopen 1\na\n"
+
+-- the replies to these commands
+abbrev pub front_replies : List ℕ
+front_replies = codes "grammar rules 1 categories 1 kinds 1\nversion 0 tokens 1\n"
 
 -- what the sessions of small inputs write, and their status
 pub record SmallSessions : Type 0 where
@@ -22,3 +30,13 @@ pub record SmallSessions : Type 0 where
   -- so does one with a bad coercion
   pub unfit_grammar : IsSession (codes "script 1\ngrammar 6\n_.S::=\n")
       (codes "grammar refused coercion 0\n") 2
+  -- a script without questions
+  pub no_question : IsSession (front ++ codes "end\n") (front_replies ++ codes "end\n") 0
+  -- the entry derives the text, and an empty span is not derived; no category has the name `T`,
+  -- and the text has no two tokens; what stands behind `end` has no effect
+  pub whole_session : IsSession
+      (front ++ codes "has\nhas S\nhas S 0 0\nhas T\nhas S 0 2\nend\nhas")
+      (front_replies ++ codes "yes\nyes\nno\nrefused category\nrefused span 1\nend\n") 0
+  -- a second text breaks the script behind the replies to what stands before it
+  pub second_text : IsSession (front ++ codes "has S\nopen 1\na\nend\n")
+      (front_replies ++ codes "yes\nscript refused 44\n") 3

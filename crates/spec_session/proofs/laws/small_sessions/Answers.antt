@@ -1,6 +1,7 @@
--- Where each input breaks, or why its grammar is refused.
+-- Where each input breaks, why its grammar is refused, or how each question is answered.
 use Rattle.std.proofs.Common.{[], ap, codes, get_or, length, arith}
 use Rattle.spec_session.proofs.ExamplesLemmas.{refused_at_0, refused_at_9, command_is_some, short_block, refused_grammar, faulty_refused, unfit_refused}
+use Rattle.spec_session.proofs.SessionExamples.{no_question, whole_session, second_text}
 use Rattle.spec_session.specs.Script.{grammar}
 use Rattle.spec_session.proofs.laws.small_sessions.Goals as goal
 
@@ -14,4 +15,7 @@ returns c = record {
   cut_block = refused_at_9 (codes "grammar 2\n;\n") short_block;
   faulty_grammar = refused_grammar (codes ")") (codes "open") (codes "syntax") 0 (omega arith) (omega arith) faulty_refused;
   unfit_grammar = refused_grammar (codes "_.S::=") [] (codes "coercion") 0 (omega arith) (omega arith) unfit_refused;
+  no_question = no_question;
+  whole_session = whole_session;
+  second_text = second_text;
 }
