@@ -5,7 +5,7 @@ use Rattle.cyk_io.specs.Streams.{Takes, Grows, GrowsByPrefix}
 use Rattle.cyk_io.specs.Lines.{IsLine}
 use Rattle.spec_lbnf.specs.Expansion.{Expansion}
 use Rattle.spec_session.specs.Script.{Constituent, Command, header, grammar, opens, has, line_of, block_of, text_of, IsWithinLimits, AreQuestions, IsInOrder, Begins, Ending, ended, broken, EndsAs, IsScript}
-use Rattle.spec_session.specs.Replies.{IsAccepted, IsAnswer, grammar_reply, version_reply}
+use Rattle.spec_session.specs.Replies.{IsAccepted, IsReply, IsAnswer, grammar_reply, version_reply}
 use Rattle.spec_session.specs.Sessions.{AreReplies, AreAllReplies, IsSession, refused, whole, last_line, last_status}
 use Rattle.spec_session.proofs.ScriptLemmas.{tested, each_differs, lacks_if_each_differs, cut_same, command_line, line_lacks_lf, line_is_short}
 use Rattle.spec_session.proofs.SessionsLemmas.{replies_come_first, replies_then_last_line, refusal_is_all}
@@ -18,7 +18,7 @@ use Rattle.chart_service.specs.Writing.{EndsWith}
 use Rattle.chart_service.specs.Serving.{IsFaultStatus, IsPrefixOfSession}
 use Rattle.chart_service.specs.Reading.{NextLine, TakesCommand, NoneComes, IsHeader, IsGrammar, IsText}
 use Rattle.chart_service.specs.Forms.{ReadsHas, IsHas}
-use Rattle.chart_service.specs.Opening.{IsGrammarLine, EndsAtGrammar, IsTextLine, EndsAtText, HasOpened, OpensText}
+use Rattle.chart_service.specs.Opening.{IsGrammarLine, EndsAtGrammar, EndsAtText, HasOpened, OpensText}
 use Rattle.chart_service.specs.Progress.{Running, Ends, Begun}
 
 -- the statuses of faults
@@ -124,14 +124,14 @@ module _ (input before : List ℕ) where
   pub ended_at_text : (block text : List ℕ) (g : Expansion) → IsAccepted block g → (mid : ℕ) (mid_rest : List ℕ) → Begins 0 input (header ∷ grammar block ∷ []) mid mid_rest → (at : ℕ) (rest : List ℕ) → Begins 0 input (header ∷ grammar block ∷ opens text ∷ []) at rest → (old new : Option (List ℕ)) → old ≡ Some (before ++ grammar_reply g) → (status : Status) → EndsAtText g text old new status → Ends input before new status
   ended_at_text block text g accepted mid mid_rest mid_begins at rest begins old new written status h = by_status status h
     where
-      sure : (line : List ℕ) → IsTextLine g text line → (out : List ℕ) (n : ℕ) → IsSession input out n → (more : List ℕ) × (out ≡ (grammar_reply g ++ line) ++ more)
+      sure : (line : List ℕ) → IsReply g [] (opens text) line → (out : List ℕ) (n : ℕ) → IsSession input out n → (more : List ℕ) × (out ≡ (grammar_reply g ++ line) ++ more)
       sure line t out n s =
           let told = text_told g block text t.0 [] [] accepted t.1 refl in
           let first = replies_come_first input (header ∷ grammar block ∷ opens text ∷ []) at rest _ begins tt told out n s in
           let short : version_reply 0 (length t.0) ++ [] ≡ line = append-nil (version_reply 0 (length t.0)) ∙ sym t.2 in
           (first.0, first.1 ∙ ap (λ bytes. (grammar_reply g ++ bytes) ++ first.0) short)
 
-      by_line : (line : List ℕ) → IsTextLine g text line → GrowsByPrefix old new line → (status : Status) → IsFaultStatus (number_of status) → Ends input before new status
+      by_line : (line : List ℕ) → IsReply g [] (opens text) line → GrowsByPrefix old new line → (status : Status) → IsFaultStatus (number_of status) → Ends input before new status
       by_line line t cut status fault = cut_short (grammar_reply g) line (sure line t) old new written cut status fault
 
       before_text : (out : List ℕ) (n : ℕ) → IsSession input out n → (more : List ℕ) × (out ≡ grammar_reply g ++ more)
