@@ -17,8 +17,8 @@ use std::alloc::Global;
 /// The most bytes of a line, without its LF.
 pub(crate) const MAX_LINE: usize = 256;
 
-/// A line begins below this offset.
-const TOO_LATE: u64 = 1 << 48;
+/// The offset below which each line of a script begins.
+const LINE_LIMIT: u64 = 1 << 48;
 
 /// The most bytes of a block. Nine digits write no greater number.
 const MAX_BLOCK: u32 = 999_999_999;
@@ -42,7 +42,7 @@ pub(crate) enum Block {
 pub(crate) fn next_line<S: Source>(
     source: &mut S,
     ahead: &mut Ahead,
-    line: &mut Line<256>,
+    line: &mut Line<MAX_LINE>,
 ) -> Result<bool, Status>
     requires room { ahead.old.offset < 2 ^ 62 }
     requires end { IsTrue ahead.old.ended → IsAtEnd (S.left source.old) }
@@ -54,7 +54,7 @@ pub(crate) fn next_line<S: Source>(
     ensures end { IsTrue ahead.new.ended → IsAtEnd (S.left source.new) }
     ensures fits { ahead.new.offset ≤ ahead.old.offset + 257 }
 {
-    if ahead.offset() >= TOO_LATE {
+    if ahead.offset() >= LINE_LIMIT {
         return Ok(false);
     }
     match read_line(source, ahead, line) {
@@ -69,7 +69,7 @@ pub(crate) fn next_line<S: Source>(
 pub(crate) fn read_header<S: Source>(
     source: &mut S,
     ahead: &mut Ahead,
-    line: &mut Line<256>,
+    line: &mut Line<MAX_LINE>,
 ) -> Result<bool, Status>
     requires room { ahead.old.offset < 2 ^ 62 }
     requires end { IsTrue ahead.old.ended → IsAtEnd (S.left source.old) }
@@ -158,7 +158,7 @@ fn pass_block<S: Source>(
 fn read_count<S: Source>(
     source: &mut S,
     ahead: &mut Ahead,
-    line: &mut Line<256>,
+    line: &mut Line<MAX_LINE>,
     beginning: &[u8],
     most: u32,
 ) -> Result<Option<u32>, Status>
@@ -211,7 +211,7 @@ pub(crate) fn read_grammar<S: Source>(
     alloc: Global,
     source: &mut S,
     ahead: &mut Ahead,
-    line: &mut Line<256>,
+    line: &mut Line<MAX_LINE>,
 ) -> Result<Option<Block>, Status>
     requires room { ahead.old.offset < 2 ^ 60 }
     requires end { IsTrue ahead.old.ended → IsAtEnd (S.left source.old) }
@@ -245,7 +245,7 @@ pub(crate) fn read_text<S: Source>(
     alloc: Global,
     source: &mut S,
     ahead: &mut Ahead,
-    line: &mut Line<256>,
+    line: &mut Line<MAX_LINE>,
 ) -> Result<Option<Vec<u8>>, Status>
     requires room { ahead.old.offset < 2 ^ 60 }
     requires end { IsTrue ahead.old.ended → IsAtEnd (S.left source.old) }

@@ -10,7 +10,7 @@ use crate::answering::{answer_of, say_answer};
 use crate::forms::{Question, question_of};
 use crate::opening::{Opened, accept, open_text};
 use crate::options::Options;
-use crate::reading::{next_line, read_grammar, read_header, read_text};
+use crate::reading::{MAX_LINE, next_line, read_grammar, read_header, read_text};
 use crate::status::Status;
 use crate::writing::{finish, refuse_script};
 use cyk_io::{Ahead, Line, Sink, Source};
@@ -24,7 +24,7 @@ fn begin<S: Source, K: Sink>(
     source: &mut S,
     sink: &mut K,
     ahead: &mut Ahead,
-    line: &mut Line<256>,
+    line: &mut Line<MAX_LINE>,
 ) -> Result<Opened, Status>
     requires start { ahead.old.offset ≡ 0 }
     requires end { IsTrue ahead.old.ended → IsAtEnd (S.left source.old) }
@@ -65,7 +65,7 @@ fn turn<S: Source, K: Sink>(
     source: &mut S,
     sink: &mut K,
     ahead: &mut Ahead,
-    line: &mut Line<256>,
+    line: &mut Line<MAX_LINE>,
     opened: &Opened,
 ) -> Option<Status>
     requires room { ahead.old.offset < 2 ^ 61 }
@@ -107,7 +107,7 @@ fn answer_all<S: Source, K: Sink>(
     source: &mut S,
     sink: &mut K,
     ahead: &mut Ahead,
-    line: &mut Line<256>,
+    line: &mut Line<MAX_LINE>,
     opened: &Opened,
 ) -> Status
     requires room { ahead.old.offset < 2 ^ 50 }
