@@ -52,7 +52,7 @@ pub(crate) fn next_line<S: Source>(
     ensures cause { HasCause (S.faults source.old) (S.faults source.new)
         (IsErrOf result Status.ReadFault) }
     ensures end { IsTrue ahead.new.ended → IsAtEnd (S.left source.new) }
-    ensures fits { ahead.new.offset ≤ ahead.old.offset + 257 }
+    ensures range { ahead.new.offset ≤ ahead.old.offset + 257 }
 {
     if ahead.offset() >= LINE_LIMIT {
         return Ok(false);
@@ -79,7 +79,7 @@ pub(crate) fn read_header<S: Source>(
     ensures cause { HasCause (S.faults source.old) (S.faults source.new)
         (IsErrOf result Status.ReadFault) }
     ensures end { IsTrue ahead.new.ended → IsAtEnd (S.left source.new) }
-    ensures fits { ahead.new.offset ≤ ahead.old.offset + 257 }
+    ensures range { ahead.new.offset ≤ ahead.old.offset + 257 }
 {
     let found = next_line(source, ahead, line)?;
     if !found {
@@ -171,7 +171,7 @@ fn read_count<S: Source>(
     ensures cause { HasCause (S.faults source.old) (S.faults source.new)
         (IsErrOf result Status.ReadFault) }
     ensures end { IsTrue ahead.new.ended → IsAtEnd (S.left source.new) }
-    ensures fits { ahead.new.offset ≤ ahead.old.offset + 257 }
+    ensures range { ahead.new.offset ≤ ahead.old.offset + 257 }
 {
     let found = next_line(source, ahead, line)?;
     if !found {

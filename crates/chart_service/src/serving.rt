@@ -37,7 +37,7 @@ fn begin<S: Source, K: Sink>(
     ensures write { HasCause (K.faults sink.old) (K.faults sink.new)
         (IsErrOf result Status.WriteFault) }
     ensures end { IsTrue ahead.new.ended → IsAtEnd (S.left source.new) }
-    ensures fits { OnOk result (ahead.new.offset < 2 ^ 50) }
+    ensures range { OnOk result (ahead.new.offset < 2 ^ 50) }
 {
     let found = read_header(source, ahead, line)?;
     if !found {
@@ -80,7 +80,7 @@ fn turn<S: Source, K: Sink>(
     ensures write { HasCause (K.faults sink.old) (K.faults sink.new)
         (result ≡ Some Status.WriteFault) }
     ensures end { IsTrue ahead.new.ended → IsAtEnd (S.left source.new) }
-    ensures fits { IfNone result
+    ensures range { IfNone result
         ((ahead.old.offset < ahead.new.offset) × (ahead.new.offset < 2 ^ 50)) }
 {
     let start = ahead.offset();

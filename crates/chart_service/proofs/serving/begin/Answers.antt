@@ -54,8 +54,8 @@ returns-in-Ok-Some-clause-ok g c input before comes written =
     c.in-Ok-Some.text.items c.read_text.new.ahead.offset (coming c.read_text.new.ahead (g.S.Source.left c.read_text.new.source)) (rw c.in-Ok-Some.field-0-is at c.in-Ok-Some.ensures.ok)
     (g.K.Sink.written c.open_text.new.sink) c.open_text.result (rw c.as_slice.ensures.value at c.open_text.ensures.ok)
 
-pub returns-in-Ok-Some-clause-fits : goal.returns-in-Ok-Some-clause-fits
-returns-in-Ok-Some-clause-fits g c =
+pub returns-in-Ok-Some-clause-range : goal.returns-in-Ok-Some-clause-range
+returns-in-Ok-Some-clause-range g c =
     let near : c.read_text.new.ahead.offset < 2 ^ 50 = taken_room _ _ _ _ _ (rw c.in-Ok-Some.field-0-is at c.in-Ok-Some.ensures.ok) in
     on_ok _ c.open_text.result near
 
