@@ -5,3 +5,4 @@ pub mod ReadingLemmas
 pub mod OpeningLemmas
 pub mod AnsweringLemmas
 pub mod ProgressLemmas
+pub mod BeginningLemmas

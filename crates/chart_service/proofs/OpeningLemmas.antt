@@ -1,5 +1,5 @@
 -- Accepting a grammar or refusing it, and opening a text.
-use Rattle.std.proofs.Common.{◌≡◌, ℕ, inl, inr, List, length, Option, Some, None, Ok, Err, ◌<◌, ◌≤◌, arith, sym, ◌∙◌, ap, subst, option_map}
+use Rattle.std.proofs.Common.{◌≡◌, ℕ, inl, inr, List, [], length, Option, Some, None, Ok, Err, ◌<◌, ◌≤◌, arith, sym, ◌∙◌, ap, subst, option_map}
 use Rattle.std.specs.Option.{IfSome}
 use Rattle.std.proofs.lemmas.List.{length-map}
 use Rattle.std.proofs.lemmas.Option.{same_Some, none-some}
@@ -10,10 +10,12 @@ use Rattle.spec_lbnf.specs.declared.definition.Def.{Def}
 use Rattle.spec_lbnf.specs.Expansion.{Expansion, expansion_of, symbol_count}
 use Rattle.spec_lbnf.specs.Faults.{Spells, IsFirstFault, FileFault, too_large, is_large}
 use Rattle.spec_lbnf.specs.Checks.{AreFit, IsUnfit, Unfitness}
-use Rattle.spec_session.specs.Replies.{IsRefused, IsRefusedFor, AreAccepted, faulty, unfit, too_many_symbols, fault_reason, unfit_reason, symbols_reason, version_reply}
+use Rattle.spec_session.specs.Script.{opens}
+use Rattle.spec_session.specs.Replies.{IsReply, IsRefused, IsRefusedFor, AreAccepted, faulty, unfit, too_many_symbols, fault_reason, unfit_reason, symbols_reason, version_reply}
 use Rattle.lbnf_text.specs.Reading.{file_fault_of}
 use Rattle.lbnf_text.specs.declared.fault.TextFault.TheVariants.{TooLarge}
 use Rattle.lbnf_grammar.specs.Grammars.{unfitness_of}
+use Rattle.binary_form.specs.BinaryForm.{MakesBinary}
 use Rattle.binary_form.specs.declared.fault.BinaryFault.{BinaryFault}
 use Rattle.binary_form.specs.declared.fault.BinaryFault.TheVariants.{Memory as BinaryMemory, TooManySymbols}
 use Rattle.valiant.specs.Charts.{ChartValue}
@@ -24,31 +26,32 @@ use Rattle.chart_service.specs.declared.status.Status.{Status}
 use Rattle.chart_service.specs.declared.status.Status.TheVariants.{Ok as Fine, BadGrammar, BadScript, ReadFault, WriteFault, OutOfMemory}
 use Rattle.chart_service.specs.Statuses.{IsWriteStop}
 use Rattle.chart_service.specs.Writing.{EndsWith}
-use Rattle.chart_service.specs.Opening.{IsFit, MakesLanguage, ReadsLanguage, reason_of, IsRefusal, IsGrammarLine, EndsAtGrammar, IsOpened, IsTextLine, EndsAtText}
+use Rattle.chart_service.specs.Opening.{HasDistinctNames, ReadsLanguage, reason_of, IsRefusal, IsGrammarLine, EndsAtGrammar, IsOpened, EndsAtText}
 
 -- no category's text stands twice in the grammar that definitions stand for
-spelled_fit : (defs : List Def) (g : Expansion) → g ≡ expansion_of defs → IsFit g
-spelled_fit defs g e = subst IsFit (sym e) (record { distinct = (distinct_names _).once })
+spelled_distinct : (defs : List Def) (g : Expansion) → g ≡ expansion_of defs → HasDistinctNames g
+spelled_distinct defs g e =
+    subst HasDistinctNames (sym e) (record { distinct = (distinct_names _).once })
 
 -- the language of what a block spells is accepted, where the definitions are fit
 pub accepted : (block : List ℕ) (defs : List Def) (g : Expansion) (language : Language)
-    → Spells block defs → AreFit defs → g ≡ expansion_of defs → MakesLanguage g (Ok language)
+    → Spells block defs → AreFit defs → g ≡ expansion_of defs → MakesBinary g (Ok language.binary)
     → ReadsLanguage block (Ok language)
 accepted block defs g language spells fit e made =
-    let same : language.grammar ≡ expansion_of defs = made.1 ∙ e in
+    let same : language.grammar ≡ expansion_of defs = sym language.same ∙ made.1 ∙ e in
     let all : AreAccepted defs = record {
       fit = fit;
       few = subst (λ (x : Expansion). symbol_count x ≤ 2048) e made.0;
     } in
-    ((defs, spells, all, same), spelled_fit defs language.grammar same)
+    ((defs, spells, all, same), spelled_distinct defs language.grammar same)
 
--- a grammar of too many symbols is refused for their count
-pub too_many_symbols_refused : (block : List ℕ) (defs : List Def) (g : Expansion) (fault : BinaryFault)
-    → Spells block defs → AreFit defs → g ≡ expansion_of defs → MakesLanguage g (Err fault)
+-- where there is no binary form, the fault is that of what the block spells
+pub no_language : (block : List ℕ) (defs : List Def) (g : Expansion) (fault : BinaryFault)
+    → Spells block defs → AreFit defs → g ≡ expansion_of defs → MakesBinary g (Err fault)
     → ReadsLanguage block (Err (Binary fault))
-too_many_symbols_refused block defs g BinaryMemory spells fit e made = tt
-too_many_symbols_refused block defs g (TooManySymbols count) spells fit e made =
-    (defs, spells, fit, made.0 ∙ ap symbol_count e, made.1)
+no_language block defs g fault spells fit e made =
+    let IsMade : Expansion → Type 0 = λ x. MakesBinary x (Err fault) in
+    (defs, spells, fit, subst IsMade e made)
 
 -- a block of too many bytes has this as its first fault
 pub too_long : (block : List ℕ) (count : ℕ) → count ≡ length block → 65536 < count
@@ -72,7 +75,9 @@ reason_is block (Grammar fault) reason h is =
     unfit h.0 why.0 h.1 why.1 why.2
 reason_is block (Binary BinaryMemory) reason h is = absurd (none-some reason is)
 reason_is block (Binary (TooManySymbols count)) reason h is =
-    too_many_symbols h.0 h.1 h.2 (omega (arith, h.3, h.4)) (sym (same_Some (symbols_reason count) reason is) ∙ ap symbols_reason h.3)
+    let made : MakesBinary (expansion_of h.0) (Err (TooManySymbols count)) = h.3 in
+    too_many_symbols h.0 h.1 h.2 (omega (arith, made.0, made.1))
+    (sym (same_Some (symbols_reason count) reason is) ∙ ap symbols_reason made.0)
 
 -- the line that refuses is the fault's
 pub refusal_is : (block : List ℕ) (fault : LanguageFault) (line : List ℕ) → ReadsLanguage block (Err fault) → IsRefusal fault line → IsRefused block line
@@ -102,7 +107,7 @@ cut_text g chart text old new o count e cut status stop = by_status status stop
     line : List ℕ
     line = version_reply 0 count
 
-    is_line : IsTextLine g text line
+    is_line : IsReply g [] (opens text) line
     is_line = (o.0, (o.1).are_tokens, ap (version_reply 0) (e ∙ chart_len g chart text o.0 o.1))
 
     by_status : (status : Status) → IsWriteStop status → EndsAtText g text old new status

@@ -5,7 +5,7 @@ use Rattle.cyk_io.specs.Streams.{Takes, Grows, GrowsByPrefix}
 use Rattle.cyk_io.specs.Lines.{IsLine}
 use Rattle.spec_lbnf.specs.Expansion.{Expansion}
 use Rattle.spec_session.specs.Script.{Constituent, Command, header, grammar, opens, has, line_of, block_of, text_of, IsWithinLimits, AreQuestions, IsInOrder, Begins, Ending, ended, broken, EndsAs, IsScript}
-use Rattle.spec_session.specs.Replies.{IsAccepted, IsAnswer, grammar_reply, version_reply}
+use Rattle.spec_session.specs.Replies.{IsAccepted, IsReply, IsAnswer, grammar_reply, version_reply}
 use Rattle.spec_session.specs.Sessions.{AreReplies, AreAllReplies, IsSession, refused, whole, last_line, last_status}
 use Rattle.spec_session.proofs.ScriptLemmas.{tested, each_differs, lacks_if_each_differs, cut_same, command_line, line_lacks_lf, line_is_short}
 use Rattle.spec_session.proofs.SessionsLemmas.{replies_come_first, replies_then_last_line, refusal_is_all}
@@ -18,7 +18,7 @@ use Rattle.chart_service.specs.Writing.{EndsWith}
 use Rattle.chart_service.specs.Serving.{IsFaultStatus, IsPrefixOfSession}
 use Rattle.chart_service.specs.Reading.{NextLine, TakesCommand, NoneComes, IsHeader, IsGrammar, IsText}
 use Rattle.chart_service.specs.Forms.{ReadsHas, IsHas}
-use Rattle.chart_service.specs.Opening.{IsGrammarLine, EndsAtGrammar, IsTextLine, EndsAtText, HasOpened, OpensText}
+use Rattle.chart_service.specs.Opening.{IsGrammarLine, EndsAtGrammar, EndsAtText, HasOpened, OpensText}
 use Rattle.chart_service.specs.Progress.{Running, Ends, Begun}
 
 -- the statuses of faults
@@ -124,14 +124,14 @@ module _ (input before : List ℕ) where
   pub ended_at_text : (block text : List ℕ) (g : Expansion) → IsAccepted block g → (mid : ℕ) (mid_rest : List ℕ) → Begins 0 input (header ∷ grammar block ∷ []) mid mid_rest → (at : ℕ) (rest : List ℕ) → Begins 0 input (header ∷ grammar block ∷ opens text ∷ []) at rest → (old new : Option (List ℕ)) → old ≡ Some (before ++ grammar_reply g) → (status : Status) → EndsAtText g text old new status → Ends input before new status
   ended_at_text block text g accepted mid mid_rest mid_begins at rest begins old new written status h = by_status status h
     where
-      sure : (line : List ℕ) → IsTextLine g text line → (out : List ℕ) (n : ℕ) → IsSession input out n → (more : List ℕ) × (out ≡ (grammar_reply g ++ line) ++ more)
+      sure : (line : List ℕ) → IsReply g [] (opens text) line → (out : List ℕ) (n : ℕ) → IsSession input out n → (more : List ℕ) × (out ≡ (grammar_reply g ++ line) ++ more)
       sure line t out n s =
           let told = text_told g block text t.0 [] [] accepted t.1 refl in
           let first = replies_come_first input (header ∷ grammar block ∷ opens text ∷ []) at rest _ begins tt told out n s in
           let short : version_reply 0 (length t.0) ++ [] ≡ line = append-nil (version_reply 0 (length t.0)) ∙ sym t.2 in
           (first.0, first.1 ∙ ap (λ bytes. (grammar_reply g ++ bytes) ++ first.0) short)
 
-      by_line : (line : List ℕ) → IsTextLine g text line → GrowsByPrefix old new line → (status : Status) → IsFaultStatus (number_of status) → Ends input before new status
+      by_line : (line : List ℕ) → IsReply g [] (opens text) line → GrowsByPrefix old new line → (status : Status) → IsFaultStatus (number_of status) → Ends input before new status
       by_line line t cut status fault = cut_short (grammar_reply g) line (sure line t) old new written cut status fault
 
       before_text : (out : List ℕ) (n : ℕ) → IsSession input out n → (more : List ℕ) × (out ≡ grammar_reply g ++ more)
@@ -285,130 +285,3 @@ module _ (input before : List ℕ) (coming : Option (List ℕ)) (at : ℕ) (now 
         cut_behind input before (header ∷ grammar r.block ∷ opens r.text ∷ (r.questions ++ has constituent ∷ [])) to behind.0 told line are_more begins_more
         (subst P (sym (longer line)) (text_told opened.language.grammar r.block r.text r.tokens (r.questions ++ has constituent ∷ []) (r.replies ++ line) r.accepted (r.is_opened).are_tokens replies_are))
         now new r.has_written cut status fault
-
--- a command is short
-text_is_short : (command : Command) → IsWithinLimits command → length (text_of command) ≤ 2 ^ 30
-text_is_short command w = omega (arith, length-append (line_of command) (10 ∷ block_of command), line_is_short command w, block_is_short command w)
-  where
-    block_is_short : (command : Command) → IsWithinLimits command → length (block_of command) ≤ 10 ^ 9
-    block_is_short header w = omega arith
-    block_is_short (grammar block) w = omega (arith, w, length-append block (10 ∷ []))
-    block_is_short (opens text) w = omega (arith, w.0, length-append text (10 ∷ []))
-    block_is_short (has constituent) w = omega arith
-
--- so its end is not far
-pub taken_room : (from to : ℕ) (old new : Option (List ℕ)) (command : Command) → TakesCommand from to old new command → to < 2 ^ 50
-taken_room from to old new command t = omega (arith, t.early, t.offset, text_is_short command t.within_limits)
-
--- the command in its place
-is_header : (command : Command) → IsInOrder (command ∷ []) → IsHeader command
-is_header header h = tt
-is_header (grammar block) h = absurd h
-is_header (opens text) h = absurd h
-is_header (has constituent) h = absurd h
-
-is_grammar : (command : Command) → IsInOrder (header ∷ command ∷ []) → IsGrammar command
-is_grammar header h = absurd h
-is_grammar (grammar block) h = tt
-is_grammar (opens text) h = absurd h
-is_grammar (has constituent) h = absurd h
-
-is_text : (block : List ℕ) (command : Command) → IsInOrder (header ∷ grammar block ∷ command ∷ []) → IsText command
-is_text block header h = absurd h
-is_text block (grammar other) h = absurd h
-is_text block (opens text) h = tt
-is_text block (has constituent) h = absurd h
-
-module _ (input before : List ℕ) (from : ℕ) (at_start : from ≡ 0) (coming : Option (List ℕ)) (comes : coming ≡ Some input) (old : Option (List ℕ)) (written : old ≡ Some before) where
-  none_yet : old ≡ Some (before ++ [])
-  none_yet = written ∙ ap Some (sym (append-nil before))
-
-  -- no header comes
-  pub no_header : NoneComes IsHeader from coming → (new : Option (List ℕ)) (status : Status) → EndsWith old new (last_line (broken 0)) BadScript status → Ends input before new status
-  no_header none new status says =
-      last input before [] 0 input [] tt (refl, refl) refl (broken 0)
-      (refl, (λ go. none input comes (omega (arith, at_start)) go.command go.more (is_header go.command go.in_order) go.within_limits go.spelled), λ end. end.complete)
-      old new none_yet BadScript status refl says
-
-  -- the header was taken
-  module _ (at : ℕ) (next : Option (List ℕ)) (taken : TakesCommand from at coming next header) where
-    header_begins : (rest : List ℕ) × (next ≡ Some rest) × Begins 0 input (header ∷ []) at rest
-    header_begins =
-        let t = taken.taken input comes in
-        (t.0, t.1, Begins-append 0 input [] 0 input (refl, refl) header t.0 (omega arith) tt t.2 at (taken.offset ∙ ap (λ n. n + length (text_of header)) at_start))
-
-    -- no grammar comes
-    pub no_grammar : NoneComes IsGrammar at next → (place : ℕ) → place ≡ at → (new : Option (List ℕ)) (status : Status) → EndsWith old new (last_line (broken place)) BadScript status → Ends input before new status
-    no_grammar none place e new status says =
-        let b = header_begins in
-        last input before (header ∷ []) at b.0 [] tt b.2 refl (broken place)
-        (e, (λ go. none b.0 b.1 go.early go.command go.more (is_grammar go.command go.in_order) go.within_limits go.spelled), λ end. end.complete)
-        old new none_yet BadScript status refl says
-
-    -- a grammar was taken
-    module _ (block : List ℕ) (behind : ℕ) (later : Option (List ℕ)) (grammar_taken : TakesCommand at behind next later (grammar block)) where
-      grammar_begins : (rest : List ℕ) × (later ≡ Some rest) × Begins 0 input (header ∷ grammar block ∷ []) behind rest
-      grammar_begins =
-          let b = header_begins in
-          let t = grammar_taken.taken b.0 b.1 in
-          (t.0, t.1, Begins-append 0 input (header ∷ []) at b.0 b.2 (grammar block) t.0 grammar_taken.early grammar_taken.within_limits t.2 behind grammar_taken.offset)
-
-      -- the session ends there
-      pub grammar_ends : (new : Option (List ℕ)) (status : Status) → EndsAtGrammar block old new status → Ends input before new status
-      grammar_ends new status h = ended_at_grammar input before block behind grammar_begins.0 grammar_begins.2 old new written status h
-
-      -- it was accepted
-      module _ (g : Expansion) (accepted : IsAccepted block g) (mid : Option (List ℕ)) (replied : Grows old mid (grammar_reply g)) where
-        reply_written : mid ≡ Some (before ++ grammar_reply g)
-        reply_written = replied before written
-
-        -- a fault came
-        pub text_stopped : (status : Status) → IsFaultStatus (number_of status) → Ends input before mid status
-        text_stopped status fault =
-            stopped_behind input before (header ∷ grammar block ∷ []) behind grammar_begins.0 (grammar_reply g) tt grammar_begins.2 (grammar_told g block accepted) mid reply_written status fault
-
-        -- no text comes
-        pub no_text : NoneComes IsText behind later → (place : ℕ) → place ≡ behind → (new : Option (List ℕ)) (status : Status) → EndsWith mid new (last_line (broken place)) BadScript status → Ends input before new status
-        no_text none place e new status says =
-            let b = grammar_begins in
-            last input before (header ∷ grammar block ∷ []) behind b.0 (grammar_reply g) tt b.2 (grammar_told g block accepted) (broken place)
-            (e, (λ go. none b.0 b.1 go.early go.command go.more (is_text block go.command go.in_order) go.within_limits go.spelled), λ end. end.complete)
-            mid new reply_written BadScript status refl says
-
-        -- a text was taken, and opened or not
-        module _ (text : List ℕ) (end : ℕ) (rest_later : Option (List ℕ)) (text_taken : TakesCommand behind end later rest_later (opens text)) where
-          text_begins : (rest : List ℕ) × (rest_later ≡ Some rest) × Begins 0 input (header ∷ grammar block ∷ opens text ∷ []) end rest
-          text_begins =
-              let b = grammar_begins in
-              let t = text_taken.taken b.0 b.1 in
-              (t.0, t.1, Begins-append 0 input (header ∷ grammar block ∷ []) behind b.0 b.2 (opens text) t.0 text_taken.early text_taken.within_limits t.2 end text_taken.offset)
-
-          opened_runs : (new : Option (List ℕ)) (opened : Opened) → HasOpened g text mid new opened → Running input before rest_later end new opened
-          opened_runs new opened h = record {
-            block = block;
-            text = text;
-            tokens = h.tokens;
-            questions = [];
-            replies = [];
-            rest = text_begins.0;
-            comes = text_begins.1;
-            are_questions = tt;
-            begins = text_begins.2;
-            accepted = subst (IsAccepted block) (sym h.grammar) accepted;
-            is_opened = h.is_opened;
-            are_replies = refl;
-            has_written = h.written (before ++ grammar_reply g) reply_written ∙ ap Some (append_assoc before (grammar_reply g) (version_reply 0 (length h.tokens)) ∙ ap (λ bytes. before ++ bytes) same_reply);
-          }
-            where
-              same_reply : grammar_reply g ++ version_reply 0 (length h.tokens) ≡ grammar_reply opened.language.grammar ++ (version_reply 0 (length h.tokens) ++ [])
-              same_reply = ap (λ (x : Expansion). grammar_reply x ++ version_reply 0 (length h.tokens)) (sym h.grammar) ∙ ap (λ bytes. grammar_reply opened.language.grammar ++ bytes) (sym (append-nil (version_reply 0 (length h.tokens))))
-
-          pub text_opened : (new : Option (List ℕ)) (r : Result Opened Status) → OpensText g text mid new r → Begun input before rest_later end new r
-          text_opened new (Ok opened) h = opened_runs new opened h
-          text_opened new (Err status) h =
-              ended_at_text input before block text g accepted behind grammar_begins.0 grammar_begins.2 end text_begins.0 text_begins.2 mid new reply_written status h
-
--- what holds anyway
-pub on_ok : {X E : Type 0} (P : Type 0) (r : Result X E) → P → OnOk r P
-on_ok P (Ok x) h = h
-on_ok P (Err e) h = tt

@@ -12,9 +12,11 @@ use Rattle.cyk_io.specs.declared.block.ReadBlock.TheVariants.{Kept, Skipped}
 use Rattle.cyk_io.specs.declared.line.ReadLine.TheVariants.{LongLine, Ended}
 use Rattle.spec_session.specs.Script.{Command, header, grammar, opens, has, line_of, text_of, IsWithinLimits}
 use Rattle.spec_session.proofs.ScriptLemmas.{tested, each_differs, lacks_if_each_differs, lacks_joined, cut_same, same_rest, same_front, same_back, digits_lack, line_lacks_lf, line_is_short, command_line}
+use Rattle.chart_service.specs.declared.status.Status.{Status}
+use Rattle.chart_service.specs.Forms.{ReadsCount}
 use Rattle.chart_service.specs.declared.reading.Block.{Block}
-use Rattle.chart_service.specs.declared.reading.Block.TheVariants.{Kept as KeptBlock, TooLong}
-use Rattle.chart_service.specs.Reading.{NextLine, NextBlock, PassesBlock, IsBlock, Finds, NextCounted, counted_text, TakesCommand, NoneComes, IsHeader, IsGrammar, NextHeader, NextGrammar, NextText}
+use Rattle.chart_service.specs.declared.reading.Block.TheVariants.{TooLong}
+use Rattle.chart_service.specs.Reading.{NextLine, NextBlock, PassesBlock, IsBlock, Finds, NextCount, TakesCommand, NoneComes, IsHeader, IsGrammar, NextHeader, NextGrammar, NextText}
 
 -- a line does not end within bytes that have no LF
 no_line_within : (front rest line more : List ℕ) → HasNoLf front → length line < length front → front ++ rest ≡ line ++ (10 ∷ more) → ⊥
@@ -115,13 +117,6 @@ module _ (keep : ℕ) (P : Option (List ℕ) → Type 0) where
   found_block found (None, is, h) = absurd is
   found_block found (Some block, is, h) = (block, is, h)
 
-  -- bytes that were found are the block that comes
-  pub found_bytes : (bytes : Vec ℕ Global) → Finds keep P (Some (KeptBlock bytes)) → P (Some bytes.items)
-  found_bytes bytes (None, is, h) = absurd is
-  found_bytes bytes (Some block, is, h) =
-      let Q : List ℕ → Type 0 = λ items. P (Some items) in
-      subst Q (sym is.0) h
-
   -- where none was found, none comes
   pub found_none : Finds keep P None → P None
   found_none (None, is, h) = h
@@ -138,48 +133,117 @@ pub found_grammar : (from to : ℕ) (old new : Option (List ℕ)) (found : Block
     → (block : List ℕ) × IsBlock 65536 found block × TakesCommand from to old new (grammar block)
 found_grammar from to old new found h = found_block 65536 (NextGrammar from to old new) found h
 
--- a command with a block, read as its line and then its block
-module _ (beginning : List ℕ) (most from : ℕ) (old : Option (List ℕ)) where
-  rest_of : (block more told : List ℕ) → told ≡ counted_text beginning block ++ more → told ≡ (beginning ++ decimal (length block)) ++ (10 ∷ (block ++ (10 ∷ more)))
-  rest_of block more told e =
-      e ∙ append_assoc (beginning ++ decimal (length block)) (10 ∷ (block ++ 10 ∷ [])) more
-      ∙ ap (λ bytes. (beginning ++ decimal (length block)) ++ (10 ∷ bytes)) (append_assoc block (10 ∷ []) more)
+-- a line that begins so and ends in a number
+module _ (beginning : List ℕ) (most from to : ℕ) (old new : Option (List ℕ)) (line : List ℕ) where
+  -- where no line comes, none of these does
+  pub no_line_no_count : NextLine from to old new line false
+      → NextCount beginning most from to old new None
+  no_line_no_count h told is early count more within w e =
+      h told is early (beginning ++ decimal count) more w e
 
-  pub counted_no_line : (to to' : ℕ) (new new' : Option (List ℕ)) (line : List ℕ) → NextLine from to old new line false → NextCounted beginning most from to' old new' None
-  counted_no_line to to' new new' line h told is early block more within w e =
-      h told is early (beginning ++ decimal (length block)) (block ++ (10 ∷ more)) w (rest_of block more told e)
-
-  module _ (mid_at : ℕ) (mid : Option (List ℕ)) (line : List ℕ) (taken : NextLine from mid_at old mid line true) where
-    line_is : (told block more : List ℕ) (is : old ≡ Some told) → IsLine 256 (beginning ++ decimal (length block)) → told ≡ counted_text beginning block ++ more → (rest : List ℕ) × (mid ≡ Some rest) × (line ≡ beginning ++ decimal (length block)) × (rest ≡ block ++ (10 ∷ more))
-    line_is told block more is w e =
+  module _ (taken : NextLine from to old new line true) where
+    -- a line without a count is none of these
+    no_count : most < 10 ^ 9 → ReadsCount line beginning most None
+        → NextCount beginning most from to old new None
+    no_count small other told is early count more within w e =
         let t = taken.1 told is in
-        let same = cut_same 10 line t.0 (beginning ++ decimal (length block)) (block ++ (10 ∷ more)) (lacks_if_each_differs 10 line taken.2.0) (lacks_if_each_differs 10 (beginning ++ decimal (length block)) w.0) (sym (append_assoc line (10 ∷ []) t.0) ∙ sym t.2 ∙ rest_of block more told e) in
+        let whole : line ++ (10 ∷ t.0) ≡ (beginning ++ decimal count) ++ (10 ∷ more) =
+        sym (append_assoc line (10 ∷ []) t.0) ∙ sym t.2 ∙ e in
+        let same = cut_same 10 line t.0 (beginning ++ decimal count) more
+        (lacks_if_each_differs 10 line taken.2.0)
+        (lacks_if_each_differs 10 (beginning ++ decimal count) w.0) whole in
+        other count (omega arith) within same.0
+
+    -- by cases on whether the line has a count
+    pub by_count : most < 10 ^ 9 → (r : Option ℕ) → ReadsCount line beginning most r
+        → NextCount beginning most from to old new r
+    by_count small None h = no_count small h
+    by_count small (Some count) h =
+        let IsTaken : List ℕ → Type 0 = λ bytes. NextLine from to old new bytes true in
+        (h.1, subst IsTaken h.2 taken)
+
+-- the line of a block's command, and the block
+abbrev pub counted_text : List ℕ → List ℕ → List ℕ
+counted_text beginning block = (beginning ++ decimal (length block)) ++ (10 ∷ (block ++ 10 ∷ []))
+
+-- a command that begins so and has a block of at most so many bytes was taken, or does not come
+abbrev pub NextCounted : List ℕ → ℕ → ℕ → ℕ → Option (List ℕ) → Option (List ℕ)
+    → Option (List ℕ) → Type 0
+NextCounted beginning most from to old new (Some block) =
+    (from < 2 ^ 48) × (length block ≤ most) × Takes old new (counted_text beginning block)
+    × (to ≡ from + length (counted_text beginning block))
+NextCounted beginning most from to old new None =
+    (told : List ℕ) → old ≡ Some told → from < 2 ^ 48 → (block more : List ℕ) → length block ≤ most
+    → IsLine 256 (beginning ++ decimal (length block))
+    → told ≡ counted_text beginning block ++ more → ⊥
+
+-- a command with a block, read as its line and then its block
+module _ (beginning : List ℕ) (most from mid_at to : ℕ) (old mid new : Option (List ℕ)) where
+  -- its line comes first
+  line_first : (block more told : List ℕ) → told ≡ counted_text beginning block ++ more
+      → told ≡ (beginning ++ decimal (length block)) ++ (10 ∷ (block ++ (10 ∷ more)))
+  line_first block more told e =
+      e ∙ append_assoc (beginning ++ decimal (length block)) (10 ∷ (block ++ 10 ∷ [])) more
+      ∙ ap (λ bytes. (beginning ++ decimal (length block)) ++ (10 ∷ bytes))
+      (append_assoc block (10 ∷ []) more)
+
+  -- where its line does not come, it does not
+  pub uncounted : NextCount beginning most from mid_at old mid None
+      → NextCounted beginning most from to old new None
+  uncounted none told is early block more within w e =
+      none told is early (length block) (block ++ (10 ∷ more)) within w (line_first block more told e)
+
+  module _ (count : ℕ) (bound : most < 10 ^ 9)
+      (taken : NextCount beginning most from mid_at old mid (Some count)) where
+    -- a command that comes has this line, and its block stands behind it
+    line_is : (told block more : List ℕ) → old ≡ Some told
+        → IsLine 256 (beginning ++ decimal (length block)) → told ≡ counted_text beginning block ++ more
+        → (rest : List ℕ) × (mid ≡ Some rest)
+        × (beginning ++ decimal count ≡ beginning ++ decimal (length block))
+        × (rest ≡ block ++ (10 ∷ more))
+    line_is told block more is w e =
+        let line : List ℕ = beginning ++ decimal count in
+        let t = taken.1.1 told is in
+        let whole : line ++ (10 ∷ t.0)
+        ≡ (beginning ++ decimal (length block)) ++ (10 ∷ (block ++ (10 ∷ more))) =
+        sym (append_assoc line (10 ∷ []) t.0) ∙ sym t.2 ∙ line_first block more told e in
+        let same = cut_same 10 line t.0 (beginning ++ decimal (length block)) (block ++ (10 ∷ more))
+        (lacks_if_each_differs 10 line taken.1.2.0)
+        (lacks_if_each_differs 10 (beginning ++ decimal (length block)) w.0) whole in
         (t.0, t.1, same.0, same.1)
 
-    pub counted_no_count : (to : ℕ) (new : Option (List ℕ)) → most < 10 ^ 9 → ((n : ℕ) → n < 10 ^ 9 → n ≤ most → line ≡ beginning ++ decimal n → ⊥) → NextCounted beginning most from to old new None
-    counted_no_count to new small other told is early block more within w e =
-        other (length block) (omega arith) within (line_is told block more is w e).2
+    -- a block behind the line is the command's
+    counted_block : (block : List ℕ) → NextBlock count mid_at to mid new (Some block)
+        → NextCounted beginning most from to old new (Some block)
+    counted_block block h =
+        let line : List ℕ = beginning ++ decimal count in
+        let is_line : line ≡ beginning ++ decimal (length block) =
+        ap (λ n. beginning ++ decimal n) (sym h.1) in
+        let whole : (line ++ 10 ∷ []) ++ (block ++ 10 ∷ []) ≡ counted_text beginning block =
+        append_assoc line (10 ∷ []) (block ++ 10 ∷ [])
+        ∙ ap (λ bytes. bytes ++ (10 ∷ (block ++ 10 ∷ []))) is_line in
+        let both = takes_both old mid new (line ++ 10 ∷ []) (block ++ 10 ∷ []) taken.1.1 h.0 in
+        let IsTaken : List ℕ → Type 0 = Takes old new in
+        let long : length (counted_text beginning block) ≡ length line + suc (length block + 1) =
+        sym (ap length whole) ∙ length-append (line ++ 10 ∷ []) (block ++ 10 ∷ [])
+        ∙ omega (arith, length-append line (10 ∷ []), length-append block (10 ∷ [])) in
+        (taken.1.0, omega (arith, h.1, taken.0), subst IsTaken whole both, omega (arith, taken.1.3, h.2, long))
 
-    module _ (count to : ℕ) (new : Option (List ℕ)) (small : count < 10 ^ 9) (within : count ≤ most) (bound : most < 10 ^ 9) (spelled : line ≡ beginning ++ decimal count) where
-      counted_block : (block : List ℕ) → NextBlock count mid_at to mid new (Some block) → NextCounted beginning most from to old new (Some block)
-      counted_block block h =
-          let size : count ≡ length block = sym h.1 in
-          let is_line : line ≡ beginning ++ decimal (length block) = spelled ∙ ap (λ n. beginning ++ decimal n) size in
-          let whole : (line ++ 10 ∷ []) ++ (block ++ 10 ∷ []) ≡ counted_text beginning block = append_assoc line (10 ∷ []) (block ++ 10 ∷ []) ∙ ap (λ bytes. bytes ++ (10 ∷ (block ++ 10 ∷ []))) is_line in
-          let both = takes_both old mid new (line ++ 10 ∷ []) (block ++ 10 ∷ []) taken.1 h.0 in
-          let P : List ℕ → Type 0 = Takes old new in
-          let long : length (counted_text beginning block) ≡ length line + suc (length block + 1) = sym (ap length whole) ∙ length-append (line ++ 10 ∷ []) (block ++ 10 ∷ []) ∙ omega (arith, length-append line (10 ∷ []), length-append block (10 ∷ [])) in
-          (taken.0, omega (arith, h.1), subst P whole both, omega (arith, taken.3, h.2, long))
+    -- without a block behind the line, none comes
+    counted_no_block : NextBlock count mid_at to mid new None
+        → NextCounted beginning most from to old new None
+    counted_no_block h told is early block more few w e =
+        let l = line_is told block more is w e in
+        let same : decimal (length block) ≡ decimal count =
+        same_rest beginning (decimal (length block)) (decimal count) (sym l.2) in
+        let few_bytes : count < 10 ^ 9 = omega (arith, bound, taken.0) in
+        h l.0 l.1 block more (decimal_injective (length block) count (omega arith) (omega arith) same) l.3
 
-      counted_no_block : NextBlock count mid_at to mid new None → NextCounted beginning most from to old new None
-      counted_no_block h told is early block more few w e =
-          let l = line_is told block more is w e in
-          let same : decimal (length block) ≡ decimal count = same_rest beginning (decimal (length block)) (decimal count) (sym l.2 ∙ spelled) in
-          h l.0 l.1 block more (decimal_injective (length block) count (omega arith) (omega arith) same) l.3
-
-      pub counted : (r : Option (List ℕ)) → NextBlock count mid_at to mid new r → NextCounted beginning most from to old new r
-      counted None h = counted_no_block h
-      counted (Some block) h = counted_block block h
+    -- by cases on the block
+    pub counted : (r : Option (List ℕ)) → NextBlock count mid_at to mid new r
+        → NextCounted beginning most from to old new r
+    counted None h = counted_no_block h
+    counted (Some block) h = counted_block block h
 
 -- the commands by their lines
 module _ (from : ℕ) (old : Option (List ℕ)) where
@@ -217,21 +281,40 @@ module _ (from : ℕ) (old : Option (List ℕ)) where
     no_grammar h told is early (opens text) more one w e = absurd one
     no_grammar h told is early (has constituent) more one w e = absurd one
 
-    pub next_grammar : (r : Option (List ℕ)) → NextCounted (codes "grammar ") 999999999 from to old new r → NextGrammar from to old new r
+    next_grammar : (r : Option (List ℕ)) → NextCounted (codes "grammar ") 999999999 from to old new r → NextGrammar from to old new r
     next_grammar (Some block) h = grammar_taken block h
     next_grammar None h = no_grammar h
 
+    module _ (mid_at : ℕ) (mid : Option (List ℕ)) where
+      -- where its line does not come
+      pub no_grammar_line : NextCount (codes "grammar ") 999999999 from mid_at old mid None
+          → Finds 65536 (NextGrammar from to old new) None
+      no_grammar_line none =
+          (None, tt, no_grammar (uncounted (codes "grammar ") 999999999 from mid_at to old mid new none))
+
+      -- what was found behind its line
+      pub grammar_behind : (count : ℕ)
+          → NextCount (codes "grammar ") 999999999 from mid_at old mid (Some count)
+          → (r : Result (Option Block) Status) → IfOk r (Finds 65536 (NextBlock count mid_at to mid new))
+          → IfOk r (Finds 65536 (NextGrammar from to old new))
+      grammar_behind count taken r h =
+          let IsBehind : Option (List ℕ) → Type 0 = NextBlock count mid_at to mid new in
+          let IsNext : Option (List ℕ) → Type 0 = NextGrammar from to old new in
+          if_ok_more (Finds 65536 IsBehind) (Finds 65536 IsNext) r
+          (finds_more 65536 IsBehind IsNext (λ next is. next_grammar next
+          (counted (codes "grammar ") 999999999 from mid_at to old mid new count (omega arith) taken next is))) h
+
     -- a text
-    pub next_text : (text : List ℕ) → NextCounted (codes "open ") 4096 from to old new (Some text) → IsAscii text → NextText from to old new (Some text)
+    next_text : (text : List ℕ) → NextCounted (codes "open ") 4096 from to old new (Some text) → IsAscii text → NextText from to old new (Some text)
     next_text text h ascii = record { early = h.0; within_limits = (h.1, ascii); taken = h.2; offset = h.3 }
 
-    pub no_text : NextCounted (codes "open ") 4096 from to old new None → NextText from to old new None
+    no_text : NextCounted (codes "open ") 4096 from to old new None → NextText from to old new None
     no_text h told is early header more one w e = absurd one
     no_text h told is early (grammar block) more one w e = absurd one
     no_text h told is early (opens text) more one w e = h told is early text more w.0 (line_within (opens text) w) e
     no_text h told is early (has constituent) more one w e = absurd one
 
-    pub no_ascii_text : (text : List ℕ) → NextCounted (codes "open ") 4096 from to old new (Some text) → (IsAscii text → ⊥) → NextText from to old new None
+    no_ascii_text : (text : List ℕ) → NextCounted (codes "open ") 4096 from to old new (Some text) → (IsAscii text → ⊥) → NextText from to old new None
     no_ascii_text text h other told is early header more one w e = absurd one
     no_ascii_text text h other told is early (grammar block) more one w e = absurd one
     no_ascii_text text h other told is early (opens wanted) more one w e =
@@ -251,8 +334,30 @@ module _ (from : ℕ) (old : Option (List ℕ)) where
     by_test line text false h e f = other_line line h (λ same. let now : pointwise nat_eq text (codes "script 1") ≡ true = (bytes_decides text (codes "script 1")).1 (e ∙ same) in let never : false ≡ true = f ∙ now in cc)
 
     -- the text, by the code's test
-    pub by_ascii : (text : List ℕ) → NextCounted (codes "open ") 4096 from to old new (Some text) → (r : Option (Vec ℕ Global)) → MatchOption r (IsAscii text → ⊥) (λ same. (same.items ≡ text) × IsAscii same.items) → NextText from to old new (option_map (λ t. t.items) r)
+    by_ascii : (text : List ℕ) → NextCounted (codes "open ") 4096 from to old new (Some text) → (r : Option (Vec ℕ Global)) → MatchOption r (IsAscii text → ⊥) (λ same. (same.items ≡ text) × IsAscii same.items) → NextText from to old new (option_map (λ t. t.items) r)
     by_ascii text h None other = no_ascii_text text h other
     by_ascii text h (Some same) is =
         let P : List ℕ → Type 0 = λ bytes. NextCounted (codes "open ") 4096 from to old new (Some bytes) in
         next_text same.items (subst P (sym is.0) h) is.1
+
+    module _ (mid_at : ℕ) (mid : Option (List ℕ)) where
+      -- where its line does not come
+      pub no_text_line : NextCount (codes "open ") 4096 from mid_at old mid None
+          → NextText from to old new None
+      no_text_line none = no_text (uncounted (codes "open ") 4096 from mid_at to old mid new none)
+
+      module _ (count : ℕ) (taken : NextCount (codes "open ") 4096 from mid_at old mid (Some count)) where
+        behind_line : (r : Option (List ℕ)) → NextBlock count mid_at to mid new r
+            → NextCounted (codes "open ") 4096 from to old new r
+        behind_line = counted (codes "open ") 4096 from mid_at to old mid new count (omega arith) taken
+
+        -- where no block stands behind it
+        pub no_text_block : NextBlock count mid_at to mid new None → NextText from to old new None
+        no_text_block h = no_text (behind_line None h)
+
+        -- the block behind it is a text, where its bytes are ASCII
+        pub text_behind : (text : List ℕ) → NextBlock count mid_at to mid new (Some text)
+            → (r : Option (Vec ℕ Global))
+            → MatchOption r (IsAscii text → ⊥) (λ same. (same.items ≡ text) × IsAscii same.items)
+            → NextText from to old new (option_map (λ t. t.items) r)
+        text_behind text h = by_ascii text (behind_line (Some text) h)

@@ -1,14 +1,15 @@
 -- Serves the proofs alone: what is known of a grammar that was accepted and of a text that is open
 -- under it.
-use Rattle.std.specs.Prelude.{◌≡◌, ◌<◌, ◌≤◌, ℕ, ◌⊎◌, List, length, slice_get, Some}
+use Rattle.std.specs.Prelude.{◌≡◌, ℕ, ◌⊎◌, List, [], length, slice_get, Some}
 use Rattle.std.specs.Prelude.{Option, None, Result, Ok, Err, option_map}
 use Rattle.spec_lexing.specs.declared.token.Token.{Token}
 use Rattle.spec_lexing.specs.Tokens.{AreTokensOf, kinds_of}
 use Rattle.spec_lbnf.specs.declared.definition.Def.{Def}
-use Rattle.spec_lbnf.specs.Expansion.{Expansion, expansion_of, symbol_count}
+use Rattle.spec_lbnf.specs.Expansion.{Expansion, expansion_of}
 use Rattle.spec_lbnf.specs.Faults.{Spells}
 use Rattle.spec_lbnf.specs.Checks.{AreFit}
-use Rattle.spec_session.specs.Replies.{IsAccepted, IsRefused, fault_reason, unfit_reason}
+use Rattle.spec_session.specs.Script.{opens}
+use Rattle.spec_session.specs.Replies.{IsAccepted, IsRefused, IsReply, fault_reason, unfit_reason}
 use Rattle.spec_session.specs.Replies.{symbols_reason, refusal_line}
 use Rattle.spec_session.specs.Replies.{grammar_reply, version_reply}
 use Rattle.cyk_io.specs.Streams.{Grows, GrowsByPrefix, Stays}
@@ -16,7 +17,7 @@ use Rattle.lbnf_text.specs.declared.fault.TextFault.{TextFault}
 use Rattle.lbnf_text.specs.Reading.{file_fault_of, ReadsDefs}
 use Rattle.lbnf_grammar.specs.declared.fault.GrammarFault.{GrammarFault}
 use Rattle.lbnf_grammar.specs.Grammars.{unfitness_of, Expands}
-use Rattle.binary_form.specs.declared.fault.BinaryFault.{BinaryFault}
+use Rattle.binary_form.specs.BinaryForm.{MakesBinary}
 use Rattle.binary_form.specs.declared.fault.BinaryFault.TheVariants.{Memory as BinaryMemory}
 use Rattle.binary_form.specs.declared.fault.BinaryFault.TheVariants.{TooManySymbols}
 use Rattle.valiant.specs.Charts.{ChartValue, IsChartOf}
@@ -30,32 +31,26 @@ use Rattle.chart_service.specs.declared.status.Status.TheVariants.{BadScript, Re
 use Rattle.chart_service.specs.declared.status.Status.TheVariants.{OutOfMemory}
 
 -- no category's text stands twice
-pub record IsFit (g : Expansion) : Type 0 where
+pub record HasDistinctNames (g : Expansion) : Type 0 where
   pub distinct : (c d : ℕ) (name : List ℕ) → slice_get g.categories c ≡ Some name
       → slice_get g.categories d ≡ Some name → c ≡ d
 
--- the language is the grammar's, or the grammar has too many symbols; want of memory comes at no
--- grammar of too many
-abbrev pub MakesLanguage : Expansion → Result Language BinaryFault → Type 0
-MakesLanguage g (Ok language) = (symbol_count g ≤ 2048) × (language.grammar ≡ g)
-MakesLanguage g (Err BinaryMemory) = symbol_count g ≤ 2048
-MakesLanguage g (Err (TooManySymbols count)) = (count ≡ symbol_count g) × (2048 < count)
-
--- the grammar that the block spells, or why it is refused; want of memory is free
+-- the grammar that the block spells, or the fault of the first layer that gives none: of reading the
+-- file, of expanding what it spells, or of making its binary form; each layer may want memory
 abbrev pub ReadsLanguage : List ℕ → Result Language LanguageFault → Type 0
-ReadsLanguage block (Ok language) = IsAccepted block language.grammar × IsFit language.grammar
+ReadsLanguage block (Ok language) =
+    IsAccepted block language.grammar × HasDistinctNames language.grammar
 ReadsLanguage block (Err (Text fault)) = ReadsDefs block (Err fault)
 ReadsLanguage block (Err (Grammar fault)) =
     (defs : List Def) × Spells block defs × Expands defs (Err fault)
-ReadsLanguage block (Err (Binary BinaryMemory)) = Unit {0}
-ReadsLanguage block (Err (Binary (TooManySymbols count))) =
+ReadsLanguage block (Err (Binary fault)) =
     (defs : List Def) × Spells block defs × AreFit defs
-    × (count ≡ symbol_count (expansion_of defs)) × (2048 < count)
+    × MakesBinary (expansion_of defs) (Err fault)
 
 -- the chart is that of the text's tokens under the grammar
 pub record IsOpened (g : Expansion) (chart : ChartValue) (text : List ℕ)
     (tokens : List Token) : Type 0 where
-  pub fit : IsFit g
+  pub distinct : HasDistinctNames g
   pub are_tokens : AreTokensOf g.kinds text tokens
   pub is_chart : IsChartOf g (kinds_of tokens) chart
 
@@ -99,22 +94,16 @@ EndsAtGrammar block old new ReadFault = ⊥
 -- the block's grammar was accepted and its reply written, or the session was ended there
 abbrev pub Accepts : List ℕ → Option (List ℕ) → Option (List ℕ) → Result Language Status → Type 0
 Accepts block old new (Ok language) =
-    IsAccepted block language.grammar × IsFit language.grammar
+    IsAccepted block language.grammar × HasDistinctNames language.grammar
     × Grows old new (grammar_reply language.grammar)
 Accepts block old new (Err status) = EndsAtGrammar block old new status
-
--- the reply to the text is this line
-abbrev pub IsTextLine : Expansion → List ℕ → List ℕ → Type 0
-IsTextLine g text line =
-    (tokens : List Token) × AreTokensOf g.kinds text tokens
-    × (line ≡ version_reply 0 (length tokens))
 
 -- the session was ended at the text: a fault left a prefix of its reply
 abbrev pub EndsAtText : Expansion → List ℕ → Option (List ℕ) → Option (List ℕ) → Status → Type 0
 EndsAtText g text old new WriteFault =
-    (line : List ℕ) × IsTextLine g text line × GrowsByPrefix old new line
+    (line : List ℕ) × IsReply g [] (opens text) line × GrowsByPrefix old new line
 EndsAtText g text old new OutOfMemory =
-    Stays old new ⊎ ((line : List ℕ) × IsTextLine g text line × GrowsByPrefix old new line)
+    Stays old new ⊎ ((line : List ℕ) × IsReply g [] (opens text) line × GrowsByPrefix old new line)
 EndsAtText g text old new Fine = ⊥
 EndsAtText g text old new BadGrammar = ⊥
 EndsAtText g text old new BadScript = ⊥

@@ -46,20 +46,14 @@ IsFound keep (Some found) (Some block) = IsBlock keep found block
 abbrev pub Finds : ℕ → (Option (List ℕ) → Type 0) → Option Block → Type 0
 Finds keep IsNext found = (next : Option (List ℕ)) × IsFound keep found next × IsNext next
 
--- the line of a block's command, and the block
-abbrev pub counted_text : List ℕ → List ℕ → List ℕ
-counted_text beginning block = (beginning ++ decimal (length block)) ++ (10 ∷ (block ++ 10 ∷ []))
-
--- a command that begins so and has a block of at most so many bytes was taken, or does not come
-abbrev pub NextCounted : List ℕ → ℕ → ℕ → ℕ → Option (List ℕ) → Option (List ℕ)
-    → Option (List ℕ) → Type 0
-NextCounted beginning most from to old new (Some block) =
-    (from < 2 ^ 48) × (length block ≤ most) × Takes old new (counted_text beginning block)
-    × (to ≡ from + length (counted_text beginning block))
-NextCounted beginning most from to old new None =
-    (told : List ℕ) → old ≡ Some told → from < 2 ^ 48 → (block more : List ℕ) → length block ≤ most
-    → IsLine 256 (beginning ++ decimal (length block))
-    → told ≡ counted_text beginning block ++ more → ⊥
+-- a line was taken that begins so and ends in a number of at most `most`, or none comes
+abbrev pub NextCount : List ℕ → ℕ → ℕ → ℕ → Option (List ℕ) → Option (List ℕ) → Option ℕ → Type 0
+NextCount beginning most from to old new (Some count) =
+    (count ≤ most) × NextLine from to old new (beginning ++ decimal count) true
+NextCount beginning most from to old new None =
+    (told : List ℕ) → old ≡ Some told → from < 2 ^ 48 → (count : ℕ) (more : List ℕ) → count ≤ most
+    → IsLine 256 (beginning ++ decimal count)
+    → told ≡ (beginning ++ decimal count) ++ (10 ∷ more) → ⊥
 
 -- the command was taken
 pub record TakesCommand (from to : ℕ) (old new : Option (List ℕ)) (command : Command) : Type 0 where

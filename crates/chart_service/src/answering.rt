@@ -29,8 +29,10 @@ pub(crate) enum Answer {
     /// No category has the name, or there is no entry.
     UnknownCategory,
     /// The span is none of the text's, which has so many tokens.
-    SpanOutside(u32),
+    SpanOutside { tokens: u32 },
+    /// The category derives the span.
     Yes,
+    /// The category does not derive the span.
     No,
 }
 
@@ -113,11 +115,8 @@ pub(crate) fn answer_of(opened: &Opened, constituent: &Constituent<'_>) -> Answe
     let tokens = opened.chart.len();
     let first = first_of(constituent);
     let end = end_of(constituent, tokens);
-    if end < first {
-        return Answer::SpanOutside(tokens);
-    }
-    if tokens < end {
-        return Answer::SpanOutside(tokens);
+    if end < first || tokens < end {
+        return Answer::SpanOutside { tokens };
     }
     if is_derived(opened, category, first, end) {
         Answer::Yes
@@ -132,7 +131,7 @@ fn line_of(alloc: Global, answer: Answer) -> Result<String, AllocError>
 {
     match answer {
         Answer::UnknownCategory => format!(in alloc; "refused category\n"),
-        Answer::SpanOutside(tokens) => format!(in alloc; "refused span {tokens}\n"),
+        Answer::SpanOutside { tokens } => format!(in alloc; "refused span {tokens}\n"),
         Answer::Yes => format!(in alloc; "yes\n"),
         Answer::No => format!(in alloc; "no\n"),
     }

@@ -8,7 +8,9 @@ ghost use Rattle.spec_lexing.specs.declared.token.Token.{Token};
 ghost use Rattle.spec_session.specs.Replies.{grammar_reply, version_reply};
 ghost use Rattle.chart_service.specs.Statuses.{IsWriteStop};
 ghost use Rattle.chart_service.specs.Reading.{IsBlock};
-ghost use Rattle.chart_service.specs.Opening.{MakesLanguage, ReadsLanguage, IsFit, IsRefusal};
+ghost use Rattle.binary_form.specs.BinaryForm.{MakesBinary};
+ghost use Rattle.std.specs.Result.{result_map_both};
+ghost use Rattle.chart_service.specs.Opening.{ReadsLanguage, HasDistinctNames, IsRefusal};
 ghost use Rattle.chart_service.specs.Opening.{text_reason_of, grammar_reason_of, reason_of};
 ghost use Rattle.chart_service.specs.Opening.{EndsAtGrammar, Accepts, IsOpened, OpensText};
 
@@ -35,7 +37,8 @@ pub(crate) enum LanguageFault {
 
 /// The grammar with its binary form, or that it has too many symbols.
 fn language_of(alloc: Global, grammar: Grammar) -> Result<Language, BinaryFault>
-    ensures { MakesLanguage grammar result }
+    ensures { MakesBinary grammar
+        (result_map_both (λ language. language.binary) (λ fault. fault) result) }
 {
     let binary = binary::<ListCell>(alloc, &grammar)?;
     Ok(Language { grammar, binary })
@@ -204,7 +207,7 @@ pub(crate) struct Opened {
 
 /// The chart of the text's tokens.
 fn chart_of(alloc: Global, language: &Language, text: &[u8]) -> Result<Chart<ListCell>, AllocError>
-    requires fit { IsFit language.now.grammar }
+    requires distinct { HasDistinctNames language.now.grammar }
     requires ascii { IsAscii text.now }
     requires short { length text.now ≤ 4096 }
     ensures { IfOk result
@@ -245,7 +248,7 @@ pub(crate) fn open_text<K: Sink>(
     language: Language,
     text: &[u8],
 ) -> Result<Opened, Status>
-    requires fit { IsFit language.grammar }
+    requires distinct { HasDistinctNames language.grammar }
     requires ascii { IsAscii text.now }
     requires short { length text.now ≤ 4096 }
     ensures ok { OpensText language.grammar text.now

@@ -5,25 +5,26 @@ ghost use Rattle.std.specs.Prelude.{option_map};
 ghost use Rattle.cyk_io.specs.Causes.{HasCause};
 ghost use Rattle.cyk_io.specs.Streams.{IsAtEnd, coming};
 ghost use Rattle.chart_service.specs.Statuses.{IsReadStop};
-ghost use Rattle.chart_service.specs.Reading.{NextLine, NextBlock, NextCounted, NextHeader};
+ghost use Rattle.chart_service.specs.Reading.{NextLine, NextBlock, NextCount, NextHeader};
 ghost use Rattle.chart_service.specs.Reading.{NextGrammar, NextText, PassesBlock, Finds};
 
 use crate::forms::count_behind;
 use crate::status::Status;
 use cyk_io::{Ahead, IoFault, Line, ReadBlock, ReadLine, Source, read_exact_n, read_line};
+use lbnf_text::MAX_FILE;
 use std::alloc::Global;
 
 /// The most bytes of a line, without its LF.
 pub(crate) const MAX_LINE: usize = 256;
 
-/// A line begins below this offset.
-const TOO_LATE: u64 = 1 << 48;
+/// The offset below which each line of a script begins.
+const LINE_LIMIT: u64 = 1 << 48;
 
 /// The most bytes of a block. Nine digits write no greater number.
 const MAX_BLOCK: u32 = 999_999_999;
 
-/// The most bytes of a grammar that is kept.
-const MAX_GRAMMAR: u32 = 65_536;
+/// The most bytes of a grammar that is kept, which are those of a grammar file.
+const MAX_GRAMMAR: u32 = MAX_FILE as u32;
 
 /// The most bytes of a text.
 const MAX_TEXT: u32 = 4_096;
@@ -37,20 +38,11 @@ pub(crate) enum Block {
     TooLong(u32),
 }
 
-/// The limits of a block.
-#[derive(Drop)]
-struct Limits {
-    /// The most bytes that it may have.
-    most: u32,
-    /// The most bytes that are kept. A longer block is passed over.
-    keep: u32,
-}
-
 /// Reads the next line. There is none where it begins too late, is too long or has no LF.
 pub(crate) fn next_line<S: Source>(
     source: &mut S,
     ahead: &mut Ahead,
-    line: &mut Line<256>,
+    line: &mut Line<MAX_LINE>,
 ) -> Result<bool, Status>
     requires room { ahead.old.offset < 2 ^ 62 }
     requires end { IsTrue ahead.old.ended → IsAtEnd (S.left source.old) }
@@ -60,9 +52,9 @@ pub(crate) fn next_line<S: Source>(
     ensures cause { HasCause (S.faults source.old) (S.faults source.new)
         (IsErrOf result Status.ReadFault) }
     ensures end { IsTrue ahead.new.ended → IsAtEnd (S.left source.new) }
-    ensures fits { ahead.new.offset ≤ ahead.old.offset + 257 }
+    ensures range { ahead.new.offset ≤ ahead.old.offset + 257 }
 {
-    if ahead.offset() >= TOO_LATE {
+    if ahead.offset() >= LINE_LIMIT {
         return Ok(false);
     }
     match read_line(source, ahead, line) {
@@ -77,7 +69,7 @@ pub(crate) fn next_line<S: Source>(
 pub(crate) fn read_header<S: Source>(
     source: &mut S,
     ahead: &mut Ahead,
-    line: &mut Line<256>,
+    line: &mut Line<MAX_LINE>,
 ) -> Result<bool, Status>
     requires room { ahead.old.offset < 2 ^ 62 }
     requires end { IsTrue ahead.old.ended → IsAtEnd (S.left source.old) }
@@ -87,7 +79,7 @@ pub(crate) fn read_header<S: Source>(
     ensures cause { HasCause (S.faults source.old) (S.faults source.new)
         (IsErrOf result Status.ReadFault) }
     ensures end { IsTrue ahead.new.ended → IsAtEnd (S.left source.new) }
-    ensures fits { ahead.new.offset ≤ ahead.old.offset + 257 }
+    ensures range { ahead.new.offset ≤ ahead.old.offset + 257 }
 {
     let found = next_line(source, ahead, line)?;
     if !found {
@@ -162,24 +154,49 @@ fn pass_block<S: Source>(
     Ok(behind.is_some())
 }
 
-/// Reads a block of so many bytes and its LF. One of more than `keep` bytes is passed over.
+/// Reads a line that begins so and ends in the number of bytes of a block.
+fn read_count<S: Source>(
+    source: &mut S,
+    ahead: &mut Ahead,
+    line: &mut Line<MAX_LINE>,
+    beginning: &[u8],
+    most: u32,
+) -> Result<Option<u32>, Status>
+    requires most { most < 10 ^ 9 }
+    requires room { ahead.old.offset < 2 ^ 62 }
+    requires end { IsTrue ahead.old.ended → IsAtEnd (S.left source.old) }
+    ensures ok { IfOk result (NextCount beginning.now most ahead.old.offset ahead.new.offset
+        (coming ahead.old (S.left source.old)) (coming ahead.new (S.left source.new))) }
+    ensures err { IfErr result IsReadStop }
+    ensures cause { HasCause (S.faults source.old) (S.faults source.new)
+        (IsErrOf result Status.ReadFault) }
+    ensures end { IsTrue ahead.new.ended → IsAtEnd (S.left source.new) }
+    ensures range { ahead.new.offset ≤ ahead.old.offset + 257 }
+{
+    let found = next_line(source, ahead, line)?;
+    if !found {
+        return Ok(None);
+    }
+    Ok(count_behind(line.as_bytes(), beginning, most))
+}
+
+/// Reads a block of so many bytes and its LF. One of more than 65,536 bytes is passed over.
 fn read_block<S: Source>(
     alloc: Global,
     source: &mut S,
     ahead: &mut Ahead,
     count: u32,
-    keep: u32,
 ) -> Result<Option<Block>, Status>
     requires room { ahead.old.offset < 2 ^ 61 }
     requires end { IsTrue ahead.old.ended → IsAtEnd (S.left source.old) }
-    ensures ok { IfOk result (Finds keep (NextBlock count ahead.old.offset ahead.new.offset
+    ensures ok { IfOk result (Finds 65536 (NextBlock count ahead.old.offset ahead.new.offset
         (coming ahead.old (S.left source.old)) (coming ahead.new (S.left source.new)))) }
     ensures err { IfErr result IsReadStop }
     ensures cause { HasCause (S.faults source.old) (S.faults source.new)
         (IsErrOf result Status.ReadFault) }
     ensures end { IsTrue ahead.new.ended → IsAtEnd (S.left source.new) }
 {
-    if count > keep {
+    if count > MAX_GRAMMAR {
         let passed = pass_block(alloc, source, ahead, count)?;
         return Ok(passed.then_some(Block::TooLong(count)));
     }
@@ -189,42 +206,12 @@ fn read_block<S: Source>(
     }
 }
 
-/// Reads a line that begins so and ends in the number of bytes of a block, and the block.
-fn read_counted<S: Source>(
-    alloc: Global,
-    source: &mut S,
-    ahead: &mut Ahead,
-    line: &mut Line<256>,
-    beginning: &[u8],
-    limits: &Limits,
-) -> Result<Option<Block>, Status>
-    requires most { limits.now.most < 10 ^ 9 }
-    requires room { ahead.old.offset < 2 ^ 60 }
-    requires end { IsTrue ahead.old.ended → IsAtEnd (S.left source.old) }
-    ensures ok { IfOk result (Finds limits.now.keep (NextCounted beginning.now limits.now.most
-        ahead.old.offset ahead.new.offset
-        (coming ahead.old (S.left source.old)) (coming ahead.new (S.left source.new)))) }
-    ensures err { IfErr result IsReadStop }
-    ensures cause { HasCause (S.faults source.old) (S.faults source.new)
-        (IsErrOf result Status.ReadFault) }
-    ensures end { IsTrue ahead.new.ended → IsAtEnd (S.left source.new) }
-{
-    let found = next_line(source, ahead, line)?;
-    if !found {
-        return Ok(None);
-    }
-    match count_behind(line.as_bytes(), beginning, limits.most) {
-        Some(count) => read_block(alloc, source, ahead, count, limits.keep),
-        None => Ok(None),
-    }
-}
-
 /// Reads the command `grammar` with its block. One of more than 65,536 bytes is passed over.
 pub(crate) fn read_grammar<S: Source>(
     alloc: Global,
     source: &mut S,
     ahead: &mut Ahead,
-    line: &mut Line<256>,
+    line: &mut Line<MAX_LINE>,
 ) -> Result<Option<Block>, Status>
     requires room { ahead.old.offset < 2 ^ 60 }
     requires end { IsTrue ahead.old.ended → IsAtEnd (S.left source.old) }
@@ -235,11 +222,10 @@ pub(crate) fn read_grammar<S: Source>(
         (IsErrOf result Status.ReadFault) }
     ensures end { IsTrue ahead.new.ended → IsAtEnd (S.left source.new) }
 {
-    let limits = Limits {
-        most: MAX_BLOCK,
-        keep: MAX_GRAMMAR,
-    };
-    read_counted(alloc, source, ahead, line, b"grammar ".as_slice(), &limits)
+    match read_count(source, ahead, line, b"grammar ".as_slice(), MAX_BLOCK)? {
+        Some(count) => read_block(alloc, source, ahead, count),
+        None => Ok(None),
+    }
 }
 
 /// The text, where each of its bytes is below 80 (hexadecimal).
@@ -259,7 +245,7 @@ pub(crate) fn read_text<S: Source>(
     alloc: Global,
     source: &mut S,
     ahead: &mut Ahead,
-    line: &mut Line<256>,
+    line: &mut Line<MAX_LINE>,
 ) -> Result<Option<Vec<u8>>, Status>
     requires room { ahead.old.offset < 2 ^ 60 }
     requires end { IsTrue ahead.old.ended → IsAtEnd (S.left source.old) }
@@ -271,13 +257,11 @@ pub(crate) fn read_text<S: Source>(
         (IsErrOf result Status.ReadFault) }
     ensures end { IsTrue ahead.new.ended → IsAtEnd (S.left source.new) }
 {
-    let limits = Limits {
-        most: MAX_TEXT,
-        keep: MAX_TEXT,
+    let Some(count) = read_count(source, ahead, line, b"open ".as_slice(), MAX_TEXT)? else {
+        return Ok(None);
     };
-    match read_counted(alloc, source, ahead, line, b"open ".as_slice(), &limits)? {
-        Some(Block::Kept(text)) => Ok(only_ascii(text)),
-        Some(Block::TooLong(_)) => unreachable!(),
+    match keep_block(alloc, source, ahead, count)? {
+        Some(text) => Ok(only_ascii(text)),
         None => Ok(None),
     }
 }

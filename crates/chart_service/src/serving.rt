@@ -10,7 +10,7 @@ use crate::answering::{answer_of, say_answer};
 use crate::forms::{Question, question_of};
 use crate::opening::{Opened, accept, open_text};
 use crate::options::Options;
-use crate::reading::{next_line, read_grammar, read_header, read_text};
+use crate::reading::{MAX_LINE, next_line, read_grammar, read_header, read_text};
 use crate::status::Status;
 use crate::writing::{finish, refuse_script};
 use cyk_io::{Ahead, Line, Sink, Source};
@@ -24,7 +24,7 @@ fn begin<S: Source, K: Sink>(
     source: &mut S,
     sink: &mut K,
     ahead: &mut Ahead,
-    line: &mut Line<256>,
+    line: &mut Line<MAX_LINE>,
 ) -> Result<Opened, Status>
     requires start { ahead.old.offset ≡ 0 }
     requires end { IsTrue ahead.old.ended → IsAtEnd (S.left source.old) }
@@ -37,7 +37,7 @@ fn begin<S: Source, K: Sink>(
     ensures write { HasCause (K.faults sink.old) (K.faults sink.new)
         (IsErrOf result Status.WriteFault) }
     ensures end { IsTrue ahead.new.ended → IsAtEnd (S.left source.new) }
-    ensures fits { OnOk result (ahead.new.offset < 2 ^ 50) }
+    ensures range { OnOk result (ahead.new.offset < 2 ^ 50) }
 {
     let found = read_header(source, ahead, line)?;
     if !found {
@@ -65,7 +65,7 @@ fn turn<S: Source, K: Sink>(
     source: &mut S,
     sink: &mut K,
     ahead: &mut Ahead,
-    line: &mut Line<256>,
+    line: &mut Line<MAX_LINE>,
     opened: &Opened,
 ) -> Option<Status>
     requires room { ahead.old.offset < 2 ^ 61 }
@@ -80,7 +80,7 @@ fn turn<S: Source, K: Sink>(
     ensures write { HasCause (K.faults sink.old) (K.faults sink.new)
         (result ≡ Some Status.WriteFault) }
     ensures end { IsTrue ahead.new.ended → IsAtEnd (S.left source.new) }
-    ensures fits { IfNone result
+    ensures range { IfNone result
         ((ahead.old.offset < ahead.new.offset) × (ahead.new.offset < 2 ^ 50)) }
 {
     let start = ahead.offset();
@@ -107,7 +107,7 @@ fn answer_all<S: Source, K: Sink>(
     source: &mut S,
     sink: &mut K,
     ahead: &mut Ahead,
-    line: &mut Line<256>,
+    line: &mut Line<MAX_LINE>,
     opened: &Opened,
 ) -> Status
     requires room { ahead.old.offset < 2 ^ 50 }
@@ -146,8 +146,12 @@ fn run<S: Source, K: Sink>(alloc: Global, source: &mut S, sink: &mut K) -> Statu
 
 /// Runs the session that the source's script defines, and answers its exit status: 0 where the
 /// script was read through its line `end`, 2 where the grammar is refused, 3 where the script is
-/// broken, 4 and 5 at a fault of the source and of the sink, 6 for want of memory. `joins` counts
-/// the chart's joins; this chart makes none.
+/// broken, 4 and 5 at a fault of the source and of the sink, 6 for want of memory. `joins` is for
+/// the chart's joins; no join is counted.
+///
+/// No clause says what follows. The options change nothing that is written. Each reply is written
+/// before the next line is read, though up to 4,096 bytes may have been read ahead by then. The
+/// chart of n tokens takes memory for at most n(n + 1) / 2 entries.
 pub fn serve<S: Source, K: Sink, L: Ledger>(
     alloc: Global,
     options: &Options,

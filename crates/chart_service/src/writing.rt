@@ -28,9 +28,9 @@ pub(crate) fn say<K: Sink>(sink: &mut K, bytes: &[u8]) -> Result<(), Status>
 
 /// Writes the last bytes of a session, and answers its status or a fault's.
 pub(crate) fn finish<K: Sink>(sink: &mut K, bytes: &[u8], wanted: Status) -> Status
+    requires wanted { wanted ≡ Status.WriteFault → ⊥ }
     ensures ok { EndsWith (K.written sink.old) (K.written sink.new) bytes.now wanted result }
-    ensures cause { HasCause (K.faults sink.old) (K.faults sink.new)
-        ((result ≡ Status.WriteFault) × (wanted ≡ Status.WriteFault → ⊥)) }
+    ensures cause { HasCause (K.faults sink.old) (K.faults sink.new) (result ≡ Status.WriteFault) }
 {
     match say(sink, bytes) {
         Ok(()) => wanted,

@@ -1,5 +1,5 @@
 -- A grammar that is spelled and fit is accepted, where it has few symbols.
-use Rattle.chart_service.proofs.OpeningLemmas.{accepted, too_many_symbols_refused}
+use Rattle.chart_service.proofs.OpeningLemmas.{accepted, no_language}
 use Rattle.chart_service.proofs.opening.read_language.Goals as goal
 
 pub returns-in-Ok-language_of : goal.returns-in-Ok-language_of
@@ -11,5 +11,5 @@ returns-in-Ok-language_of c =
 pub returns : goal.returns
 returns c =
     let read = c.in-Ok-expand.ensures in
-    too_many_symbols_refused c.args.block.now c.in-Ok.defs c.in-Ok-expand.grammar c.in-Err-language_of.fault
+    no_language c.args.block.now c.in-Ok.defs c.in-Ok-expand.grammar c.in-Err-language_of.fault
     c.in-Ok.ensures read.0 read.1 c.in-Err-language_of.ensures

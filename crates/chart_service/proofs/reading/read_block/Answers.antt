@@ -3,10 +3,10 @@ use Rattle.cyk_io.specs.Streams.{coming}
 use Rattle.chart_service.proofs.ReadingLemmas.{finds_passed}
 use Rattle.chart_service.proofs.reading.read_block.Goals as goal
 
-pub returns-then-count-keep-clause-ok : goal.returns-then-count-keep-clause-ok
-returns-then-count-keep-clause-ok g c =
+pub returns-then-count-gt-MAX_GRAMMAR-clause-ok : goal.returns-then-count-gt-MAX_GRAMMAR-clause-ok
+returns-then-count-gt-MAX_GRAMMAR-clause-ok g c =
     rw c.then_some.ensures
-    (finds_passed c.args.keep c.args.count c.args.ahead.now.offset c.pass_block.new.ahead.offset
+    (finds_passed 65536 c.args.count c.args.ahead.now.offset c.pass_block.new.ahead.offset
     (coming c.args.ahead.now (g.S.Source.left c.args.source.now))
     (coming c.pass_block.new.ahead (g.S.Source.left c.pass_block.new.source))
-    c.if-count-keep.true c.in_ok-passed.passed c.in_ok-passed.ensures.ok)
+    c.if-count-gt-MAX_GRAMMAR.true c.in_ok-passed.passed c.in_ok-passed.ensures.ok)

@@ -1,17 +1,19 @@
--- A grammar is a command with a block.
-use Rattle.std.proofs.Common.{ℕ, List, Option}
+-- A grammar is a line with a count and the block behind it.
 use Rattle.cyk_io.specs.Streams.{coming}
-use Rattle.chart_service.specs.Reading.{NextCounted, NextGrammar, Finds}
-use Rattle.chart_service.proofs.ReadingLemmas.{next_grammar, finds_more, if_ok_more}
+use Rattle.chart_service.proofs.ReadingLemmas.{no_grammar_line, grammar_behind}
 use Rattle.chart_service.proofs.reading.read_grammar.Goals as goal
 
-pub returns-clause-ok : goal.returns-clause-ok
-returns-clause-ok g c =
-    let old : Option (List ℕ) = coming c.args.ahead.now (g.S.Source.left c.args.source.now) in
-    let new : Option (List ℕ) = coming c.read_counted.new.ahead (g.S.Source.left c.read_counted.new.source) in
-    let IsCounted : Option (List ℕ) → Type 0 = NextCounted c.as_slice.result.now 999999999 c.args.ahead.now.offset c.read_counted.new.ahead.offset old new in
-    let IsNext : Option (List ℕ) → Type 0 = NextGrammar c.args.ahead.now.offset c.read_counted.new.ahead.offset old new in
-    if_ok_more (Finds 65536 IsCounted) (Finds 65536 IsNext) c.read_counted.result
-    (finds_more 65536 IsCounted IsNext
-    (λ next h. next_grammar c.args.ahead.now.offset old c.read_counted.new.ahead.offset new next (rw c.as_slice.ensures at h)))
-    c.read_counted.ensures.ok
+pub returns-in-Some-clause-ok : goal.returns-in-Some-clause-ok
+returns-in-Some-clause-ok g c =
+    grammar_behind c.args.ahead.now.offset (coming c.args.ahead.now (g.S.Source.left c.args.source.now))
+    c.read_block.new.ahead.offset (coming c.read_block.new.ahead (g.S.Source.left c.read_block.new.source))
+    c.read_count.new.ahead.offset (coming c.read_count.new.ahead (g.S.Source.left c.read_count.new.source))
+    c.in-Some.count (rw (c.in-Some.is, c.as_slice.ensures) at c.in_ok-count.ensures.ok)
+    c.read_block.result c.read_block.ensures.ok
+
+pub returns-in-None-clause-ok : goal.returns-in-None-clause-ok
+returns-in-None-clause-ok g c =
+    let mid = coming c.read_count.new.ahead (g.S.Source.left c.read_count.new.source) in
+    no_grammar_line c.args.ahead.now.offset (coming c.args.ahead.now (g.S.Source.left c.args.source.now))
+    c.read_count.new.ahead.offset mid c.read_count.new.ahead.offset mid
+    (rw (c.in-None.is, c.as_slice.ensures) at c.in_ok-count.ensures.ok)
