@@ -2,7 +2,7 @@
 ghost use Rattle.std.specs.Prelude.{◌≡◌, ◌<◌, ◌^◌, length, slice_get, Contains, Some, IfSome};
 ghost use Rattle.std.specs.Prelude.{MatchOption};
 ghost use Rattle.spec_grammar.specs.Cycles.{IsAcyclic, IsRank};
-ghost use Rattle.spec_lbnf.specs.Expansion.{HasOwnSymbols, IsSymbolOf, item_count};
+ghost use Rattle.spec_lbnf.specs.Expansion.{HasOwnSymbols, IsSymbolOf, item_count, number_of};
 ghost use Rattle.lbnf_grammar.specs.Grammars.{FindsCategory};
 ghost use Rattle.lbnf_grammar.specs.Ranks.{AreRanks};
 
@@ -129,7 +129,9 @@ impl Grammar {
         &self.parts.kinds()[k as usize]
     }
 
-    /// The category of this text, and `None` where no category has it. It looks at each in turn.
+    /// The category of this text, which is the first where several have it; in a grammar of
+    /// `expand` only one has. It compares the text with each name in turn, up to the first that is
+    /// the same, and takes no memory.
     pub fn find(&self, text: &[u8]) -> Option<Symbol>
         ensures found { FindsCategory self.now.categories text.now result }
         ensures own { IfSome result (IsSymbolOf self.now) }
@@ -142,7 +144,8 @@ impl Grammar {
 /// The place of the first name that is this text.
 fn place_of(names: &[Name], text: &[u8]) -> Option<usize>
     ensures { MatchOption result (Contains names.now text.now → ⊥)
-        (λ place. slice_get names.now place ≡ Some text.now) }
+        (λ place. (place ≡ number_of names.now text.now)
+        × (slice_get names.now place ≡ Some text.now)) }
 {
     for (place, name) in names.iter().enumerate() {
         if name.as_slice() == text {
