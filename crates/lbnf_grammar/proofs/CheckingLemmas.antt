@@ -1,5 +1,5 @@
 -- The checks of names: what is listed is known, and the first that is bad.
-use Rattle.std.proofs.Common.{◌≡◌, ℕ, ◌+◌, ◌<◌, ◌≤◌, List, [], ◌∷◌, ◌++◌, length, take, drop, true, false, ◌||◌, Some, All, slice_get, refl, sym, ap, subst, ◌∙◌, inl, inr}
+use Rattle.std.proofs.Common.{◌≡◌, ℕ, Bool, ◌+◌, ◌<◌, ◌≤◌, List, [], ◌∷◌, ◌++◌, length, take, drop, true, false, ◌||◌, Some, All, slice_get, get_or, refl, sym, ap, subst, ◌∙◌, inl, inr}
 use Rattle.std.specs.List.{list_any, flat_map}
 use Rattle.std.specs.Str.{bytes_eq}
 use Rattle.std.specs.Cmp.Lexicographic.{nat_list_eq_equiv}
@@ -9,7 +9,7 @@ use Rattle.std.proofs.lemmas.List.{drop_more, take_all, take-append-drop}
 use Rattle.std.proofs.lemmas.List.Elements.{All-nil, All-cons, All-append, All-weaker}
 use Rattle.std.proofs.lemmas.List.Folds.{list_any-append}
 use Rattle.std.proofs.lemmas.Map.Views.{Contains-from_any, list_any-from_Contains}
-use Rattle.std.proofs.lemmas.Option.{slice_get_within, get_or_from_slice_get}
+use Rattle.std.proofs.lemmas.Option.{slice_get_read}
 use Rattle.std.proofs.lemmas.Slice.Eq.{bytes_eq-Decides}
 use Rattle.spec_lbnf.specs.declared.definition.RawItem.{RawItem}
 use Rattle.spec_lbnf.specs.declared.definition.RawItem.TheVariants.{Cat, Word}
@@ -20,7 +20,7 @@ use Rattle.spec_lbnf.specs.Checks.{own_categories, named_categories, IsPredefine
 use Rattle.lbnf_grammar.specs.Numbering.{with_name, with_names}
 use Rattle.lbnf_grammar.specs.Checking.{IsListed, IsUnlisted}
 use Rattle.lbnf_grammar.proofs.NameLemmas.{with_name_there, with_name_new}
-use Rattle.lbnf_grammar.proofs.LabelLemmas.{take_next}
+use Rattle.lbnf_grammar.proofs.LabelLemmas.{take_next, more_hold}
 
 -- the categories of items side by side
 item_categories-append : (items others : List RawItem)
@@ -54,26 +54,31 @@ any_with_names x names [] = sym (or-false (list_any (bytes_eq x) names))
 any_with_names x names (y ∷ others) =
     any_with_names x (with_name names y) others ∙ rw (any_with_name x names y) (or_assoc (list_any (bytes_eq x) names) (bytes_eq x y) (list_any (bytes_eq x) others))
 
--- the first bad name of a list behind good ones is the first bad name
-pub first_at : (IsBad IsGood : List ℕ → Type 0) (names : List (List ℕ)) (i : ℕ) (name : List ℕ)
-    → slice_get names i ≡ Some name → All IsGood (take i names) → IsBad name → IsFirstName IsBad IsGood names name
-first_at IsBad IsGood names i name at good bad =
-    let from : drop i names ≡ name ∷ drop (i + 1) names
-    = drop_more names i name (slice_get_within names i name at) ∙ ap (λ x. x ∷ drop (i + 1) names) (get_or_from_slice_get names i name name at) in
-    record {
-      before = take i names;
-      behind = drop (i + 1) names;
-      is_name = sym (take-append-drop i names) ∙ ap (λ l. take i names ++ l) from;
-      bad = bad;
-      good = good;
-    }
+-- names are looked at in turn, up to this one; those before it are good
+module _ (IsBad IsGood : List ℕ → Type 0) (names : List (List ℕ)) (i : ℕ) (name : List ℕ)
+    (within : i < length names) (is : name ≡ get_or names i name) (good : All IsGood (take i names)) where
+  -- if it is bad, it is the first bad name
+  pub first_bad : IsBad name → IsFirstName IsBad IsGood names name
+  first_bad bad = record {
+    before = take i names;
+    behind = drop (i + 1) names;
+    is_name = sym (take-append-drop i names)
+        ∙ ap (λ l. take i names ++ l) (drop_more names i name within ∙ ap (λ x. x ∷ drop (i + 1) names) (sym is));
+    bad = bad;
+    good = good;
+  }
 
--- the first names are good with the next
-pub good_more : (IsGood : List ℕ → Type 0) (names : List (List ℕ)) (i : ℕ) (name : List ℕ)
-    → slice_get names i ≡ Some name → All IsGood (take i names) → IsGood name → All IsGood (take (i + 1) names)
-good_more IsGood names i name at good next =
-    subst (All IsGood) (sym (take_next names i name at))
-    (All-append IsGood (take i names) (name ∷ []) good (All-cons IsGood name [] next (All-nil IsGood)))
+  -- if it is good, the names up to it are
+  pub more_good : IsGood name → All IsGood (take (i + 1) names)
+  more_good next =
+      subst (All IsGood) (sym (take_next names i name (slice_get_read names (length names) i name refl within is)))
+      (All-append IsGood (take i names) (name ∷ []) good (All-cons IsGood name [] next (All-nil IsGood)))
+
+-- what a test of the shown bytes told, of the name
+pub told_listed : (table : List (List ℕ)) (name shown : List ℕ) → shown ≡ name
+    → (told answer : Bool) → told ≡ list_any (bytes_eq shown) table → told ≡ answer → list_any (bytes_eq name) table ≡ answer
+told_listed table name shown same told answer looked is =
+    ap (λ n. list_any (bytes_eq n) table) (sym same) ∙ sym looked ∙ is
 
 -- where the first names are good and there are no more, all are
 pub good_all : (IsGood : List ℕ → Type 0) (names : List (List ℕ)) (i : ℕ) → length names ≤ i
@@ -102,23 +107,30 @@ module _ (defs : List Def) (known : List (List ℕ)) (are : known ≡ with_names
   unlisted_unknown x h there = both_ways (list_any (bytes_eq x) known) h (listed_is x ∙ list_any-from_Contains nat_list_eq_equiv x (flat_map own_categories defs) there)
 
   -- where all categories of a definition are listed, it names known ones alone
-  pub names_known : (def : Def) → All (IsListed known) (named_categories def) → NamesKnown defs def
+  names_known : (def : Def) → All (IsListed known) (named_categories def) → NamesKnown defs def
   names_known def listed = All-weaker (IsListed known) (IsKnown defs) listed_known (named_categories def) listed
 
-  -- the first category of a definition that is not listed is the first unknown one, if the
-  -- definitions before name known ones alone
-  pub first_unknown : (def : Def) (name : List ℕ) (number : ℕ) → slice_get defs number ≡ Some def
-      → ((k : ℕ) (other : Def) → k < number → slice_get defs k ≡ Some other → NamesKnown defs other)
-      → IsFirstName (IsUnlisted known) (IsListed known) (named_categories def) name → IsFirstUnknown defs name number
-  first_unknown def name number at earlier first = record {
-    def = def;
-    is_def = at;
-    first = record {
-      before = first.before;
-      behind = first.behind;
-      is_name = first.is_name;
-      bad = unlisted_unknown name first.bad;
-      good = All-weaker (IsListed known) (IsKnown defs) listed_known first.before first.good;
-    };
-    earlier = earlier;
-  }
+  module _ (number : ℕ) (def : Def) (names : List (List ℕ)) (given : names ≡ named_categories def)
+      (within : number < length defs) (is : def ≡ get_or defs number def)
+      (earlier : (k : ℕ) (other : Def) → k < number → slice_get defs k ≡ Some other → NamesKnown defs other) where
+    -- the first category of a definition that is not listed is the first unknown one, if the
+    -- definitions before name known ones alone
+    pub first_unknown : (name : List ℕ) → IsFirstName (IsUnlisted known) (IsListed known) names name → IsFirstUnknown defs name number
+    first_unknown name first = record {
+      def = def;
+      is_def = slice_get_read defs (length defs) number def refl within is;
+      first = record {
+        before = first.before;
+        behind = first.behind;
+        is_name = sym given ∙ first.is_name;
+        bad = unlisted_unknown name first.bad;
+        good = All-weaker (IsListed known) (IsKnown defs) listed_known first.before first.good;
+      };
+      earlier = earlier;
+    }
+
+    -- where all its categories are listed, the definitions up to it name known ones alone
+    pub more_known : All (IsListed known) names
+        → (k : ℕ) (other : Def) → k < number + 1 → slice_get defs k ≡ Some other → NamesKnown defs other
+    more_known listed =
+        more_hold (NamesKnown defs) defs number def within is (names_known def (subst (All (IsListed known)) given listed)) earlier

@@ -1,7 +1,7 @@
 -- The first definition that is not well labelled, and what holds of all definitions up to one.
 use Rattle.std.proofs.Common.{below_more, ◌≡◌, ℕ, ◌+◌, ◌<◌, List, [], ◌∷◌, ◌++◌, length, take, get_or, Some, All, slice_get, refl, sym, ap, subst, ◌∙◌, inl, inr}
 use Rattle.std.proofs.lemmas.List.{take_more}
-use Rattle.std.proofs.lemmas.Option.{slice_get-get_or, slice_get_within, get_or_from_slice_get, same_Some}
+use Rattle.std.proofs.lemmas.Option.{slice_get-get_or, slice_get_read, slice_get_within, get_or_from_slice_get, same_Some}
 use Rattle.spec_lbnf.specs.declared.definition.RawItem.{RawItem}
 use Rattle.spec_lbnf.specs.declared.definition.RawItem.TheVariants.{Cat, Word}
 use Rattle.spec_lbnf.specs.declared.definition.Def.{Def}
@@ -27,10 +27,11 @@ categories_more items i item at = ap categories_in (take_next items i item at) �
 
 module _ (P : Def → Type 0) (defs : List Def) where
   -- what holds of the first definitions holds with the next
-  pub more_hold : (n : ℕ) (next : Def) → slice_get defs n ≡ Some next → P next
+  pub more_hold : (n : ℕ) (next : Def) → n < length defs → next ≡ get_or defs n next → P next
       → ((k : ℕ) (def : Def) → k < n → slice_get defs k ≡ Some def → P def)
       → (k : ℕ) (def : Def) → k < n + 1 → slice_get defs k ≡ Some def → P def
-  more_hold n next at holds each k def lt at_k =
+  more_hold n next within is holds each k def lt at_k =
+      let at : slice_get defs n ≡ Some next = slice_get_read defs (length defs) n next refl within is in
       below_more (λ m. (other : Def) → slice_get defs m ≡ Some other → P other) n
       (λ m earlier other at_m. each m other earlier at_m)
       (λ other at_n. subst P (same_Some next other (sym at ∙ at_n)) holds) k lt def at_k
@@ -39,12 +40,21 @@ module _ (P : Def → Type 0) (defs : List Def) where
   pub all_hold : ((k : ℕ) (def : Def) → k < length defs → slice_get defs k ≡ Some def → P def) → All P defs
   all_hold each k d lt = each k (get_or defs k d) lt (slice_get-get_or defs k d lt)
 
-module _ (defs : List Def) (number : ℕ) (def : Def) (at : slice_get defs number ≡ Some def)
+module _ (defs : List Def) (number : ℕ) (def : Def) (within : number < length defs) (is : def ≡ get_or defs number def)
     (earlier : (k : ℕ) (other : Def) → k < number → slice_get defs k ≡ Some other → IsWellLabelled other) where
+  -- it stands at its number
+  here : slice_get defs number ≡ Some def
+  here = slice_get_read defs (length defs) number def refl within is
+
   -- a bad coercion behind definitions that are well labelled is at fault
   pub coercion_first : IsBadCoercion def → AtLabels defs (bad_coercion number)
-  coercion_first bad = (number, inl (record { def = def; is_def = at; bad = bad; earlier = earlier }, refl))
+  coercion_first bad = (number, inl (record { def = def; is_def = here; bad = bad; earlier = earlier }, refl))
 
   -- so is a bad list
   pub list_first : IsBadList def → AtLabels defs (bad_list number)
-  list_first bad = (number, inr (record { def = def; is_def = at; bad = bad; earlier = earlier }, refl))
+  list_first bad = (number, inr (record { def = def; is_def = here; bad = bad; earlier = earlier }, refl))
+
+  -- and where it is well labelled, the definitions up to it are
+  pub more_labelled : IsWellLabelled def
+      → (k : ℕ) (other : Def) → k < number + 1 → slice_get defs k ≡ Some other → IsWellLabelled other
+  more_labelled well = more_hold IsWellLabelled defs number def within is well earlier

@@ -13,7 +13,7 @@ use Rattle.spec_grammar.specs.Derivation.{IsParseTree, AreParseTrees, DerivesAll
 use Rattle.spec_grammar.proofs.DerivationLemmas.{kind_derives, category_derives, nullable_items}
 use Rattle.spec_lbnf.specs.Expansion.{Expansion, IsSymbolOf}
 use Rattle.lbnf_grammar.specs.Nullable.{AreNullableFlags, flag_of, TellsNullable, TellsAllNullable}
-use Rattle.lbnf_grammar.specs.NullablePasses.{AreSound, IsMet, AreMet, HaveFlags, MeetsRule, ArePassed, clear_count}
+use Rattle.lbnf_grammar.specs.NullablePasses.{AreSound, IsClosedUnder, AreClosedUnder, HaveFlags, AppliesRule, AreAfterRules, clear_count}
 
 -- both of two tests pass
 both : (a b : Bool) → IsTrue a → IsTrue b → IsTrue (a && b)
@@ -88,14 +88,14 @@ module _ (rules : List Rule) (flags : List Bool) where
       same_or_other : (a b : ℕ) → (a ≡ b) ⊎ (b ≢ a)
       same_or_other a b = grind arith
 
-  -- where each rule is met, the symbol of a tree over no token is flagged
-  module _ (met : AreMet rules flags (length rules)) where
+  -- where the flags are closed under each rule, the symbol of a tree over no token is flagged
+  module _ (closed : AreClosedUnder rules flags (length rules)) where
     mutual
       tree_flagged : (t : Tree) (s : Symbol) (i j : ℕ) → IsParseTree rules [] t s i j → IsTrue (flag_of flags s)
       tree_flagged (leaf kind first end) s i j is = absurd (none-some _ is.1)
       tree_flagged (node r first end subtrees) s i j is =
           let within : r < length rules = slice_get_within rules r is.0 is.1 in
-          rw is.2 (met r is.0 within is.1 (forest_flagged subtrees (is.0).items i j is.3))
+          rw is.2 (closed r is.0 within is.1 (forest_flagged subtrees (is.0).items i j is.3))
 
       -- and so are the items of trees side by side
       forest_flagged : (ts : Forest) (items : List Symbol) (i j : ℕ) → AreParseTrees rules [] ts items i j → IsTrue (list_all (flag_of flags) items)
@@ -103,12 +103,12 @@ module _ (rules : List Rule) (flags : List Bool) where
       forest_flagged (trees t ts) items i j are =
           rw are.3 (both (flag_of flags are.0) (list_all (flag_of flags) are.1) (tree_flagged t are.0 i are.2 are.4) (forest_flagged ts are.1 are.2 j are.5))
 
--- sound flags by which each rule is met are those of the nullable categories
+-- sound flags that are closed under each rule are those of the nullable categories
 pub exact_flags : (g : Expansion) (flags : List Bool) → length flags ≡ length g.categories
-    → AreSound g.rules flags → AreMet g.rules flags (length g.rules) → AreNullableFlags g flags
-exact_flags g flags count sound met = record {
+    → AreSound g.rules flags → AreClosedUnder g.rules flags (length g.rules) → AreNullableFlags g flags
+exact_flags g flags count sound closed = record {
   count = count;
-  exact = λ c lt. (sound c, λ d. tree_flagged g.rules flags met d.0 (Category c) 0 0 d.1);
+  exact = λ c lt. (sound c, λ d. tree_flagged g.rules flags closed d.0 (Category c) 0 0 d.1);
 }
 
 -- one clear flag less, where a clear one is set
@@ -120,34 +120,34 @@ fewer_clear (false ∷ flags) zero lt clear = omega arith
 fewer_clear (true ∷ flags) (suc c) lt clear = fewer_clear flags c (omega arith) clear
 fewer_clear (false ∷ flags) (suc c) lt clear = let fewer = fewer_clear flags c (omega arith) clear in omega arith
 
--- one more rule is met
-met_more : (rules : List Rule) (flags : List Bool) (n : ℕ) (rule : Rule) → slice_get rules n ≡ Some rule
-    → IsMet flags rule → AreMet rules flags n → AreMet rules flags (n + 1)
-met_more rules flags n rule is met before r x lt at =
-    below_more (λ k. (y : Rule) → slice_get rules k ≡ Some y → IsMet flags y) n
+-- the flags are closed under one more rule
+closed_more : (rules : List Rule) (flags : List Bool) (n : ℕ) (rule : Rule) → slice_get rules n ≡ Some rule
+    → IsClosedUnder flags rule → AreClosedUnder rules flags n → AreClosedUnder rules flags (n + 1)
+closed_more rules flags n rule is closed before r x lt at =
+    below_more (λ k. (y : Rule) → slice_get rules k ≡ Some y → IsClosedUnder flags y) n
     (λ k earlier y at_k. before k y earlier at_k)
-    (λ y at_n. subst (IsMet flags) (same_Some rule y (sym is ∙ at_n)) met) r lt x at
+    (λ y at_n. subst (IsClosedUnder flags) (same_Some rule y (sym is ∙ at_n)) closed) r lt x at
 
 module _ (rules : List Rule) (start old new : List Bool) (n : ℕ) (rule : Rule) (has_set : Bool) (is : slice_get rules n ≡ Some rule) where
   -- the rule set a flag
-  pub passed_setting : HaveFlags rules (length start) → MeetsRule old new rule true → ArePassed rules start old n has_set → ArePassed rules start new (n + 1) true
-  passed_setting have meets passed =
-      let within : rule.category < length old = rw passed.len (have n rule is) in
-      let fewer : clear_count new < clear_count old = rw meets.2 (fewer_clear old rule.category within meets.0) in
+  pub applied_setting : HaveFlags rules (length start) → AppliesRule old new rule true → AreAfterRules rules start old n has_set → AreAfterRules rules start new (n + 1) true
+  applied_setting have applies after =
+      let within : rule.category < length old = rw after.len (have n rule is) in
+      let fewer : clear_count new < clear_count old = rw applies.2 (fewer_clear old rule.category within applies.0) in
       record {
-        sound = rw meets.2 (sound_set rules old passed.sound n rule is meets.1);
-        len = rw meets.2 (length-set old rule.category true ∙ passed.len);
-        falls = omega (arith, fewer, passed.falls);
-        some = λ e. omega (arith, fewer, passed.falls);
+        sound = rw applies.2 (sound_set rules old after.sound n rule is applies.1);
+        len = rw applies.2 (length-set old rule.category true ∙ after.len);
+        falls = omega (arith, fewer, after.falls);
+        some = λ e. omega (arith, fewer, after.falls);
         none = λ e. absurd (false≢true (sym e));
       }
 
-  -- the rule was met before
-  pub passed_met : MeetsRule old new rule false → ArePassed rules start old n has_set → ArePassed rules start new (n + 1) has_set
-  passed_met meets passed = rw meets.1 (record {
-    sound = passed.sound;
-    len = passed.len;
-    falls = passed.falls;
-    some = passed.some;
-    none = λ e. met_more rules old n rule is meets.0 (passed.none e);
+  -- the flags were closed under the rule
+  pub applied_closed : AppliesRule old new rule false → AreAfterRules rules start old n has_set → AreAfterRules rules start new (n + 1) has_set
+  applied_closed applies after = rw applies.1 (record {
+    sound = after.sound;
+    len = after.len;
+    falls = after.falls;
+    some = after.some;
+    none = λ e. closed_more rules old n rule is applies.0 (after.none e);
   })

@@ -1,5 +1,5 @@
 -- The texts of categories are UTF-8.
-use Rattle.std.proofs.Common.{ℕ, ◌<◌, List, replicate, lit<}
+use Rattle.std.proofs.Common.{ℕ, ◌<◌, replicate, lit<}
 use Rattle.std.specs.Str.{IsUtf8}
 use Rattle.std.proofs.lemmas.List.Elements.{All-replicate}
 use Rattle.std.proofs.lemmas.Str.{IsUtf8-from_ascii, IsUtf8-append, IsUtf8-had}

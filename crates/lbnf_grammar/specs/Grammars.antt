@@ -8,6 +8,7 @@ use Rattle.spec_grammar.specs.declared.rule.Symbol.TheVariants.{Category}
 use Rattle.spec_lexing.specs.declared.kind_def.KindDef.{KindDef}
 use Rattle.spec_lbnf.specs.declared.definition.Def.{Def}
 use Rattle.spec_lbnf.specs.Expansion.{Expansion, expansion_of, HasOwnSymbols, item_count}
+use Rattle.spec_lbnf.specs.Expansion.{number_of, category_symbol}
 use Rattle.spec_lbnf.specs.Checks.{AreFit, IsUnfit, Unfitness, bad_coercion, bad_list}
 use Rattle.spec_lbnf.specs.Checks.{too_many_rules, repeated_token, unknown_category, unbuilt_name}
 use Rattle.spec_lbnf.specs.Checks.{cyclic_category}
@@ -67,8 +68,9 @@ abbrev pub MakesGrammar : Expansion → Option Expansion → Type 0
 MakesGrammar parts (Some g) = IsWellFormed parts × IsAcyclic parts.rules × (g ≡ parts)
 MakesGrammar parts None = (IsWellFormed parts → ⊥) ⊎ ((c : ℕ) × IsCyclic parts.rules c)
 
--- the category of the text is this symbol: None exactly where no category has the text
+-- the first category of the text is this symbol: None exactly where no category has the text
 abbrev pub FindsCategory : List (List ℕ) → List ℕ → Option Symbol → Type 0
 FindsCategory categories text found =
     MatchOption found (Contains categories text → ⊥)
-    (λ symbol. (c : ℕ) × (symbol ≡ Category c) × (slice_get categories c ≡ Some text))
+    (λ symbol. (symbol ≡ category_symbol categories text)
+    × (slice_get categories (number_of categories text) ≡ Some text))

@@ -12,15 +12,15 @@ abbrev pub AreSound : List Rule → List Bool → Type 0
 AreSound rules flags =
     (c : ℕ) → IsTrue (slice_index_or flags c false) → IsNullable rules (Category c)
 
--- the flag of the rule's category is set, if those of its items are
-abbrev pub IsMet : List Bool → Rule → Type 0
-IsMet flags rule =
+-- the flags are closed under the rule: that of its category is set, if those of its items are
+abbrev pub IsClosedUnder : List Bool → Rule → Type 0
+IsClosedUnder flags rule =
     IsTrue (list_all (flag_of flags) rule.items) → IsTrue (slice_index_or flags rule.category false)
 
--- each of the first n rules is met
-abbrev pub AreMet : List Rule → List Bool → ℕ → Type 0
-AreMet rules flags n =
-    (r : ℕ) (rule : Rule) → r < n → slice_get rules r ≡ Some rule → IsMet flags rule
+-- the flags are closed under each of the first n rules
+abbrev pub AreClosedUnder : List Rule → List Bool → ℕ → Type 0
+AreClosedUnder rules flags n =
+    (r : ℕ) (rule : Rule) → r < n → slice_get rules r ≡ Some rule → IsClosedUnder flags rule
 
 -- each rule's category has a flag
 abbrev pub HaveFlags : List Rule → ℕ → Type 0
@@ -31,18 +31,20 @@ HaveFlags rules count =
 abbrev pub clear_count : List Bool → ℕ
 clear_count flags = length (filter not flags)
 
--- the rule was not met, and its category's flag alone was set; or it was met, and none was
-abbrev pub MeetsRule : List Bool → List Bool → Rule → Bool → Type 0
-MeetsRule old new rule true =
+-- the flags were not closed under the rule, and that of its category alone was set; or they were,
+-- and none was set
+abbrev pub AppliesRule : List Bool → List Bool → Rule → Bool → Type 0
+AppliesRule old new rule true =
     (slice_index_or old rule.category false ≡ false) × IsTrue (list_all (flag_of old) rule.items)
     × (new ≡ slice_set old rule.category true)
-MeetsRule old new rule false = IsMet old rule × (new ≡ old)
+AppliesRule old new rule false = IsClosedUnder old rule × (new ≡ old)
 
--- these are the flags behind the first n rules of a pass, which has set one, or each rule is met
-pub record ArePassed
+-- these are the flags after the first n rules of a pass, which has set one, or they are closed
+-- under each of these rules
+pub record AreAfterRules
     (rules : List Rule) (start flags : List Bool) (n : ℕ) (has_set : Bool) : Type 0 where
   pub sound : AreSound rules flags
   pub len : length flags ≡ length start
   pub falls : clear_count flags ≤ clear_count start
   pub some : IsTrue has_set → clear_count flags < clear_count start
-  pub none : IsFalse has_set → AreMet rules flags n
+  pub none : IsFalse has_set → AreClosedUnder rules flags n

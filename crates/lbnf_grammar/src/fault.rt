@@ -13,18 +13,19 @@ pub enum GrammarFault {
     #[error("definition {def} is a bad coercion")]
     BadCoercion { def: u32 },
     /// The first definition with a bad label or bad levels is a rule, internal or not, whose label
-    /// is one of lists and is at odds with its category or its items: its number.
+    /// is at odds with its category or its items: a label of lists where they are no such, or
+    /// another on a rule for lists, unless it is `_` and the one item is a list. Its number.
     #[error("definition {def} is a bad list")]
     BadList { def: u32 },
     /// The definitions give more than 1,024 rules: so many.
     #[error("the definitions give {count} rules")]
     TooManyRules { count: u64 },
     /// The first predefined name, in file order, that a definition gives rules for.
-    #[error("a predefined name has rules")]
+    #[error("the predefined name `{}` has rules", .name.as_str())]
     RepeatedToken { name: Name },
     /// The first category, in file order, that no rule has: its text, which is no predefined name,
     /// and the number of the definition that names it.
-    #[error("definition {def} names an unknown category")]
+    #[error("definition {def} names the unknown category `{}`", .name.as_str())]
     UnknownCategory { name: Name, def: u32 },
     /// The first category, in file order, that no rule has has a predefined name: the number of the
     /// definition that names it. Predefined kinds are not built.
@@ -32,6 +33,6 @@ pub enum GrammarFault {
     Unbuilt { def: u32 },
     /// The category of least number that reaches itself by steps: its text. A category steps to an
     /// item of one of its rules where each other item of that rule derives the empty span.
-    #[error("a category reaches itself")]
+    #[error("the category `{}` reaches itself", .name.as_str())]
     Cyclic { name: Name },
 }

@@ -2,7 +2,7 @@
 ghost use Rattle.std.specs.Prelude.{◌≡◌, ◌<◌, ◌^◌, length, slice_get, Contains, Some, IfSome};
 ghost use Rattle.std.specs.Prelude.{MatchOption};
 ghost use Rattle.spec_grammar.specs.Cycles.{IsAcyclic, IsRank};
-ghost use Rattle.spec_lbnf.specs.Expansion.{HasOwnSymbols, IsSymbolOf, item_count};
+ghost use Rattle.spec_lbnf.specs.Expansion.{HasOwnSymbols, IsSymbolOf, item_count, number_of};
 ghost use Rattle.lbnf_grammar.specs.Grammars.{FindsCategory};
 ghost use Rattle.lbnf_grammar.specs.Ranks.{AreRanks};
 
@@ -58,14 +58,14 @@ impl Grammar {
         self.parts.rules()
     }
 
-    /// How many rules there are.
+    /// How many rules there are. They are numbered from 0, in file order. It takes no memory.
     pub fn rule_count(&self) -> u16
         ensures { result ≡ length self.now.rules }
     {
         self.parts.rules().len() as u16
     }
 
-    /// The rule of this number.
+    /// The rule of this number, in file order. It takes no memory.
     pub fn rule(&self, r: u16) -> &Rule
         requires { r < length self.now.rules }
         ensures { slice_get self.now.rules r ≡ Some result.now }
@@ -73,7 +73,9 @@ impl Grammar {
         &self.parts.rules()[r as usize]
     }
 
-    /// The entry: the symbol that is asked for where none is named, and `None` where there is none.
+    /// The symbol that is asked for where none is named: the first category of the first definition
+    /// of entry points, or else the category of the first rule. `None` where there are no rules and
+    /// no entry points. It takes no memory.
     pub fn entry(&self) -> Option<Symbol>
         ensures entry { result ≡ self.now.entry }
         ensures own { IfSome result (IsSymbolOf self.now) }
@@ -81,14 +83,17 @@ impl Grammar {
         self.parts.entry()
     }
 
-    /// How many categories there are.
+    /// How many categories there are. `expand` numbers them from 0 as the rules meet them, in each
+    /// rule its own category first, and puts those that only internal rules have behind them;
+    /// `of_rules` keeps the numbers that it is given. It takes no memory.
     pub fn category_count(&self) -> u16
         ensures { result ≡ length self.now.categories }
     {
         self.parts.category_count()
     }
 
-    /// The text of the category of this number, in its brackets.
+    /// The text of the category of this number, a list's in its brackets. Numbers are those that
+    /// `category_count` tells of. It takes no memory.
     pub fn category_name(&self, c: u16) -> &Name
         requires { c < length self.now.categories }
         ensures { slice_get self.now.categories c ≡ Some result.now }
@@ -106,7 +111,9 @@ impl Grammar {
         self.ranks[c as usize]
     }
 
-    /// How many kinds of token there are.
+    /// How many kinds of token there are. `expand` makes one for each word and numbers them from 0
+    /// as the rules meet the words; `of_rules` keeps the numbers that it is given. It takes no
+    /// memory.
     pub fn kind_count(&self) -> u16
         ensures { result ≡ length self.now.kinds }
     {
@@ -121,7 +128,8 @@ impl Grammar {
         self.parts.kinds()
     }
 
-    /// The kind of this number.
+    /// The kind of this number, with its word. Numbers are those that `kind_count` tells of. It
+    /// takes no memory.
     pub fn kind(&self, k: u16) -> &KindDef
         requires { k < length self.now.kinds }
         ensures { slice_get self.now.kinds k ≡ Some result.now }
@@ -129,7 +137,9 @@ impl Grammar {
         &self.parts.kinds()[k as usize]
     }
 
-    /// The category of this text, and `None` where no category has it. It looks at each in turn.
+    /// The category of this text, which is the first where several have it; in a grammar of
+    /// `expand` only one has. It compares the text with each name in turn, up to the first that is
+    /// the same, and takes no memory.
     pub fn find(&self, text: &[u8]) -> Option<Symbol>
         ensures found { FindsCategory self.now.categories text.now result }
         ensures own { IfSome result (IsSymbolOf self.now) }
@@ -142,7 +152,8 @@ impl Grammar {
 /// The place of the first name that is this text.
 fn place_of(names: &[Name], text: &[u8]) -> Option<usize>
     ensures { MatchOption result (Contains names.now text.now → ⊥)
-        (λ place. slice_get names.now place ≡ Some text.now) }
+        (λ place. (place ≡ number_of names.now text.now)
+        × (slice_get names.now place ≡ Some text.now)) }
 {
     for (place, name) in names.iter().enumerate() {
         if name.as_slice() == text {

@@ -15,7 +15,10 @@ use std::alloc::{AllocError, Global};
 /// What is wrong with a definition's label or levels.
 #[derive(Clone, Copy, Debug)]
 pub(crate) enum LabelFault {
+    /// A rule labelled `_` that has not exactly one item that is no word, or coercions of no level.
     Coercion,
+    /// A rule whose label is at odds with its category or its items: a label of lists where they
+    /// are no such, or another on a rule for lists, unless it is `_` and the one item is a list.
     List,
 }
 

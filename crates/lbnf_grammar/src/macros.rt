@@ -170,7 +170,7 @@ fn coercion_rules(alloc: Global, name: &Name, levels: u16) -> Result<Vec<RawRule
 }
 
 /// The rules that the definition gives, in order.
-pub fn rules_of_def(alloc: Global, def: &Def) -> Result<Vec<RawRule>, AllocError>
+pub(crate) fn rules_of_def(alloc: Global, def: &Def) -> Result<Vec<RawRule>, AllocError>
     requires { IsSmall def.now }
     ensures { IfOk result (λ rules. rules.items ≡ rules_of_def def.now) }
 {
@@ -193,7 +193,7 @@ pub fn rules_of_def(alloc: Global, def: &Def) -> Result<Vec<RawRule>, AllocError
 }
 
 /// The rules that the definitions give, in file order.
-pub fn rules_of(alloc: Global, defs: &[Def]) -> Result<Vec<RawRule>, AllocError>
+pub(crate) fn rules_of(alloc: Global, defs: &[Def]) -> Result<Vec<RawRule>, AllocError>
     requires { All IsSmall defs.now }
     ensures { IfOk result (λ rules. rules.items ≡ rules_of defs.now) }
 {

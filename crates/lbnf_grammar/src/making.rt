@@ -13,11 +13,11 @@ use spec_lexing::KindDef;
 use spec_text::Name;
 use std::alloc::{AllocError, Global};
 
-/// There are fewer rules, and fewer categories and kinds.
-const NUMBERS: usize = 65_536;
+/// The most rules, and the most categories and kinds: their count is `<=` this.
+const MAX_COUNT: usize = 65_535;
 
-/// There are fewer items, in all rules together.
-const ITEMS: usize = 2_147_483_648;
+/// The most items, in all rules together: their count is `<=` this.
+const MAX_ITEMS: usize = 2_147_483_647;
 
 fn is_own(categories: &[Name], kinds: &[KindDef], symbol: Symbol) -> bool
     ensures { IsTrue result ↔ IsSymbolOf
@@ -64,10 +64,10 @@ fn have_own(categories: &[Name], kinds: &[KindDef], rules: &[Rule]) -> bool
 fn have_few_items(rules: &[Rule]) -> bool
     ensures { IsTrue result ↔ item_count rules.now < 2 ^ 31 }
 {
-    let mut room = ITEMS;
+    let mut room = MAX_ITEMS;
     for rule in rules {
         let count = rule.items.as_slice().len();
-        if count >= room {
+        if count > room {
             return false;
         }
         room -= count;
@@ -79,9 +79,9 @@ fn is_well_formed(rules: &[Rule], categories: &[Name], kinds: &[KindDef]) -> boo
     ensures { IsTrue result ↔ IsWellFormed
         (of_parts rules.now categories.now kinds.now (first_symbol rules.now)) }
 {
-    rules.len() < NUMBERS
-        && categories.len() < NUMBERS
-        && kinds.len() < NUMBERS
+    rules.len() <= MAX_COUNT
+        && categories.len() <= MAX_COUNT
+        && kinds.len() <= MAX_COUNT
         && have_few_items(rules)
         && have_own(categories, kinds, rules)
 }

@@ -12,7 +12,7 @@ use std::marker::Model;
 
 /// Names without repetitions, each with its place as its number.
 #[derive(Drop)]
-pub struct Names {
+pub(crate) struct Names {
     /// The names' bytes, in the order of `list`, to look names up.
     places: IndexSet<Vec<u8>>,
     list: Vec<Name>,
@@ -30,7 +30,7 @@ impl Model for Names {
 
 impl Names {
     /// No names. It takes no memory.
-    pub fn new(alloc: Global) -> Names
+    pub(crate) fn new(alloc: Global) -> Names
         ensures { result ≡ [] }
     {
         Names {
@@ -40,14 +40,14 @@ impl Names {
     }
 
     /// Whether this is one of the names.
-    pub fn has(&self, name: &[u8]) -> bool
+    pub(crate) fn has(&self, name: &[u8]) -> bool
         ensures { result ≡ list_any (bytes_eq name.now) self.now }
     {
         self.places.contains(name)
     }
 
     /// The number of the name, which is the count of names where it is none of them.
-    pub fn number(&self, name: &[u8]) -> usize
+    pub(crate) fn number(&self, name: &[u8]) -> usize
         ensures number { result ≡ number_of self.now name.now }
         ensures within { result ≤ length self.now }
     {
@@ -55,7 +55,7 @@ impl Names {
     }
 
     /// Adds the name, if it is new.
-    pub fn add(&mut self, alloc: Global, name: Name) -> Result<(), AllocError>
+    pub(crate) fn add(&mut self, alloc: Global, name: Name) -> Result<(), AllocError>
         ensures { OnOk result (self.new ≡ with_name self.old name) }
     {
         if self.places.contains(name.as_slice()) {
@@ -69,7 +69,7 @@ impl Names {
     }
 
     /// Adds those of the names that are new.
-    pub fn add_all(&mut self, alloc: Global, names: Vec<Name>) -> Result<(), AllocError>
+    pub(crate) fn add_all(&mut self, alloc: Global, names: Vec<Name>) -> Result<(), AllocError>
         ensures { OnOk result (self.new ≡ with_names self.old names.items) }
     {
         for name in names {
@@ -79,14 +79,14 @@ impl Names {
     }
 
     /// How many names there are.
-    pub fn len(&self) -> usize
+    pub(crate) fn len(&self) -> usize
         ensures { result ≡ length self.now }
     {
         self.list.len()
     }
 
     /// The names, by number.
-    pub fn into_list(self) -> Vec<Name>
+    pub(crate) fn into_list(self) -> Vec<Name>
         ensures { result.items ≡ self }
     {
         let Names { places: _, list } = self;

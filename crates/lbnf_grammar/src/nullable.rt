@@ -4,7 +4,7 @@ ghost use Rattle.std.specs.Prelude.{slice_index_or};
 ghost use Rattle.std.specs.List.{list_all};
 ghost use Rattle.lbnf_grammar.specs.Nullable.{AreNullableFlags, flag_of};
 ghost use Rattle.lbnf_grammar.specs.Nullable.{TellsNullable, TellsAllNullable};
-ghost use Rattle.lbnf_grammar.specs.NullablePasses.{AreSound, AreMet, HaveFlags, MeetsRule};
+ghost use Rattle.lbnf_grammar.specs.NullablePasses.{AreSound, AreClosedUnder, HaveFlags, AppliesRule};
 ghost use Rattle.lbnf_grammar.specs.NullablePasses.{clear_count};
 
 use crate::grammar::Grammar;
@@ -42,9 +42,9 @@ fn sets_flag(flags: &[bool], rule: &Rule) -> bool
 }
 
 /// Flags the rule's category where the rule gives cause to, and says whether it did.
-fn meet_rule(flags: &mut Vec<bool>, rule: &Rule) -> bool
+fn apply_rule(flags: &mut Vec<bool>, rule: &Rule) -> bool
     requires { rule.now.category < length flags.old.items }
-    ensures { MeetsRule flags.old.items flags.new.items rule.now result }
+    ensures { AppliesRule flags.old.items flags.new.items rule.now result }
 {
     let sets = sets_flag(flags.as_slice(), rule);
     if sets {
@@ -53,18 +53,18 @@ fn meet_rule(flags: &mut Vec<bool>, rule: &Rule) -> bool
     sets
 }
 
-/// Meets each rule in turn, and says whether a flag was set.
+/// Applies each rule in turn, and says whether a flag was set.
 fn pass(rules: &[Rule], flags: &mut Vec<bool>) -> bool
     requires sound { AreSound rules.now flags.old.items }
     requires range { HaveFlags rules.now (length flags.old.items) }
     ensures sound { AreSound rules.now flags.new.items }
     ensures len { length flags.new.items ≡ length flags.old.items }
     ensures some { IsTrue result → clear_count flags.new.items < clear_count flags.old.items }
-    ensures none { IsFalse result → AreMet rules.now flags.new.items (length rules.now) }
+    ensures none { IsFalse result → AreClosedUnder rules.now flags.new.items (length rules.now) }
 {
     let mut has_set = false;
     for rule in rules {
-        if meet_rule(flags, rule) {
+        if apply_rule(flags, rule) {
             has_set = true;
         }
     }

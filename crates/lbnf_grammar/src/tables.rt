@@ -13,9 +13,9 @@ use std::alloc::{AllocError, Global};
 
 /// The categories and the words of a grammar, each in the order in which its rules meet them.
 #[derive(Drop)]
-pub struct Tables {
-    pub categories: Names,
-    pub words: Names,
+pub(crate) struct Tables {
+    pub(crate) categories: Names,
+    pub(crate) words: Names,
 }
 
 impl Tables {
@@ -64,7 +64,11 @@ fn rule_tables(alloc: Global, rules: &[RawRule]) -> Result<Tables, AllocError>
 }
 
 /// The tables of what the rules meet, and of the definitions' internal categories behind it.
-pub fn tables_of(alloc: Global, defs: &[Def], rules: &[RawRule]) -> Result<Tables, AllocError>
+pub(crate) fn tables_of(
+    alloc: Global,
+    defs: &[Def],
+    rules: &[RawRule],
+) -> Result<Tables, AllocError>
     ensures categories { IfOk result (λ tables. tables.categories
         ≡ distinct (flat_map met_categories rules.now ++ flat_map internal_category defs.now)) }
     ensures words { IfOk result (λ tables. tables.words ≡ words_of rules.now) }

@@ -6,6 +6,7 @@ mod whole_files;
 
 use super::*;
 use lbnf_text::{Label, MAX_FILE, Name, read_defs};
+use small_grammars::grammar_of_names;
 use std::alloc::Global;
 use std::test::*;
 
@@ -198,6 +199,21 @@ fn no_definitions_are_a_grammar(rt: HostRuntime) -> Result<(), Fail> {
     assert_eq!(rt; grammar.kind_count(), 0);
     assert_eq!(rt; grammar.entry(), None);
     assert_eq!(rt; grammar.find(b"E".as_slice()), None);
+    Ok(())
+}
+
+#[test]
+fn the_first_of_equal_names_is_found(rt: HostRuntime) -> Result<(), Fail> {
+    let names = ["S", "T", "S", "T", "T"];
+    let grammar = grammar_of_names(rt.alloc(), names.as_slice())?.ok_or("a grammar")?;
+    let cases = [
+        (b"S".as_slice(), Some(Symbol::Category(0))),
+        (b"T".as_slice(), Some(Symbol::Category(1))),
+        (b"U".as_slice(), None),
+    ];
+    for (name, want) in cases {
+        assert_eq!(rt; grammar.find(name), want, "at {name:?}");
+    }
     Ok(())
 }
 

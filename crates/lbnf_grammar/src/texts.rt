@@ -10,7 +10,7 @@ use spec_text::Name;
 use sqlite_items::Items;
 use std::alloc::{AllocError, Global};
 
-pub fn copy_label(alloc: Global, label: &Label) -> Result<Label, AllocError>
+pub(crate) fn copy_label(alloc: Global, label: &Label) -> Result<Label, AllocError>
     ensures { IfOk result (λ copy. copy ≡ label.now) }
 {
     match label {
@@ -23,7 +23,7 @@ pub fn copy_label(alloc: Global, label: &Label) -> Result<Label, AllocError>
 }
 
 /// The name, and the number behind it.
-pub fn numbered_name(alloc: Global, name: &Name, number: u32) -> Result<Name, AllocError>
+pub(crate) fn numbered_name(alloc: Global, name: &Name, number: u32) -> Result<Name, AllocError>
     ensures { IfOk result (λ text. text ≡ name.now ++ decimal number) }
 {
     let name = name.as_str();
@@ -31,7 +31,7 @@ pub fn numbered_name(alloc: Global, name: &Name, number: u32) -> Result<Name, Al
     Ok(Name::of(text.into_bytes()))
 }
 
-pub fn copy_category(alloc: Global, cat: &CatName) -> Result<CatName, AllocError>
+pub(crate) fn copy_category(alloc: Global, cat: &CatName) -> Result<CatName, AllocError>
     ensures { IfOk result (λ copy. copy ≡ cat.now) }
 {
     let name = copy_name(alloc, &cat.name)?;
@@ -39,7 +39,7 @@ pub fn copy_category(alloc: Global, cat: &CatName) -> Result<CatName, AllocError
     Ok(CatName { name, depth })
 }
 
-pub fn copy_item(alloc: Global, item: &RawItem) -> Result<RawItem, AllocError>
+pub(crate) fn copy_item(alloc: Global, item: &RawItem) -> Result<RawItem, AllocError>
     ensures { IfOk result (λ copy. copy ≡ item.now) }
 {
     match item {
@@ -48,7 +48,7 @@ pub fn copy_item(alloc: Global, item: &RawItem) -> Result<RawItem, AllocError>
     }
 }
 
-pub fn copy_items(alloc: Global, items: &[RawItem]) -> Result<Items<RawItem>, AllocError>
+pub(crate) fn copy_items(alloc: Global, items: &[RawItem]) -> Result<Items<RawItem>, AllocError>
     ensures { IfOk result (λ copy. copy ≡ items.now) }
 {
     let mut copy = Items::new(alloc);
@@ -58,7 +58,7 @@ pub fn copy_items(alloc: Global, items: &[RawItem]) -> Result<Items<RawItem>, Al
     Ok(copy)
 }
 
-pub fn copy_rule(alloc: Global, rule: &RawRule) -> Result<RawRule, AllocError>
+pub(crate) fn copy_rule(alloc: Global, rule: &RawRule) -> Result<RawRule, AllocError>
     ensures { IfOk result (λ copy. copy ≡ rule.now) }
 {
     Ok(RawRule {
@@ -69,7 +69,7 @@ pub fn copy_rule(alloc: Global, rule: &RawRule) -> Result<RawRule, AllocError>
 }
 
 /// The category's name in its brackets.
-pub fn category_text(alloc: Global, cat: &CatName) -> Result<Name, AllocError>
+pub(crate) fn category_text(alloc: Global, cat: &CatName) -> Result<Name, AllocError>
     ensures { IfOk result (λ text. text ≡ category_text cat.now) }
 {
     let depth = cat.depth as usize;

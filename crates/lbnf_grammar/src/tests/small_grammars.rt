@@ -46,6 +46,15 @@ pub fn small_parts(
     Ok(parts_of(rules(alloc, sides)?, categories, kinds(alloc)?))
 }
 
+/// The grammar of no rules over categories of these names.
+pub fn grammar_of_names(alloc: Global, names: &[&str]) -> Result<Option<Grammar>, AllocError> {
+    let mut categories = Vec::new(alloc);
+    for name in names {
+        categories.push(Name::of(Vec::from_slice(alloc, name.as_bytes())?))?;
+    }
+    Grammar::of_rules(alloc, Vec::new(alloc), categories, kinds(alloc)?)
+}
+
 /// The grammar of these rules over the categories 0 to 3 and the kind 0.
 pub fn grammar_of(
     alloc: Global,
