@@ -17,7 +17,7 @@ use Rattle.chart_service.specs.Statuses.{number_of, IsReadStop, IsWriteStop}
 use Rattle.chart_service.specs.Writing.{EndsWith}
 use Rattle.chart_service.specs.Serving.{IsFaultStatus, IsPrefixOfSession}
 use Rattle.chart_service.specs.Reading.{NextLine, TakesCommand, NoneComes, IsHeader, IsGrammar, IsText}
-use Rattle.chart_service.specs.Forms.{ReadsHas, IsHas}
+use Rattle.chart_service.specs.Forms.{ReadsHas, IsHas, ReadsQuestion}
 use Rattle.chart_service.specs.Opening.{IsGrammarLine, EndsAtGrammar, EndsAtText, HasOpened, OpensText}
 use Rattle.chart_service.specs.Progress.{Running, Ends, Begun}
 
@@ -148,13 +148,13 @@ module _ (input before : List ℕ) where
       by_status ReadFault h = absurd h
 
 -- no command that begins a line stands where no line comes
-pub no_line_no_command : (from to : ℕ) (old new : Option (List ℕ)) (line bytes : List ℕ) → NextLine from to old new line false → old ≡ Some bytes → (command : Command) (more : List ℕ) → from < 2 ^ 48 → IsWithinLimits command → bytes ≡ text_of command ++ more → ⊥
+no_line_no_command : (from to : ℕ) (old new : Option (List ℕ)) (line bytes : List ℕ) → NextLine from to old new line false → old ≡ Some bytes → (command : Command) (more : List ℕ) → from < 2 ^ 48 → IsWithinLimits command → bytes ≡ text_of command ++ more → ⊥
 no_line_no_command from to old new line bytes h is command more early w e =
     h bytes is early (line_of command) (block_of command ++ more) (each_differs 10 (line_of command) (line_lacks_lf command w), line_is_short command w)
     (e ∙ append_assoc (line_of command) (10 ∷ block_of command) more)
 
 -- a line that comes is the line of the command that begins there
-pub line_of_command : (from to : ℕ) (old new : Option (List ℕ)) (line bytes : List ℕ) → NextLine from to old new line true → old ≡ Some bytes → (command : Command) (more : List ℕ) → IsWithinLimits command → bytes ≡ text_of command ++ more → line ≡ line_of command
+line_of_command : (from to : ℕ) (old new : Option (List ℕ)) (line bytes : List ℕ) → NextLine from to old new line true → old ≡ Some bytes → (command : Command) (more : List ℕ) → IsWithinLimits command → bytes ≡ text_of command ++ more → line ≡ line_of command
 line_of_command from to old new line bytes h is command more w e =
     let t = h.1 bytes is in
     (command_line command line t.0 more w (lacks_if_each_differs 10 line h.2.0) (sym (append_assoc line (10 ∷ []) t.0) ∙ sym t.2 ∙ e)).0
@@ -163,12 +163,12 @@ end_is_line : IsLine 256 (codes "end")
 end_is_line = (each_differs 10 (codes "end") (tested 10 (codes "end") refl), omega arith)
 
 -- nor does the line `end`
-pub no_line_no_end : (from to : ℕ) (old new : Option (List ℕ)) (line bytes : List ℕ) → NextLine from to old new line false → old ≡ Some bytes → (more : List ℕ) → from < 2 ^ 48 → bytes ≡ codes "end" ++ (10 ∷ more) → ⊥
+no_line_no_end : (from to : ℕ) (old new : Option (List ℕ)) (line bytes : List ℕ) → NextLine from to old new line false → old ≡ Some bytes → (more : List ℕ) → from < 2 ^ 48 → bytes ≡ codes "end" ++ (10 ∷ more) → ⊥
 no_line_no_end from to old new line bytes h is more early e = h bytes is early (codes "end") more end_is_line e
 
 -- a line that is none of these
 module _ (from to : ℕ) (old new : Option (List ℕ)) (line bytes : List ℕ) (h : NextLine from to old new line true) (is : old ≡ Some bytes) where
-  pub no_question : ReadsHas line None → (command : Command) (more : List ℕ) → from < 2 ^ 48 → AreQuestions (command ∷ []) → IsWithinLimits command → bytes ≡ text_of command ++ more → ⊥
+  no_question : ReadsHas line None → (command : Command) (more : List ℕ) → from < 2 ^ 48 → AreQuestions (command ∷ []) → IsWithinLimits command → bytes ≡ text_of command ++ more → ⊥
   no_question other (has constituent) more early q w e =
       other constituent (record { nameable = w.0; spelled = line_of_command from to old new line bytes h is (has constituent) more w e })
   no_question other header more early q w e = absurd q
@@ -178,15 +178,15 @@ module _ (from to : ℕ) (old new : Option (List ℕ)) (line bytes : List ℕ) (
   rest_of : (rest : List ℕ) × (new ≡ Some rest) × (bytes ≡ line ++ (10 ∷ rest))
   rest_of = let t = h.1 bytes is in (t.0, t.1, t.2 ∙ append_assoc line (10 ∷ []) t.0)
 
-  pub no_end : (line ≡ codes "end" → ⊥) → (more : List ℕ) → from < 2 ^ 48 → bytes ≡ codes "end" ++ (10 ∷ more) → ⊥
+  no_end : (line ≡ codes "end" → ⊥) → (more : List ℕ) → from < 2 ^ 48 → bytes ≡ codes "end" ++ (10 ∷ more) → ⊥
   no_end other more early e =
       other ((cut_same 10 line rest_of.0 (codes "end") more (lacks_if_each_differs 10 line h.2.0) (tested 10 (codes "end") refl) (sym rest_of.2 ∙ e)).0)
 
-  pub is_end : line ≡ codes "end" → (more : List ℕ) × (bytes ≡ codes "end" ++ (10 ∷ more))
+  is_end : line ≡ codes "end" → (more : List ℕ) × (bytes ≡ codes "end" ++ (10 ∷ more))
   is_end e = (rest_of.0, rest_of.2 ∙ ap (λ word. word ++ (10 ∷ rest_of.0)) e)
 
   -- a line that asks is a question taken
-  pub question_taken : (constituent : Constituent) → IsHas line constituent → TakesCommand from to old new (has constituent)
+  question_taken : (constituent : Constituent) → IsHas line constituent → TakesCommand from to old new (has constituent)
   question_taken constituent q = let P : List ℕ → Type 0 = λ word. Takes old new (word ++ 10 ∷ []) in record {
     early = h.0;
     within_limits = (q.nameable, omega (arith, h.2.1, ap length q.spelled));
@@ -202,7 +202,9 @@ last_question (header ∷ questions) command h = absurd h
 last_question (grammar block ∷ questions) command h = absurd h
 last_question (opens text ∷ questions) command h = absurd h
 
-module _ (input before : List ℕ) (coming : Option (List ℕ)) (at : ℕ) (now : Option (List ℕ)) (opened : Opened) (r : Running input before coming at now opened) where
+-- behind the text
+module _ {input before : List ℕ} {coming : Option (List ℕ)} {at : ℕ} {now : Option (List ℕ)}
+    {opened : Opened} (r : Running input before coming at now opened) where
   front : List Command
   front = header ∷ grammar r.block ∷ opens r.text ∷ r.questions
 
@@ -219,7 +221,7 @@ module _ (input before : List ℕ) (coming : Option (List ℕ)) (at : ℕ) (now 
   running_stopped status fault = stopped_behind input before front at r.rest told r.are_questions r.begins all_replies now r.has_written status fault
 
   -- neither a question nor the end follows
-  pub running_broken : (place : ℕ) → place ≡ at → ((command : Command) (more : List ℕ) → at < 2 ^ 48 → AreQuestions (command ∷ []) → IsWithinLimits command → r.rest ≡ text_of command ++ more → ⊥) → ((more : List ℕ) → at < 2 ^ 48 → r.rest ≡ codes "end" ++ (10 ∷ more) → ⊥) → (new : Option (List ℕ)) (status : Status) → EndsWith now new (last_line (broken place)) BadScript status → Ends input before new status
+  running_broken : (place : ℕ) → place ≡ at → ((command : Command) (more : List ℕ) → at < 2 ^ 48 → AreQuestions (command ∷ []) → IsWithinLimits command → r.rest ≡ text_of command ++ more → ⊥) → ((more : List ℕ) → at < 2 ^ 48 → r.rest ≡ codes "end" ++ (10 ∷ more) → ⊥) → (new : Option (List ℕ)) (status : Status) → EndsWith now new (last_line (broken place)) BadScript status → Ends input before new status
   unfolding front told
   running_broken place e no_more no_end new status says =
       last input before front at r.rest told r.are_questions r.begins all_replies (broken place) (
@@ -230,15 +232,50 @@ module _ (input before : List ℕ) (coming : Option (List ℕ)) (at : ℕ) (now 
       now new r.has_written BadScript status refl says
 
   -- the end follows
-  pub running_ended : (more : List ℕ) → at < 2 ^ 48 → r.rest ≡ codes "end" ++ (10 ∷ more) → (new : Option (List ℕ)) (status : Status) → EndsWith now new (last_line ended) Fine status → Ends input before new status
+  running_ended : (more : List ℕ) → at < 2 ^ 48 → r.rest ≡ codes "end" ++ (10 ∷ more) → (new : Option (List ℕ)) (status : Status) → EndsWith now new (last_line ended) Fine status → Ends input before new status
   unfolding front told
   running_ended more early e new status says =
       last input before front at r.rest told r.are_questions r.begins all_replies ended
       (record { more = more; early = early; complete = r.are_questions; spelled = e })
       now new r.has_written Fine status refl says
 
+  -- a line is read, or none comes
+  module _ (to : ℕ) (next : Option (List ℕ)) (line : List ℕ) where
+    -- where none comes, the script breaks
+    pub no_line_ends : NextLine at to coming next line false → (place : ℕ) → place ≡ at
+        → (new : Option (List ℕ)) (status : Status)
+        → EndsWith now new (last_line (broken place)) BadScript status → Ends input before new status
+    no_line_ends none place e =
+        running_broken place e
+        (λ command more early q. no_line_no_command at to coming next line r.rest none r.comes command more early)
+        (no_line_no_end at to coming next line r.rest none r.comes)
+
+    module _ (taken : NextLine at to coming next line true) where
+      -- a line that is neither a question nor `end` breaks it
+      pub other_line_ends : ReadsQuestion line None → (place : ℕ) → place ≡ at
+          → (new : Option (List ℕ)) (status : Status)
+          → EndsWith now new (last_line (broken place)) BadScript status → Ends input before new status
+      other_line_ends other place e =
+          running_broken place e
+          (no_question at to coming next line r.rest taken r.comes other.1)
+          (no_end at to coming next line r.rest taken r.comes other.0)
+
+      -- the line `end` ends it
+      pub end_line_ends : line ≡ codes "end" → (new : Option (List ℕ)) (status : Status)
+          → EndsWith now new (last_line ended) Fine status → Ends input before new status
+      end_line_ends e =
+          let end = is_end at to coming next line r.rest taken r.comes e in
+          running_ended end.0 taken.0 end.1
+
+      -- a line that asks is a question
+      pub question_asked : (constituent : Constituent) → IsHas line constituent
+          → TakesCommand at to coming next (has constituent)
+      question_asked = question_taken at to coming next line r.rest taken r.comes
+
   -- a question follows, and its answer is written or cut short
-  module _ (constituent : Constituent) (to : ℕ) (later : Option (List ℕ)) (taken : TakesCommand at to coming later (has constituent)) (line : List ℕ) (answer : IsAnswer opened.language.grammar r.tokens constituent line) where
+  module _ {constituent : Constituent} {to : ℕ} {later : Option (List ℕ)} {line : List ℕ}
+      (taken : TakesCommand at to coming later (has constituent))
+      (answer : IsAnswer opened.language.grammar r.tokens constituent line) where
     question : Command
     question = has constituent
 
