@@ -147,11 +147,11 @@ fn run<S: Source, K: Sink>(alloc: Global, source: &mut S, sink: &mut K) -> Statu
 /// Runs the session that the source's script defines, and answers its exit status: 0 where the
 /// script was read through its line `end`, 2 where the grammar is refused, 3 where the script is
 /// broken, 4 and 5 at a fault of the source and of the sink, 6 for want of memory. `joins` is for
-/// the chart's joins; no join is counted.
+/// the chart's joins; no join is counted. The options change nothing that is written.
 ///
-/// No clause says what follows. The options change nothing that is written. Each reply is written
-/// before the next line is read, though up to 4,096 bytes may have been read ahead by then. The
-/// chart of n tokens takes memory for at most n(n + 1) / 2 entries.
+/// No clause says what follows. Each reply is written before the next line is read, though up to
+/// 4,096 bytes may have been read ahead by then. The chart of n tokens takes memory for at most
+/// n(n + 1) / 2 entries.
 pub fn serve<S: Source, K: Sink, L: Ledger>(
     alloc: Global,
     options: &Options,

@@ -13,10 +13,10 @@ use spec_lexing::KindDef;
 use spec_text::Name;
 use std::alloc::{AllocError, Global};
 
-/// The most rules, and the most categories and kinds: their count is `<=` this.
+/// The most rules, the most categories and the most kinds.
 const MAX_COUNT: usize = 65_535;
 
-/// The most items, in all rules together: their count is `<=` this.
+/// The most items, in all rules together.
 const MAX_ITEMS: usize = 2_147_483_647;
 
 fn is_own(categories: &[Name], kinds: &[KindDef], symbol: Symbol) -> bool
