@@ -1,7 +1,6 @@
 -- How a session begins: the header, the grammar and the text are taken in turn, and each may be
 -- missing.
 use Rattle.std.proofs.Common.{◌≡◌, ℕ, ◌+◌, ◌^◌, ◌<◌, ◌≤◌, List, [], ◌∷◌, ◌++◌, length, Option, Some, None, Result, Ok, Err, OnOk, refl, sym, ◌∙◌, ap, subst, arith, append_assoc, append-nil, length-append}
-use Rattle.cyk_io.specs.Streams.{Grows}
 use Rattle.spec_lbnf.specs.Expansion.{Expansion}
 use Rattle.spec_session.specs.Script.{Command, header, grammar, opens, has, line_of, block_of, text_of, IsWithinLimits, IsInOrder, Begins, broken}
 use Rattle.spec_session.specs.Replies.{IsAccepted, grammar_reply, version_reply}

@@ -8,8 +8,8 @@ use Rattle.cyk_io.specs.Streams.{GrowsByPrefix}
 use Rattle.spec_lexing.specs.declared.token.Token.{Token}
 use Rattle.spec_lbnf.specs.declared.definition.Def.{Def}
 use Rattle.spec_lbnf.specs.Expansion.{Expansion, expansion_of, symbol_count}
-use Rattle.spec_lbnf.specs.Faults.{Spells, IsFirstFault, FileFault, too_large, is_large}
-use Rattle.spec_lbnf.specs.Checks.{AreFit, IsUnfit, Unfitness}
+use Rattle.spec_lbnf.specs.Faults.{Spells, IsFirstFault, too_large, is_large}
+use Rattle.spec_lbnf.specs.Checks.{AreFit, IsUnfit}
 use Rattle.spec_session.specs.Script.{opens}
 use Rattle.spec_session.specs.Replies.{IsReply, IsRefused, IsRefusedFor, AreAccepted, faulty, unfit, too_many_symbols, fault_reason, unfit_reason, symbols_reason, version_reply}
 use Rattle.lbnf_text.specs.Reading.{file_fault_of}

@@ -1,5 +1,5 @@
 -- How a session goes on and how it ends: what was written so far is the replies to the commands so far.
-use Rattle.std.proofs.Common.{◌≡◌, true, false, ℕ, ◌+◌, ◌^◌, ◌<◌, ◌≤◌, inl, inr, List, [], ◌∷◌, ◌++◌, length, take, drop, codes, Option, Some, None, Result, Ok, Err, OnOk, refl, sym, ◌∙◌, ap, subst, arith, append_assoc, append-nil, length-append}
+use Rattle.std.proofs.Common.{◌≡◌, true, false, ℕ, ◌+◌, ◌^◌, ◌<◌, inl, inr, List, [], ◌∷◌, ◌++◌, length, take, drop, codes, Option, Some, None, refl, sym, ◌∙◌, ap, subst, arith, append_assoc, append-nil, length-append}
 use Rattle.std.proofs.lemmas.List.{take-append-drop}
 use Rattle.cyk_io.specs.Streams.{Takes, Grows, GrowsByPrefix}
 use Rattle.cyk_io.specs.Lines.{IsLine}
@@ -16,10 +16,10 @@ use Rattle.chart_service.specs.declared.status.Status.TheVariants.{Ok as Fine, B
 use Rattle.chart_service.specs.Statuses.{number_of, IsReadStop, IsWriteStop}
 use Rattle.chart_service.specs.Writing.{EndsWith}
 use Rattle.chart_service.specs.Serving.{IsFaultStatus, IsPrefixOfSession}
-use Rattle.chart_service.specs.Reading.{NextLine, TakesCommand, NoneComes, IsHeader, IsGrammar, IsText}
+use Rattle.chart_service.specs.Reading.{NextLine, TakesCommand}
 use Rattle.chart_service.specs.Forms.{ReadsHas, IsHas, ReadsQuestion}
-use Rattle.chart_service.specs.Opening.{IsGrammarLine, EndsAtGrammar, EndsAtText, HasOpened, OpensText}
-use Rattle.chart_service.specs.Progress.{Running, Ends, Begun}
+use Rattle.chart_service.specs.Opening.{IsGrammarLine, EndsAtGrammar, EndsAtText}
+use Rattle.chart_service.specs.Progress.{Running, Ends}
 
 -- the statuses of faults
 pub write_stop : (status : Status) → IsWriteStop status → IsFaultStatus (number_of status)

@@ -5,7 +5,8 @@ use Rattle.chart_service.proofs.reading.read_count.Goals as goal
 
 pub returns-then-not-found-clause-ok : goal.returns-then-not-found-clause-ok
 returns-then-not-found-clause-ok g c =
-    no_line_no_count c.args.beginning.now c.args.most c.args.ahead.now.offset c.next_line.new.ahead.offset
+    no_line_no_count c.args.beginning.now c.args.most
+    c.args.ahead.now.offset c.next_line.new.ahead.offset
     (coming c.args.ahead.now (g.S.Source.left c.args.source.now))
     (coming c.next_line.new.ahead (g.S.Source.left c.next_line.new.source)) c.next_line.new.line
     (rw c.if-not-found.true at c.in_ok-found.ensures.ok)

@@ -34,7 +34,8 @@ returns-in-Some-End-clause-ok g c input before r =
     end_line_ends r c.next_line.new.ahead.offset next c.next_line.new.line
     (rw c.in-Ok-true.field-0-test at c.in-Ok-true.ensures.ok)
     (rw (c.in-Some-End.field-0-is, c.as_bytes.ensures.bytes) at c.in-Some-End.ensures)
-    (g.K.Sink.written c.finish.new.sink) c.finish.result (rw c.as_slice.ensures at c.finish.ensures.ok)
+    (g.K.Sink.written c.finish.new.sink) c.finish.result
+    (rw c.as_slice.ensures at c.finish.ensures.ok)
 
 pub returns-in-Ok-clause-ok : goal.returns-in-Ok-clause-ok
 returns-in-Ok-clause-ok g c input before r =
@@ -53,4 +54,5 @@ returns-in-Err-say_answer-clause-ok g c input before r =
     (rw (c.in-Some-Has.field-0-is, c.as_bytes.ensures.bytes) at c.in-Some-Has.ensures) in
     running_cut r asked (c.answer_of.ensures r.text r.tokens r.is_opened)
     (g.K.Sink.written c.say_answer.new.sink) c.in-Err-say_answer.ensures.err
-    c.in-Err-say_answer.status (write_stop c.in-Err-say_answer.status c.in-Err-say_answer.ensures.stop)
+    c.in-Err-say_answer.status
+    (write_stop c.in-Err-say_answer.status c.in-Err-say_answer.ensures.stop)
