@@ -5,8 +5,7 @@ ghost use Rattle.std.specs.List.{list_all};
 ghost use Rattle.lbnf_grammar.specs.Nullable.{AreNullableFlags, flag_of};
 ghost use Rattle.lbnf_grammar.specs.Nullable.{TellsNullable, TellsAllNullable};
 ghost use Rattle.lbnf_grammar.specs.NullablePasses.{AreSound, AreClosedUnder, HaveFlags};
-ghost use Rattle.lbnf_grammar.specs.NullablePasses.{AppliesRule};
-ghost use Rattle.lbnf_grammar.specs.NullablePasses.{clear_count};
+ghost use Rattle.lbnf_grammar.specs.NullablePasses.{AppliesRule, clear_count};
 
 use crate::grammar::Grammar;
 use crate::parts::GrammarParts;

@@ -5,13 +5,17 @@ use Rattle.lbnf_grammar.proofs.checking.first_unlisted.Goals as goal
 
 pub returns-then-not-has : goal.returns-then-not-has
 returns-then-not-has c =
-    let told = told_listed c.args.known.now c.name-item.result c.as_slice.result.now c.as_slice.ensures.bytes c.has.result false c.has.ensures c.if-not-has.true in
-    first_bad (IsUnlisted c.args.known.now) (IsListed c.args.known.now) c.args.names.now c.loop-name.name-index c.name-item.result c.loop-name-test.true c.name-item.is c.loop-name.invariant told
+    let told = told_listed c.args.known.now c.name-item.result c.as_slice.result.now c.as_slice.ensures.bytes
+    c.has.result false c.has.ensures c.if-not-has.true in
+    first_bad (IsUnlisted c.args.known.now) (IsListed c.args.known.now) c.args.names.now
+    c.loop-name.name-index c.name-item.result c.loop-name-test.true c.name-item.is c.loop-name.invariant told
 
 pub loop-name-preserved : goal.loop-name-preserved
 loop-name-preserved c =
-    let told = told_listed c.args.known.now c.name-item.result c.as_slice.result.now c.as_slice.ensures.bytes c.has.result true c.has.ensures c.if-not-has.false in
-    more_good (IsUnlisted c.args.known.now) (IsListed c.args.known.now) c.args.names.now c.loop-name.name-index c.name-item.result c.loop-name-test.true c.name-item.is c.loop-name.invariant told
+    let told = told_listed c.args.known.now c.name-item.result c.as_slice.result.now c.as_slice.ensures.bytes
+    c.has.result true c.has.ensures c.if-not-has.false in
+    more_good (IsUnlisted c.args.known.now) (IsListed c.args.known.now) c.args.names.now
+    c.loop-name.name-index c.name-item.result c.loop-name-test.true c.name-item.is c.loop-name.invariant told
 
 pub returns : goal.returns
 returns c = good_all (IsListed c.args.known.now) c.args.names.now c.loop-name.name-index c.loop-name-test.false c.loop-name.invariant
