@@ -35,8 +35,8 @@ pub record HasDistinctNames (g : Expansion) : Type 0 where
   pub distinct : (c d : ℕ) (name : List ℕ) → slice_get g.categories c ≡ Some name
       → slice_get g.categories d ≡ Some name → c ≡ d
 
--- the grammar that the block spells, or the fault of the first layer that gives none: of reading the
--- file, of expanding what it spells, or of making its binary form; each layer may want memory
+-- the grammar that the block spells, or the fault of the first layer that gives none: of reading
+-- the file, of expanding what it spells, or of making its binary form; each layer may want memory
 abbrev pub ReadsLanguage : List ℕ → Result Language LanguageFault → Type 0
 ReadsLanguage block (Ok language) =
     IsAccepted block language.grammar × HasDistinctNames language.grammar
