@@ -1,8 +1,8 @@
 -- Laws of grids.
-use Rattle.std.proofs.Common.{◌≡◌, ℕ, ◌<◌, List, [], map, get_or, ◌+◌, ◌∙◌, ap, arith}
+use Rattle.std.proofs.Common.{◌≡◌, [], map, get_or, ◌∙◌, ap, arith}
 use Rattle.std.specs.List.{range_with_len}
 use Rattle.std.proofs.lemmas.List.FromFn.{get_or-map-range_with_len}
-use Rattle.cell_sets.specs.Grids.{Grid, entry, row_of, grid_of, EntriesAreValues}
+use Rattle.cell_sets.specs.Grids.{row_of, grid_of, EntriesAreValues}
 
 -- an entry of a grid made from a function is the function's value
 pub entry-grid_of : EntriesAreValues

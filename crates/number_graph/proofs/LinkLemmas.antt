@@ -5,7 +5,7 @@ use Rattle.std.specs.List.{Contains}
 use Rattle.std.proofs.lemmas.List.{get_or_default, get_or_past}
 use Rattle.std.proofs.lemmas.Grind.{get_or-set_at}
 use Rattle.std.proofs.lemmas.List.Elements.{Contains-append_left, Contains-append_right, Contains-append_cases}
-use Rattle.number_graph.specs.Graphs.{HasLink, AddsLinks, AddsLink, AreNoLinks, AreLinksWithin}
+use Rattle.number_graph.specs.Graphs.{HasLink, AddsLinks, AddsLink, AreLinksWithin}
 
 -- two numbers are the same, or they differ
 pub same_or_other : (m n : ℕ) → (m ≡ n) ⊎ (m ≢ n)
