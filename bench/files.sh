@@ -1,5 +1,5 @@
 #!/usr/bin/env bash
-# Counts the instructions of `bin/lbnfchart serve` on grammar files of 8,192 to 65,536 bytes, by
+# Counts the instructions of `lbnfchart serve` on grammar files of 8,192 to 65,536 bytes, by
 # valgrind, in a session that ends behind its grammar, less those of an empty grammar: a file takes
 # one or two milliseconds, which are too few to be timed. Two files of each size are read: one of
 # internal rules, which are read whole, and one that is refused at its last byte. The last line says
@@ -12,7 +12,7 @@ root=$(cd -- "$(dirname -- "${BASH_SOURCE[0]}")/.." && pwd)
 # The first run builds the program, where it has to be built. With no word it writes a line.
 "$root/bin/lbnfchart" </dev/null >/dev/null || [[ $? -eq 1 ]] || exit 2
 
-exec python3 - "$root/bin/lbnfchart" <<'PROGRAM'
+exec python3 - "$root/crates/lbnfchart/out/lbnfchart" <<'PROGRAM'
 import re
 import subprocess
 import sys
