@@ -140,11 +140,11 @@ impl<C: Cell> Binary<C> {
         }
     }
 
-    /// What a span is whose left part is what one cell has, and its right part what the other has:
-    /// the closure of each suffix whose first item is in the left cell and whose other items,
-    /// as a suffix, are in the right one (Valiant 1975; Lange and Leiss 2009). It looks at the
-    /// symbols of the left cell and at the places where they are items, and makes a union for each
-    /// suffix that it finds. An error is want of memory.
+    /// The symbols of a span whose left part has the symbols of one cell and whose right part those
+    /// of the other: the closure of each suffix whose first item is in the left cell and whose
+    /// other items, as a suffix, are in the right one (Valiant 1975; Lange and Leiss 2009). It
+    /// looks at the symbols of the left cell and at the places where they are items, and makes a
+    /// union for each suffix that it finds. An error is want of memory.
     pub fn product(&self, alloc: Global, left: &C, right: &C) -> Result<C, AllocError>
         ensures { IfOk result (λ cell.
             IsProductOf self.now (C.symbols left.now) (C.symbols right.now) (C.symbols cell)) }
