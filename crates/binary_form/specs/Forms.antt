@@ -20,7 +20,7 @@ AreClosures symbols g cells = AreClosuresUpTo symbols g (symbol_count g) cells
 -- suffixes are numbered from, flags of what is nullable, closures, wholes
 pub record AreParts {C : Type 0} (symbols : C → List ℕ) (most : ℕ) (g : Expansion) (firsts : List ℕ)
     (flags : List Bool) (cells : List C) (links : List (List ℕ)) : Type 0 where
-  pub own : HasOwnSymbols g
+  pub own_symbols : HasOwnSymbols g
   pub few : symbol_count g ≤ 2048
   pub room : symbol_count g ≤ most
   pub firsts_are : AreFirstSuffixes g firsts

@@ -61,7 +61,7 @@ fn closure_of<C: Cell>(
     requires few { symbol_count grammar.now ≤ 2048 }
     requires room { symbol_count grammar.now ≤ C.ROOM }
     requires steps { AreUnitSteps grammar.now steps.now }
-    requires known { HasOwnSymbols grammar.now }
+    requires own_symbols { HasOwnSymbols grammar.now }
     requires below { number < symbol_count grammar.now }
     ensures { IfOk result (λ cell. IsClosureOf grammar.now number (C.symbols cell)) }
 {
@@ -79,7 +79,7 @@ fn closures_of<C: Cell>(
     requires few { symbol_count grammar.now ≤ 2048 }
     requires room { symbol_count grammar.now ≤ C.ROOM }
     requires steps { AreUnitSteps grammar.now steps.now }
-    requires known { HasOwnSymbols grammar.now }
+    requires own_symbols { HasOwnSymbols grammar.now }
     ensures { IfOk result (λ cells. AreClosures C.symbols grammar.now cells.items) }
 {
     let mut closures = Vec::new(alloc);

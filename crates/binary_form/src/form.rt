@@ -73,7 +73,7 @@ impl<C: Cell> Binary<C> {
     /// How many symbols there are: their numbers are those below. The rules of the grammar have its
     /// own symbols. It takes no memory.
     pub fn symbol_count(&self) -> u32
-        ensures own { HasOwnSymbols self.now }
+        ensures own_symbols { HasOwnSymbols self.now }
         ensures count { result ≡ symbol_count self.now }
         ensures few { result ≤ 2048 }
         ensures room { result ≤ C.ROOM }

@@ -82,7 +82,7 @@ fn first_cells<C: Cell>(
     kinds: &[Option<u16>],
     token: usize,
 ) -> Result<Vec<C>, AllocError>
-    requires own { HasOwnSymbols bin.now }
+    requires own_symbols { HasOwnSymbols bin.now }
     requires within { token < length kinds.now }
     requires few { length kinds.now ≤ 16384 }
     ensures { IfOk result (λ cells.
@@ -116,7 +116,7 @@ fn next_row<C: Cell>(
     kinds: &[Option<u16>],
     rows: &[Row<C>],
 ) -> Result<Row<C>, AllocError>
-    requires own { HasOwnSymbols bin.now }
+    requires own_symbols { HasOwnSymbols bin.now }
     requires rows { AreLastRows C.symbols bin.now kinds.now rows.now }
     requires short { length rows.now < length kinds.now }
     requires few { length kinds.now ≤ 16384 }

@@ -27,7 +27,7 @@ loop-last-preserved-then-is_empty g c =
     let within : last < length kinds = omega (arith, c.loop-last-test.true) in
     let is =
     cell_entry symbols c.args.bin.now kinds rows c.requires.rows c.requires.short c.loop-last.row last
-    c.loop-last.cells.items from within c.loop-last.invariant.cells c.index.result.now c.requires.own
+    c.loop-last.cells.items from within c.loop-last.invariant.cells c.index.result.now c.requires.own_symbols
     c.loop-last.invariant.row c.index.ensures in
     record {
       row =
@@ -68,7 +68,7 @@ loop-last-preserved g c =
     let read = subst (λ x. x ≡ get_or c.loop-last.cells.items (last + 1) x) (sym c.replace-cell.ensures.value) c.index_mut.ensures.value in
     let is =
     cell_entry symbols c.args.bin.now kinds rows c.requires.rows c.requires.short c.loop-last.row last
-    c.loop-last.cells.items from within c.loop-last.invariant.cells cell c.requires.own
+    c.loop-last.cells.items from within c.loop-last.invariant.cells cell c.requires.own_symbols
     c.loop-last.invariant.row read in
     rw c.in_ok-push.ensures.ok (record {
       row =
