@@ -3,6 +3,7 @@
 use Rattle.std.proofs.Common.{◌≡◌, ◌≢◌, ℕ, suc, ◌+◌, ◌-◌, ◌<◌, ◌≤◌, ◌↔◌, ◌⊎◌, inl, inr, List, [], ◌∷◌, ◌++◌, Bool, false, IsTrue}
 use Rattle.std.proofs.Common.{Some, length, slice_get, slice_set, slice_index_or, take, drop, replicate, refl, sym, ap, ◌∙◌, subst, arith}
 use Rattle.std.proofs.Common.{length-set, length-append, get_or-set_other}
+use Rattle.std.proofs.lemmas.Bool.{cases_eq, cases_lt}
 use Rattle.std.proofs.lemmas.List.{take_all, length-replicate, get_or_append_left, get_or-append-add}
 use Rattle.std.proofs.lemmas.Grind.{get_or-set_at}
 use Rattle.spec_grammar.specs.declared.rule.Symbol.{Symbol}
@@ -11,6 +12,7 @@ use Rattle.spec_grammar.specs.declared.rule.Rule.{Rule}
 use Rattle.spec_grammar.specs.Derivation.{IsNullable}
 use Rattle.spec_lbnf.specs.Expansion.{Expansion, item_count, symbol_count}
 use Rattle.lbnf_grammar.specs.Nullable.{AreNullableFlags}
+use Rattle.lbnf_grammar.proofs.NullableLemmas.{kind_not_nullable}
 use Rattle.binary_form.specs.declared.rows.SuffixRow.{SuffixRow}
 use Rattle.binary_form.specs.Symbols.{BinarySymbol, plain, suffix, BinaryDerives}
 use Rattle.binary_form.specs.UnitSteps.{AreNullable}
@@ -18,10 +20,9 @@ use Rattle.binary_form.specs.BinaryForm.{IsNumberOf, IsNullableNumber}
 use Rattle.binary_form.specs.Rows.{IsRowAt, suffix_number}
 use Rattle.binary_form.specs.NullableNumbers.{AreNullableNumbers, AreNullableFrom, IsRestNullable}
 use Rattle.number_graph.specs.Graphs.{IsSet}
-use Rattle.binary_form.proofs.EmptySpanLemmas.{none_nullable, some_nullable, kind_not_nullable}
+use Rattle.binary_form.proofs.EmptySpanLemmas.{none_nullable, some_nullable}
 use Rattle.binary_form.proofs.NumberLemmas.{number_is_one}
 use Rattle.binary_form.proofs.ItemLemmas.{items_behind, same_rule}
-use Rattle.number_graph.proofs.LinkLemmas.{same_or_other}
 use Rattle.number_graph.proofs.FlagLemmas.{none_set}
 use Rattle.binary_form.proofs.RowLemmas.{none_or_more, number_below, whole_number, next_number}
 
@@ -113,7 +114,7 @@ module _ (g : Expansion) where
       → AreNullableFrom g n (slice_set flags (suffix_number g n) flag)
   flagged_from n row flags flag at before is = record {
     count = length-set flags (suffix_number g n) flag ∙ before.count;
-    exact = λ m below part. elim (same_or_other m (suffix_number g n)) [
+    exact = λ m below part. elim (cases_eq m (suffix_number g n)) [
       | inl same ↦
           let read : slice_index_or (slice_set flags (suffix_number g n) flag) m false ≡ flag =
           get_or-set_at flags (suffix_number g n) m flag false same within in
@@ -183,15 +184,12 @@ module _ (g : Expansion) where
       clear : List Bool
       clear = replicate (symbol_count g - length categories) false
 
-      below_or_not : (c n : ℕ) → (n < c) ⊎ (c ≤ n)
-      below_or_not c n = grind arith
-
       two_parts :
           (n : ℕ)
           → n < symbol_count g → (n < length g.categories + length g.kinds) ⊎ (symbol_count g ≤ n)
           → (n < length g.categories) ⊎ ((length g.categories ≤ n) × (n < length g.categories + length g.kinds))
       two_parts n below (inr late) = absurd (omega arith)
-      two_parts n below (inl early) = elim (below_or_not (length g.categories) n) [
+      two_parts n below (inl early) = elim (cases_lt n (length g.categories)) [
         | inl category ↦ inl category
         | inr kind ↦ inr (kind, early)
       ]

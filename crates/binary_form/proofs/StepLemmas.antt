@@ -3,7 +3,7 @@ use Rattle.std.proofs.Common.{◌≡◌, ℕ, suc, ◌+◌, ◌<◌, ◌≤◌, 
 use Rattle.std.proofs.Common.{Some, length, slice_get, take, drop, refl, sym, ap, ◌∙◌, subst, arith, length-drop}
 use Rattle.std.proofs.lemmas.List.{length-replicate}
 use Rattle.std.proofs.lemmas.Option.{slice_get_within}
-use Rattle.std.proofs.lemmas.Bool.{false≢true}
+use Rattle.std.proofs.lemmas.Bool.{cases_Bool, cases_lt, not-true, not_from_false}
 use Rattle.spec_grammar.specs.declared.rule.Symbol.TheVariants.{Category}
 use Rattle.spec_grammar.specs.declared.rule.Rule.{Rule}
 use Rattle.spec_grammar.specs.Derivation.{IsNullable}
@@ -80,16 +80,13 @@ module _ (Link : SuffixRow → ℕ → ℕ → ℕ → Type 0) (rows : List Suff
             }
       ]
 
-      last_or_before : (k : ℕ) → k < many + 1 → (k < many) ⊎ (k ≡ many)
-      last_or_before k within = grind arith
-
       same_row :
           (k : ℕ) (other : SuffixRow)
           → k ≡ many → slice_get rows k ≡ Some other → other ≡ row
       same_row k other same is_other = cc
 
       back : (m n : ℕ) → IsLinkOfRows Link rows first (many + 1) m n → HasLink new m n
-      back m n link = (adds.links m n).1 (elim (last_or_before link.k link.within) [
+      back m n link = (adds.links m n).1 (elim (cases_lt link.k many) [
         | inl earlier ↦ inl ((before.exact m n).1 (record {
           k = link.k;
           row = link.row;
@@ -97,28 +94,23 @@ module _ (Link : SuffixRow → ℕ → ℕ → ℕ → Type 0) (rows : List Suff
           within = earlier;
           is_link = link.is_link;
         }))
-        | inr last ↦
+        | inr later ↦
+            let last : link.k ≡ many = omega (arith, link.within) in
             let same : link.row ≡ row = same_row link.k link.row last link.is_row in
             let P : SuffixRow → Type 0 = λ x. Link x (first + many) m n in
             let Q : ℕ → Type 0 = λ k. Link link.row (first + k) m n in
             inr (subst P same (subst Q last link.is_link))
       ])
 
--- a test is true, or false
-true_or_false : (test : Bool) → IsTrue test ⊎ IsFalse test
-true_or_false true = inl refl
-true_or_false false = inr refl
-
--- a test's opposite is true where the test is false
+-- a test's opposite is true exactly where the test is false
 pub not_tested : (test : Bool) → IsTrue (not test) ↔ IsFalse test
-not_tested true = ((λ is. absurd (false≢true is)), (λ is. absurd (false≢true (sym is))))
-not_tested false = ((λ is. refl), (λ is. refl))
+not_tested test = (not-true test, not_from_false test)
 
 -- an item with a symbol of the grammar behind it is not the last
 not_last :
     (g : Expansion) (r p : ℕ) (row : SuffixRow)
     → IsRow g r p row → IsBinarySymbolOf g (suffix r (suc p)) → IsFalse row.is_last
-not_last g r p row is next = elim (true_or_false row.is_last) [
+not_last g r p row is next = elim (cases_Bool row.is_last) [
   | inr no_more ↦ no_more
   | inl last ↦
       let are_behind = items_behind g.rules r p is.item is.behind next.0 is.has next.1 in

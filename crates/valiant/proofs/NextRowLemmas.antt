@@ -1,5 +1,6 @@
 -- The row of one token is filled end by end, from the cells to which its entries add their cuts.
 use Rattle.std.proofs.Common.{◌≡◌, ℕ, zero, suc, ◌+◌, ◌-◌, ◌<◌, ◌≤◌, ◌⊎◌, List, [], ◌∷◌, ◌++◌, Option, Some, length, slice_get, get_or, set, refl, sym, ◌∙◌, subst, inl, inr, arith}
+use Rattle.std.proofs.lemmas.Bool.{cases_lt}
 use Rattle.std.proofs.lemmas.Option.{slice_get_within, slice_get-get_or, slice_get_read}
 use Rattle.std.proofs.lemmas.List.{length-set, length_push}
 use Rattle.spec_lbnf.specs.Expansion.{Expansion, HasOwnSymbols}
@@ -52,8 +53,7 @@ module _ {C : Type 0} (symbols : C → List ℕ) (g : Expansion) (kinds : List (
       -- the row behind is that of its token, if there is one
       rows_behind : HasRisingEnds behind × AreEndsBelow (length kinds + 1) behind
       rows_behind =
-          let side : (token < length kinds) ⊎ (length kinds ≤ token) = grind arith in
-          elim side [
+          elim (cases_lt token (length kinds)) [
             | inl within ↦
                 let place = length kinds - token - 1 in
                 let is = last place (get_or rows place []) (slice_get-get_or rows place [] (omega arith)) in

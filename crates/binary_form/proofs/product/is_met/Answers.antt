@@ -1,7 +1,8 @@
 use Rattle.std.proofs.Common.{arith}
+use Rattle.std.proofs.lemmas.Bool.{false≢true}
 use Rattle.binary_form.specs.Products.{IsItemMet}
 use Rattle.number_graph.proofs.LinkLemmas.{link_within}
-use Rattle.binary_form.proofs.GivingLemmas.{not_true, none_up_to, none_at_all}
+use Rattle.binary_form.proofs.GivingLemmas.{none_up_to, none_at_all}
 use Rattle.binary_form.proofs.product.is_met.Goals as goal
 
 pub goes_on-requires-clause-below : goal.goes_on-requires-clause-below
@@ -16,7 +17,7 @@ loop-item-preserved g c =
       omega (arith, next.1, c.count.ensures),
       none_up_to (IsItemMet c.args.wholes.now (symbols c.args.right.now)) (symbols c.args.left.now)
           c.count.result c.loop-item.from c.in-Some.item next c.loop-item.invariant.1
-          (λ met. not_true (unmet.1 met)),
+          (λ met. false≢true (unmet.1 met)),
     )
 
 pub returns : goal.returns
@@ -25,4 +26,4 @@ returns g c =
     let none = none_at_all (IsItemMet c.args.wholes.now (symbols c.args.right.now)) (symbols c.args.left.now)
     c.count.result c.loop-item.from c.in_default.ensures c.loop-item.invariant.1
     (λ item met. rw c.count.ensures (link_within c.args.wholes.now item met.0 met.1)) in
-    ((λ found. absurd (not_true found)), (λ found. absurd (none found)))
+    ((λ found. absurd (false≢true found)), (λ found. absurd (none found)))
