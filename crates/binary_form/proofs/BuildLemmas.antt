@@ -2,11 +2,10 @@
 use Rattle.std.proofs.Common.{◌≡◌, ℕ, zero, suc, ◌+◌, ◌<◌, ◌≤◌, ◌↔◌, ◌⊎◌, List, [], ◌∷◌, ◌++◌, Some, Bool, inl, inr, length, length-append, slice_get, sym, subst, arith, Contains}
 use Rattle.std.proofs.lemmas.Bool.{cases_lt}
 use Rattle.spec_lbnf.specs.Expansion.{Expansion}
-use Rattle.cell_sets.specs.Cells.{AddsSymbol}
+use Rattle.cell_sets.specs.Cells.{Adds, AddsSymbol}
 use Rattle.binary_form.specs.BinaryForm.{IsClosureOf}
 use Rattle.number_graph.specs.Graphs.{IsSet}
 use Rattle.binary_form.specs.Forms.{AreClosuresUpTo}
-use Rattle.binary_form.specs.Products.{Adds}
 use Rattle.number_graph.proofs.FlagLemmas.{set_within}
 
 module _ (flags : List Bool) where

@@ -4,8 +4,8 @@ use Rattle.std.proofs.lemmas.Bool.{cases_lt}
 use Rattle.std.proofs.lemmas.Option.{slice_get_read}
 use Rattle.std.proofs.lemmas.List.{take_more, take_all}
 use Rattle.std.proofs.lemmas.List.Elements.{Contains-append_left, Contains-append_right, Contains-append_cases}
-use Rattle.cell_sets.specs.Cells.{IsUnion, IsNextFrom}
-use Rattle.binary_form.specs.Products.{Adds, OneGives, OneGivesBelow, GoesOn, WholeGives, IsNextBelow}
+use Rattle.cell_sets.specs.Cells.{Adds, IsUnion, IsNextFrom}
+use Rattle.binary_form.specs.Products.{OneGives, OneGivesBelow, GoesOn, WholeGives, IsNextBelow}
 use Rattle.number_graph.proofs.LinkLemmas.{Contains-one}
 
 -- where the next number of a cell is none, there is none below the count

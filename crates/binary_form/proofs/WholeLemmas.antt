@@ -2,13 +2,14 @@
 use Rattle.std.proofs.Common.{◌≡◌, ℕ, ◌+◌, ◌↔◌, ◌⊎◌, List, [], inl, inr, suc, length, refl, sym, ◌∙◌, ap, subst, arith, Contains}
 use Rattle.std.proofs.lemmas.Option.{slice_get_cases}
 use Rattle.spec_lbnf.specs.Expansion.{Expansion, symbol_count}
+use Rattle.cell_sets.specs.Cells.{Adds}
 use Rattle.binary_form.specs.Symbols.{BinarySymbol, suffix, number_of}
 use Rattle.binary_form.specs.UnitSteps.{stay}
 use Rattle.binary_form.specs.BinaryForm.{IsNumberOf, IsReachedNumber, MakesNumber, IsProductNumber, IsProductOf, AddsProductOf, HasProduct}
 use Rattle.number_graph.specs.Graphs.{HasLink}
 use Rattle.binary_form.specs.Wholes.{IsWhole, AreWholes}
 use Rattle.binary_form.specs.Forms.{AreClosures}
-use Rattle.binary_form.specs.Products.{Adds, AreBelow, OneGives, IsInCellAt, ItemGives, IsItemMet, LinksGoOnBelow}
+use Rattle.binary_form.specs.Products.{AreBelow, OneGives, IsInCellAt, ItemGives, IsItemMet, LinksGoOnBelow}
 use Rattle.binary_form.proofs.ItemLemmas.{suffix_symbol}
 use Rattle.binary_form.proofs.NumberLemmas.{number_is_one, numbers_below, number-suffix-suc}
 

@@ -1,10 +1,11 @@
 -- What a caller sees of the binary form of a grammar.
-use Rattle.std.specs.Prelude.{◌≡◌, ℕ, suc, ◌<◌, ◌≤◌, ◌↔◌, ◌⊎◌, List, [], Option, Some, length}
+use Rattle.std.specs.Prelude.{◌≡◌, ℕ, suc, ◌<◌, ◌≤◌, ◌↔◌, List, [], Option, Some, length}
 use Rattle.std.specs.Prelude.{Contains}
 use Rattle.std.specs.Prelude.{Result, Ok, Err}
 use Rattle.spec_grammar.specs.declared.rule.Symbol.{Symbol}
 use Rattle.spec_grammar.specs.declared.rule.Symbol.TheVariants.{Kind}
 use Rattle.spec_lbnf.specs.Expansion.{Expansion, symbol_count}
+use Rattle.cell_sets.specs.Cells.{Adds}
 use Rattle.binary_form.specs.declared.fault.BinaryFault.{BinaryFault}
 use Rattle.binary_form.specs.declared.fault.BinaryFault.TheVariants.{Memory, TooManySymbols}
 use Rattle.binary_form.specs.Symbols.{BinarySymbol, plain, suffix, BinaryDerives, IsBinarySymbolOf}
@@ -57,8 +58,7 @@ IsProductOf g left right cell = (n : ℕ) → Contains cell n ↔ IsProductNumbe
 
 -- the new cell has the numbers of the old one, and those of the product of the two
 abbrev pub AddsProductOf : Expansion → List ℕ → List ℕ → List ℕ → List ℕ → Type 0
-AddsProductOf g left right old new =
-    (n : ℕ) → Contains new n ↔ (Contains old n ⊎ IsProductNumber g left right n)
+AddsProductOf g left right old new = Adds (IsProductNumber g left right) old new
 
 -- some number is in the product of the two cells
 abbrev pub HasProduct : Expansion → List ℕ → List ℕ → Type 0

@@ -1,10 +1,6 @@
 -- The product of two cells, by wholes and their closures. Serves the proofs alone.
-use Rattle.std.specs.Prelude.{◌≡◌, ℕ, ◌+◌, ◌<◌, ◌≤◌, ◌↔◌, ◌⊎◌, List, [], Option, Some}
+use Rattle.std.specs.Prelude.{◌≡◌, ℕ, ◌+◌, ◌<◌, ◌≤◌, List, [], Option, Some}
 use Rattle.std.specs.Prelude.{MatchOption, slice_get, slice_index_or, Contains}
-
--- the new list has what the old one has, and what is given
-abbrev pub Adds : (ℕ → Type 0) → List ℕ → List ℕ → Type 0
-Adds IsGiven old new = (n : ℕ) → Contains new n ↔ (Contains old n ⊎ IsGiven n)
 
 -- one of the givers gives the number
 abbrev pub OneGives : (ℕ → ℕ → Type 0) → List ℕ → ℕ → Type 0

@@ -1,10 +1,10 @@
 //! Making the binary form of a grammar.
 ghost use Rattle.std.specs.Prelude.{◌≡◌, ℕ, ◌<◌, ◌≤◌, ◌↔◌, ◌⊎◌, length, Contains, IfOk};
 ghost use Rattle.spec_lbnf.specs.Expansion.{HasOwnSymbols, symbol_count};
+ghost use Rattle.cell_sets.specs.Cells.{Adds};
 ghost use Rattle.binary_form.specs.BinaryForm.{IsClosureOf, MakesBinary};
 ghost use Rattle.number_graph.specs.Graphs.{IsSet};
 ghost use Rattle.binary_form.specs.Forms.{AreClosures};
-ghost use Rattle.binary_form.specs.Products.{Adds};
 ghost use Rattle.binary_form.specs.RowLinks.{AreUnitSteps};
 
 use crate::fault::BinaryFault;

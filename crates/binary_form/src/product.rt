@@ -1,6 +1,7 @@
 //! The product of two cells: look-ups and unions alone.
 ghost use Rattle.std.specs.Prelude.{◌≡◌, ◌+◌, ◌<◌, ◌≤◌, ◌↔◌, ℕ, length, Contains, IsTrue, IfOk};
-ghost use Rattle.binary_form.specs.Products.{Adds, AreBelow, GoesOn, GoOnBelow, IsItemMet};
+ghost use Rattle.cell_sets.specs.Cells.{Adds};
+ghost use Rattle.binary_form.specs.Products.{AreBelow, GoesOn, GoOnBelow, IsItemMet};
 ghost use Rattle.binary_form.specs.Products.{IsNextBelow};
 ghost use Rattle.binary_form.specs.Products.{ItemGives, LinksGoOnBelow, OneGives, WholeGives};
 

@@ -1,7 +1,8 @@
 use Rattle.std.proofs.Common.{◌<◌, length, refl, arith}
 use Rattle.std.proofs.lemmas.Option.{slice_get_read}
 use Rattle.std.proofs.lemmas.Result.{IfOk-weaker}
-use Rattle.binary_form.specs.Products.{Adds, WholeGives}
+use Rattle.cell_sets.specs.Cells.{Adds}
+use Rattle.binary_form.specs.Products.{WholeGives}
 use Rattle.binary_form.proofs.GivingLemmas.{adds_closure, adds_known}
 use Rattle.binary_form.proofs.product.with_whole.Goals as goal
 

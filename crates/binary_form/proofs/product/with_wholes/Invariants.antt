@@ -1,5 +1,6 @@
 use Rattle.std.proofs.Common.{take}
-use Rattle.binary_form.specs.Products.{Adds, OneGives, WholeGives}
+use Rattle.cell_sets.specs.Cells.{Adds}
+use Rattle.binary_form.specs.Products.{OneGives, WholeGives}
 use Rattle.binary_form.proofs.product.with_wholes.Given as goal
 
 -- the closures of the wholes so far are in the cell
