@@ -14,10 +14,10 @@ use Rattle.spec_lbnf.specs.Expansion.{Expansion, item_count, symbol_count}
 use Rattle.lbnf_grammar.specs.Nullable.{AreNullableFlags}
 use Rattle.lbnf_grammar.proofs.NullableLemmas.{kind_not_nullable}
 use Rattle.binary_form.specs.declared.rows.SuffixRow.{SuffixRow}
-use Rattle.binary_form.specs.Symbols.{BinarySymbol, plain, suffix, BinaryDerives}
+use Rattle.binary_form.specs.Symbols.{BinarySymbol, plain, suffix, BinaryDerives, plain_count, suffix_number}
 use Rattle.binary_form.specs.UnitSteps.{AreNullable}
 use Rattle.binary_form.specs.BinaryForm.{IsNumberOf, IsNullableNumber}
-use Rattle.binary_form.specs.Rows.{IsRowAt, suffix_number}
+use Rattle.binary_form.specs.Rows.{IsRowAt}
 use Rattle.binary_form.specs.NullableNumbers.{AreNullableNumbers, AreNullableFrom, IsRestNullable}
 use Rattle.number_graph.specs.Graphs.{IsSet}
 use Rattle.binary_form.proofs.EmptySpanLemmas.{none_nullable, some_nullable}
@@ -98,7 +98,7 @@ module _ (g : Expansion) where
   -- the number of a category or a kind is below those of the suffixes
   plain_below :
       (s : Symbol) (n : ℕ)
-      → IsNumberOf g (plain s) n → n < length g.categories + length g.kinds
+      → IsNumberOf g (plain s) n → n < plain_count g
   plain_below (Category c) n is = omega (arith, is.0, is.1)
   plain_below (Kind k) n is = omega (arith, is.0, is.1)
 
@@ -147,8 +147,8 @@ module _ (g : Expansion) where
       other_part :
           (m : ℕ)
           → m ≢ suffix_number g n
-          → (m < length g.categories + length g.kinds) ⊎ (suffix_number g n ≤ m)
-          → (m < length g.categories + length g.kinds) ⊎ (suffix_number g (n + 1) ≤ m)
+          → (m < plain_count g) ⊎ (suffix_number g n ≤ m)
+          → (m < plain_count g) ⊎ (suffix_number g (n + 1) ≤ m)
       other_part m differ (inl early) = inl early
       other_part m differ (inr late) = inr (omega arith)
 
@@ -186,8 +186,8 @@ module _ (g : Expansion) where
 
       two_parts :
           (n : ℕ)
-          → n < symbol_count g → (n < length g.categories + length g.kinds) ⊎ (symbol_count g ≤ n)
-          → (n < length g.categories) ⊎ ((length g.categories ≤ n) × (n < length g.categories + length g.kinds))
+          → n < symbol_count g → (n < plain_count g) ⊎ (symbol_count g ≤ n)
+          → (n < length g.categories) ⊎ ((length g.categories ≤ n) × (n < plain_count g))
       two_parts n below (inr late) = absurd (omega arith)
       two_parts n below (inl early) = elim (cases_lt n (length g.categories)) [
         | inl category ↦ inl category
@@ -209,7 +209,7 @@ module _ (g : Expansion) where
   pub flags_end : (flags : List Bool) → AreNullableFrom g 0 flags → AreNullableNumbers g flags
   flags_end flags from = record {
     count = from.count;
-    exact = λ n below. from.exact n below (two_parts (length g.categories + length g.kinds));
+    exact = λ n below. from.exact n below (two_parts (plain_count g));
   }
     where
       two_parts : {n : ℕ} (m : ℕ) → (n < m) ⊎ (m + 0 ≤ n)

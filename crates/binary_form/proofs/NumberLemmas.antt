@@ -5,7 +5,7 @@ use Rattle.std.proofs.lemmas.List.Sums.{sum_by-cons}
 use Rattle.spec_grammar.specs.declared.rule.Symbol.TheVariants.{Category, Kind}
 use Rattle.spec_grammar.specs.declared.rule.Rule.{Rule}
 use Rattle.spec_lbnf.specs.Expansion.{Expansion, item_count}
-use Rattle.binary_form.specs.Symbols.{BinarySymbol, plain, suffix, IsBinarySymbolOf, number_of}
+use Rattle.binary_form.specs.Symbols.{BinarySymbol, plain, suffix, IsBinarySymbolOf, number_of, plain_count}
 use Rattle.binary_form.specs.BinaryForm.{IsNumberOf}
 use Rattle.binary_form.specs.Laws.{NumbersDiffer, NumbersAreBelow, NumbersAreUsed}
 
@@ -154,7 +154,7 @@ numbers_used g n below =
       | inl category ↦ (plain (Category n), category, refl)
       | inr (inl kind) ↦ (plain (Kind (n - length g.categories)), omega arith, omega arith)
       | inr (inr item) ↦
-          let x = counted g.rules (n - (length g.categories + length g.kinds)) (omega arith) in
+          let x = counted g.rules (n - (plain_count g)) (omega arith) in
           let is = x.2 in
           (suffix x.0 x.1, (is.rule, is.is_rule, is.within), omega (arith, is.count))
     ]

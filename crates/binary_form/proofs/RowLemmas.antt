@@ -9,10 +9,10 @@ use Rattle.spec_grammar.specs.declared.rule.Symbol.{Symbol}
 use Rattle.spec_grammar.specs.declared.rule.Rule.{Rule}
 use Rattle.spec_lbnf.specs.Expansion.{Expansion, HasOwnSymbols, item_count, symbol_count}
 use Rattle.binary_form.specs.declared.rows.SuffixRow.{SuffixRow}
-use Rattle.binary_form.specs.Symbols.{BinarySymbol, plain, suffix}
+use Rattle.binary_form.specs.Symbols.{BinarySymbol, plain, suffix, suffix_number}
 use Rattle.binary_form.specs.UnitSteps.{HasItem}
 use Rattle.binary_form.specs.BinaryForm.{IsNumberOf}
-use Rattle.binary_form.specs.Rows.{IsRow, IsRowAt, AreRows, IsRowWithin, suffix_number}
+use Rattle.binary_form.specs.Rows.{IsRow, IsRowAt, AreRows, IsRowWithin}
 use Rattle.binary_form.proofs.ItemLemmas.{drop_from_get, drop_within, same_rule, next_item, suffix_symbol}
 use Rattle.binary_form.proofs.NumberLemmas.{IsCounted, counted_once, count_within, numbers_below}
 

@@ -9,11 +9,11 @@ use Rattle.spec_grammar.specs.declared.rule.Rule.{Rule}
 use Rattle.spec_grammar.specs.Derivation.{IsNullable}
 use Rattle.spec_lbnf.specs.Expansion.{Expansion, item_count}
 use Rattle.binary_form.specs.declared.rows.SuffixRow.{SuffixRow}
-use Rattle.binary_form.specs.Symbols.{BinarySymbol, plain, suffix, BinaryDerives, IsBinarySymbolOf, number_of}
+use Rattle.binary_form.specs.Symbols.{BinarySymbol, plain, suffix, BinaryDerives, IsBinarySymbolOf, number_of, plain_count, suffix_number}
 use Rattle.binary_form.specs.UnitSteps.{AreNullable, UnitStep, whole_side, last_item, passed_item}
 use Rattle.binary_form.specs.BinaryForm.{IsNumberOf}
 use Rattle.binary_form.specs.NumberSteps.{StepNumber}
-use Rattle.binary_form.specs.Rows.{IsRow, IsRowAt, AreRows, suffix_number}
+use Rattle.binary_form.specs.Rows.{IsRow, IsRowAt, AreRows}
 use Rattle.binary_form.specs.Wholes.{IsWhole, AreWholes}
 use Rattle.binary_form.specs.NullableNumbers.{AreNullableNumbers, IsRestNullable}
 use Rattle.number_graph.specs.Graphs.{IsSet, HasLink, AddsLinks, AreNoLinks}
@@ -172,13 +172,13 @@ module _ (g : Expansion) (rows : List SuffixRow) (nullable : List Bool) (are : A
   pub row_of_step :
       (from to : ℕ)
       → StepNumber g from to
-      → IsLinkOfRows (IsRowStep nullable) rows (length g.categories + length g.kinds) (length rows) from to
+      → IsLinkOfRows (IsRowStep nullable) rows (plain_count g) (length rows) from to
   row_of_step from to step = row_of step.0 step.1 step.2 step.3 step.4
     where
       row_of :
           (a b : BinarySymbol)
           → IsNumberOf g a from → IsNumberOf g b to → UnitStep g.rules a b
-          → IsLinkOfRows (IsRowStep nullable) rows (length g.categories + length g.kinds) (length rows) from to
+          → IsLinkOfRows (IsRowStep nullable) rows (plain_count g) (length rows) from to
       row_of a b is_a is_b (whole_side {r = r} {rule = rule} is_rule) =
           let start = symbol_item g r 0 is_a.0 in
           let x = row_at g rows are r 0 start.0 start.1 start.2 in
@@ -236,7 +236,7 @@ module _ (g : Expansion) (rows : List SuffixRow) (nullable : List Bool) (are : A
   pub unit_steps_are :
       (many : ℕ) (links : List (List ℕ))
       → length rows ≤ many
-      → AreLinksOfRows (IsRowStep nullable) rows (length g.categories + length g.kinds) many (length nullable) links
+      → AreLinksOfRows (IsRowStep nullable) rows (plain_count g) many (length nullable) links
       → AreUnitSteps g links
   unit_steps_are many links all given = record {
     count = given.size ∙ flags.count;
@@ -279,7 +279,7 @@ module _ (g : Expansion) (rows : List SuffixRow) (are : AreRows g rows) where
   row_of_whole :
       (item_number whole : ℕ)
       → IsWhole g item_number whole
-      → IsLinkOfRows IsRowWhole rows (length g.categories + length g.kinds) (length rows) item_number whole
+      → IsLinkOfRows IsRowWhole rows (plain_count g) (length rows) item_number whole
   row_of_whole item_number whole x =
       let found = row_at g rows are x.r x.p x.item x.behind x.has in
       let is = found.2 in
@@ -301,7 +301,7 @@ module _ (g : Expansion) (rows : List SuffixRow) (are : AreRows g rows) where
   pub wholes_are :
       (many : ℕ) (links : List (List ℕ))
       → length rows ≤ many
-      → AreLinksOfRows IsRowWhole rows (length g.categories + length g.kinds) many (length g.categories + length g.kinds + length rows) links
+      → AreLinksOfRows IsRowWhole rows (plain_count g) many (suffix_number g (length rows)) links
       → AreWholes g links
   wholes_are many links all given = record {
     count = omega (arith, given.size, are.count);

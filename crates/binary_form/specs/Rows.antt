@@ -21,10 +21,6 @@ pub record IsRow (g : Expansion) (r p : ℕ) (row : SuffixRow) : Type 0 where
   pub is_first : IsTrue row.is_first ↔ (p ≡ 0)
   pub is_last : IsTrue row.is_last ↔ (behind ≡ [])
 
--- the number of the suffix that begins at this item, the items of all rules counted in order
-abbrev pub suffix_number : Expansion → ℕ → ℕ
-suffix_number g n = length g.categories + length g.kinds + n
-
 -- the row is that of the suffix which begins at this item, the items of all rules counted in order
 pub record IsRowAt (g : Expansion) (n : ℕ) (row : SuffixRow) : Type 0 where
   pub r : ℕ
