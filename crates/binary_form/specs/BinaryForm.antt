@@ -6,6 +6,7 @@ use Rattle.spec_grammar.specs.declared.rule.Symbol.{Symbol}
 use Rattle.spec_grammar.specs.declared.rule.Symbol.TheVariants.{Kind}
 use Rattle.spec_lbnf.specs.Expansion.{Expansion, symbol_count}
 use Rattle.cell_sets.specs.Cells.{Adds}
+use Rattle.binary_form.specs.declared.build.TheConstants.{MAX_SYMBOLS}
 use Rattle.binary_form.specs.declared.fault.BinaryFault.{BinaryFault}
 use Rattle.binary_form.specs.declared.fault.BinaryFault.TheVariants.{Memory, TooManySymbols}
 use Rattle.binary_form.specs.Symbols.{BinarySymbol, plain, suffix, BinaryDerives, IsBinarySymbolOf}
@@ -67,6 +68,6 @@ HasProduct g left right = (n : ℕ) × IsProductNumber g left right n
 -- the answer on the grammar is its binary form, which is seen as the grammar, or that it has too
 -- many symbols; want of memory comes at no grammar of too many
 abbrev pub MakesBinary : Expansion → Result Expansion BinaryFault → Type 0
-MakesBinary g (Ok binary) = (symbol_count g ≤ 2048) × (binary ≡ g)
-MakesBinary g (Err Memory) = symbol_count g ≤ 2048
-MakesBinary g (Err (TooManySymbols count)) = (count ≡ symbol_count g) × (2048 < count)
+MakesBinary g (Ok binary) = (symbol_count g ≤ MAX_SYMBOLS) × (binary ≡ g)
+MakesBinary g (Err Memory) = symbol_count g ≤ MAX_SYMBOLS
+MakesBinary g (Err (TooManySymbols count)) = (count ≡ symbol_count g) × (MAX_SYMBOLS < count)

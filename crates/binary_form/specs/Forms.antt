@@ -1,6 +1,7 @@
 -- What a binary form keeps of its grammar. Serves the proofs alone.
 use Rattle.std.specs.Prelude.{◌≡◌, ℕ, ◌≤◌, List, Some, Bool, length, slice_get}
 use Rattle.spec_lbnf.specs.Expansion.{Expansion, HasOwnSymbols, symbol_count}
+use Rattle.binary_form.specs.declared.build.TheConstants.{MAX_SYMBOLS}
 use Rattle.binary_form.specs.BinaryForm.{IsClosureOf}
 use Rattle.binary_form.specs.FirstSuffixes.{AreFirstSuffixes}
 use Rattle.binary_form.specs.NullableNumbers.{AreNullableNumbers}
@@ -21,7 +22,7 @@ AreClosures symbols g cells = AreClosuresUpTo symbols g (symbol_count g) cells
 pub record AreParts {C : Type 0} (symbols : C → List ℕ) (most : ℕ) (g : Expansion) (firsts : List ℕ)
     (flags : List Bool) (cells : List C) (links : List (List ℕ)) : Type 0 where
   pub own_symbols : HasOwnSymbols g
-  pub few : symbol_count g ≤ 2048
+  pub few : symbol_count g ≤ MAX_SYMBOLS
   pub room : symbol_count g ≤ most
   pub firsts_are : AreFirstSuffixes g firsts
   pub nullable : AreNullableNumbers g flags

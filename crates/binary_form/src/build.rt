@@ -18,6 +18,9 @@ use lbnf_grammar::Grammar;
 use number_graph::{Links, reached_from};
 use std::alloc::{AllocError, Global};
 
+/// The most symbols that a binary form has.
+pub const MAX_SYMBOLS: u32 = 2_048;
+
 /// The cell with the number, if its flag is set.
 fn with_number<C: Cell>(
     alloc: Global,
@@ -40,7 +43,7 @@ fn with_number<C: Cell>(
 
 /// The cell of the numbers whose flags are set, put in from the least to the greatest.
 fn cell_of<C: Cell>(alloc: Global, flags: &[bool]) -> Result<C, AllocError>
-    requires few { length flags.now ≤ 2048 }
+    requires few { length flags.now ≤ MAX_SYMBOLS }
     requires room { length flags.now ≤ C.ROOM }
     ensures { IfOk result (λ cell. (n : ℕ) → Contains (C.symbols cell) n ↔ IsSet flags.now n) }
 {
@@ -58,7 +61,7 @@ fn closure_of<C: Cell>(
     steps: &Links,
     number: u16,
 ) -> Result<C, AllocError>
-    requires few { symbol_count grammar.now ≤ 2048 }
+    requires few { symbol_count grammar.now ≤ MAX_SYMBOLS }
     requires room { symbol_count grammar.now ≤ C.ROOM }
     requires steps { AreUnitSteps grammar.now steps.now }
     requires own_symbols { HasOwnSymbols grammar.now }
@@ -76,7 +79,7 @@ fn closures_of<C: Cell>(
     grammar: &Grammar,
     steps: &Links,
 ) -> Result<Vec<C>, AllocError>
-    requires few { symbol_count grammar.now ≤ 2048 }
+    requires few { symbol_count grammar.now ≤ MAX_SYMBOLS }
     requires room { symbol_count grammar.now ≤ C.ROOM }
     requires steps { AreUnitSteps grammar.now steps.now }
     requires own_symbols { HasOwnSymbols grammar.now }
@@ -99,7 +102,7 @@ fn rules_have_own_symbols(grammar: &Grammar)
 
 /// The binary form of a grammar of at most 2,048 symbols.
 fn form_of<C: Cell>(alloc: Global, grammar: &Grammar) -> Result<Binary<C>, AllocError>
-    requires few { symbol_count grammar.now ≤ 2048 }
+    requires few { symbol_count grammar.now ≤ MAX_SYMBOLS }
     requires room { symbol_count grammar.now ≤ C.ROOM }
     ensures { IfOk result (λ binary. binary ≡ grammar.now) }
 {
@@ -117,11 +120,11 @@ fn form_of<C: Cell>(alloc: Global, grammar: &Grammar) -> Result<Binary<C>, Alloc
 /// find out. It looks at each item of the rules a few times, and for each symbol at what it reaches
 /// by unit steps.
 pub fn binary<C: Cell>(alloc: Global, grammar: &Grammar) -> Result<Binary<C>, BinaryFault>
-    requires room { (symbol_count grammar.now ≤ C.ROOM) ⊎ (2048 < symbol_count grammar.now) }
+    requires room { (symbol_count grammar.now ≤ C.ROOM) ⊎ (MAX_SYMBOLS < symbol_count grammar.now) }
     ensures { MakesBinary grammar.now result }
 {
     let count = symbol_count(grammar);
-    if count > 2048 {
+    if count > MAX_SYMBOLS {
         return Err(BinaryFault::TooManySymbols { count });
     }
     form_of(alloc, grammar).map_err(|_| BinaryFault::Memory)

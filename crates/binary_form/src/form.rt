@@ -5,6 +5,7 @@ ghost use Rattle.binary_form.specs.Symbols.{plain, suffix, IsBinarySymbolOf, num
 ghost use Rattle.binary_form.specs.BinaryForm.{IsNullableNumber, IsClosureOf, IsTokenCell};
 ghost use Rattle.binary_form.specs.BinaryForm.{IsProductOf, AddsProductOf, HasProduct};
 ghost use Rattle.binary_form.specs.Forms.{AreParts};
+ghost use Rattle.binary_form.specs.declared.build.TheConstants.{MAX_SYMBOLS};
 
 use crate::product::{is_met, product_of};
 use cell_sets::Cell;
@@ -75,7 +76,7 @@ impl<C: Cell> Binary<C> {
     pub fn symbol_count(&self) -> u32
         ensures own_symbols { HasOwnSymbols self.now }
         ensures count { result ≡ symbol_count self.now }
-        ensures few { result ≤ 2048 }
+        ensures few { result ≤ MAX_SYMBOLS }
         ensures room { result ≤ C.ROOM }
     {
         self.nullable.len() as u32

@@ -1,6 +1,7 @@
 //! The product of two cells: look-ups and unions alone.
 ghost use Rattle.std.specs.Prelude.{◌≡◌, ◌+◌, ◌<◌, ◌≤◌, ◌↔◌, ℕ, length, Contains, IsTrue, IfOk};
 ghost use Rattle.cell_sets.specs.Cells.{Adds};
+ghost use Rattle.binary_form.specs.declared.build.TheConstants.{MAX_SYMBOLS};
 ghost use Rattle.binary_form.specs.Products.{AreBelow, GoesOn, GoOnBelow, IsItemMet};
 ghost use Rattle.binary_form.specs.Products.{IsNextBelow};
 ghost use Rattle.binary_form.specs.Products.{ItemGives, LinksGoOnBelow, OneGives, WholeGives};
@@ -24,7 +25,7 @@ fn next_below<C: Cell>(cell: &C, from: u16, count: usize) -> Option<u16>
 /// Whether the cell has each symbol of the part. The symbols of the part are below the count.
 fn has_all<C: Cell>(cell: &C, part: &C, count: usize) -> bool
     requires below { (n : ℕ) → Contains (C.symbols part.now) n → n < count }
-    requires few { count ≤ 2048 }
+    requires few { count ≤ MAX_SYMBOLS }
     requires room { count ≤ C.ROOM }
     ensures { IsTrue result
         → (n : ℕ) → Contains (C.symbols part.now) n → Contains (C.symbols cell.now) n }
@@ -50,7 +51,7 @@ fn with_whole<C: Cell>(
 ) -> Result<C, AllocError>
     requires below { whole + 1 < length closures.now }
     requires closed { AreBelow C.symbols (length closures.now) closures.now }
-    requires few { length closures.now ≤ 2048 }
+    requires few { length closures.now ≤ MAX_SYMBOLS }
     requires room { length closures.now ≤ C.ROOM }
     ensures { IfOk result (λ new.
         Adds (WholeGives C.symbols closures.now (C.symbols right.now) whole)
@@ -76,7 +77,7 @@ fn with_wholes<C: Cell>(
 ) -> Result<C, AllocError>
     requires below { GoOnBelow (length closures.now) wholes.now }
     requires closed { AreBelow C.symbols (length closures.now) closures.now }
-    requires few { length closures.now ≤ 2048 }
+    requires few { length closures.now ≤ MAX_SYMBOLS }
     requires room { length closures.now ≤ C.ROOM }
     ensures { IfOk result (λ new.
         Adds (OneGives (WholeGives C.symbols closures.now (C.symbols right.now)) wholes.now)
@@ -102,7 +103,7 @@ pub fn product_of<C: Cell>(
     requires count { length wholes.now ≡ length closures.now }
     requires closed { AreBelow C.symbols (length closures.now) closures.now }
     requires below { LinksGoOnBelow (length closures.now) wholes.now }
-    requires few { length closures.now ≤ 2048 }
+    requires few { length closures.now ≤ MAX_SYMBOLS }
     requires room { length closures.now ≤ C.ROOM }
     ensures { IfOk result (λ cell.
         Adds (OneGives (ItemGives C.symbols closures.now wholes.now (C.symbols right.now))
@@ -120,7 +121,7 @@ pub fn product_of<C: Cell>(
 /// Whether one of the wholes goes on with a symbol of the right cell.
 fn goes_on<C: Cell>(wholes: &[u16], right: &C, count: usize) -> bool
     requires below { GoOnBelow count wholes.now }
-    requires few { count ≤ 2048 }
+    requires few { count ≤ MAX_SYMBOLS }
     requires room { count ≤ C.ROOM }
     ensures { IsTrue result
         ↔ ((whole : ℕ) × Contains wholes.now whole × GoesOn (C.symbols right.now) whole) }
@@ -136,7 +137,7 @@ fn goes_on<C: Cell>(wholes: &[u16], right: &C, count: usize) -> bool
 /// Whether a whole begins with a symbol of the left cell and goes on with one of the right cell.
 pub fn is_met<C: Cell>(wholes: &Links, left: &C, right: &C) -> bool
     requires below { LinksGoOnBelow (length wholes.now) wholes.now }
-    requires few { length wholes.now ≤ 2048 }
+    requires few { length wholes.now ≤ MAX_SYMBOLS }
     requires room { length wholes.now ≤ C.ROOM }
     ensures { IsTrue result ↔ ((item : ℕ) × Contains (C.symbols left.now) item
         × IsItemMet wholes.now (C.symbols right.now) item) }
