@@ -5,7 +5,7 @@ use Rattle.std.proofs.lemmas.Option.{slice_get_read}
 use Rattle.std.proofs.lemmas.List.{take_more, take_all}
 use Rattle.std.proofs.lemmas.List.Elements.{Contains-append_left, Contains-append_right, Contains-append_cases}
 use Rattle.cell_sets.specs.Cells.{Adds, IsUnion, IsNextFrom}
-use Rattle.binary_form.specs.Products.{OneGives, OneGivesBelow, GoesOn, WholeGives, IsNextBelow}
+use Rattle.binary_form.specs.Products.{OneGives, OneGivesBelow, GoesOn, SuffixGives, IsNextBelow}
 use Rattle.number_graph.proofs.LinkLemmas.{Contains-one}
 
 -- where the next number of a cell is none, there is none below the count
@@ -29,49 +29,49 @@ same_item :
     → slice_get cells n ≡ Some a → slice_get cells n ≡ Some b → a ≡ b
 same_item cells n a b is_a is_b = cc
 
--- the union with the closure of a whole that goes on has what the whole gives
+-- the union with the closure of a suffix that goes on has what the suffix gives
 pub adds_closure :
-    {C : Type 0} (symbols : C → List ℕ) (cells : List C) (right : List ℕ) (whole : ℕ) (closure : C)
+    {C : Type 0} (symbols : C → List ℕ) (cells : List C) (right : List ℕ) (suffix : ℕ) (closure : C)
     (old new : List ℕ)
-    → GoesOn right whole → whole < length cells → closure ≡ get_or cells whole closure
-    → IsUnion old (symbols closure) new → Adds (WholeGives symbols cells right whole) old new
-adds_closure {C = C} symbols cells right whole closure old new goes_on within is union n = (to, from)
+    → GoesOn right suffix → suffix < length cells → closure ≡ get_or cells suffix closure
+    → IsUnion old (symbols closure) new → Adds (SuffixGives symbols cells right suffix) old new
+adds_closure {C = C} symbols cells right suffix closure old new goes_on within is union n = (to, from)
   where
-    at : slice_get cells whole ≡ Some closure
-    at = slice_get_read cells (length cells) whole closure refl within is
+    at : slice_get cells suffix ≡ Some closure
+    at = slice_get_read cells (length cells) suffix closure refl within is
 
-    to : Contains new n → Contains old n ⊎ WholeGives symbols cells right whole n
+    to : Contains new n → Contains old n ⊎ SuffixGives symbols cells right suffix n
     to has = elim ((union n).0 has) [
       | inl kept ↦ inl kept
       | inr added ↦ inr (goes_on, (closure, at, added))
     ]
 
-    from : Contains old n ⊎ WholeGives symbols cells right whole n → Contains new n
+    from : Contains old n ⊎ SuffixGives symbols cells right suffix n → Contains new n
     from (inl kept) = (union n).1 (inl kept)
     from (inr given) =
         let inner = given.1 in
-        let same = same_item cells whole inner.0 closure inner.1 at in
+        let same = same_item cells suffix inner.0 closure inner.1 at in
         let Has : C → Type 0 = λ c. Contains (symbols c) n in
         (union n).1 (inr (subst Has same inner.2))
 
--- a whole whose closure the cell has already adds nothing
+-- a suffix whose closure the cell has already adds nothing
 pub adds_known :
-    {C : Type 0} (symbols : C → List ℕ) (cells : List C) (right : List ℕ) (whole : ℕ) (closure : C)
+    {C : Type 0} (symbols : C → List ℕ) (cells : List C) (right : List ℕ) (suffix : ℕ) (closure : C)
     (old : List ℕ)
-    → whole < length cells → closure ≡ get_or cells whole closure
+    → suffix < length cells → closure ≡ get_or cells suffix closure
     → ((n : ℕ) → Contains (symbols closure) n → Contains old n)
-    → Adds (WholeGives symbols cells right whole) old old
-adds_known {C = C} symbols cells right whole closure old within is known n =
+    → Adds (SuffixGives symbols cells right suffix) old old
+adds_known {C = C} symbols cells right suffix closure old within is known n =
     ((λ has. inl has), back)
   where
-    at : slice_get cells whole ≡ Some closure
-    at = slice_get_read cells (length cells) whole closure refl within is
+    at : slice_get cells suffix ≡ Some closure
+    at = slice_get_read cells (length cells) suffix closure refl within is
 
-    back : Contains old n ⊎ WholeGives symbols cells right whole n → Contains old n
+    back : Contains old n ⊎ SuffixGives symbols cells right suffix n → Contains old n
     back (inl kept) = kept
     back (inr given) =
         let inner = given.1 in
-        let same = same_item cells whole inner.0 closure inner.1 at in
+        let same = same_item cells suffix inner.0 closure inner.1 at in
         let Has : C → Type 0 = λ c. Contains (symbols c) n in
         known n (subst Has same inner.2)
 

@@ -24,7 +24,7 @@ use Rattle.binary_form.proofs.EmptySpanLemmas.{none_nullable, some_nullable}
 use Rattle.binary_form.proofs.NumberLemmas.{number_is_one}
 use Rattle.binary_form.proofs.ItemLemmas.{items_behind, same_rule}
 use Rattle.number_graph.proofs.FlagLemmas.{none_set}
-use Rattle.binary_form.proofs.RowLemmas.{none_or_more, number_below, whole_number, next_number}
+use Rattle.binary_form.proofs.RowLemmas.{none_or_more, number_below, suffix_of_row, next_number}
 
 -- what comes to the same as another, which comes to the same as a third
 pub alike : {A B C : Type 0} → A ↔ B → B ↔ C → A ↔ C
@@ -54,14 +54,14 @@ module _ (g : Expansion) where
     suffix_empty =
         let is = at.is_row in
         let has = is.has in
-        let whole = number_empty (suffix at.r at.p) (suffix_number g n) (whole_number g n row at) in
+        let number = number_empty (suffix at.r at.p) (suffix_number g n) (suffix_of_row g n row at) in
         let items : BinaryDerives g.rules [] (suffix at.r at.p) 0 0 ↔ AreNullable g.rules (is.item ∷ is.behind) = (
           (λ x.
               let same : x.0 ≡ has.rule = same_rule g.rules at.r x.0 has.rule x.1 has.is_rule in
               subst (AreNullable g.rules) (ap (λ (y : Rule). drop at.p y.items) same ∙ has.is_item) x.2),
           (λ empty. (has.rule, has.is_rule, subst (AreNullable g.rules) (sym has.is_item) empty)),
         ) in
-        alike whole (alike items (some_nullable g.rules is.item is.behind))
+        alike number (alike items (some_nullable g.rules is.item is.behind))
 
     -- what is behind the item derives the empty span exactly where the row says that it is the last,
     -- or the flag of the next suffix that it does
@@ -142,7 +142,7 @@ module _ (g : Expansion) where
           (turned (suffix_empty n row at)))
 
       within : suffix_number g n < length flags
-      within = omega (arith, before.count, number_below g (suffix at.r at.p) (suffix_number g n) (whole_number g n row at))
+      within = omega (arith, before.count, number_below g (suffix at.r at.p) (suffix_number g n) (suffix_of_row g n row at))
 
       other_part :
           (m : ℕ)

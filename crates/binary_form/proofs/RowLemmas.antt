@@ -98,9 +98,9 @@ module _ (g : Expansion) where
       subst Q same_places (subst P same_rules is)
 
   -- the number of a row's suffix
-  pub whole_number : (n : ℕ) (row : SuffixRow) (at : IsRowAt g n row)
+  pub suffix_of_row : (n : ℕ) (row : SuffixRow) (at : IsRowAt g n row)
       → IsNumberOf g (suffix at.r at.p) (suffix_number g n)
-  whole_number n row at =
+  suffix_of_row n row at =
       let is = at.is_row in (
         suffix_symbol g at.r at.p is.item is.behind is.has,
         omega (arith, at.count),
@@ -154,7 +154,7 @@ module _ (g : Expansion) where
     row_within n row is =
         let at = are.each n row is in
         record {
-          whole_below = number_below g (suffix at.r at.p) (suffix_number g n) (whole_number n row at);
+          suffix_below = number_below g (suffix at.r at.p) (suffix_number g n) (suffix_of_row n row at);
           item_below = number_below g (plain (at.is_row).item) row.item (at.is_row).is_item;
           next_below = λ not_last.
               let more = goes_on at.r at.p row at.is_row not_last in

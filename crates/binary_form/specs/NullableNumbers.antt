@@ -20,4 +20,4 @@ pub record AreNullableFrom (g : Expansion) (from : ℕ) (flags : List Bool) : Ty
 
 -- what is behind the item of the suffix of this number derives the empty span, or there is nothing
 abbrev pub IsRestNullable : List Bool → SuffixRow → ℕ → Type 0
-IsRestNullable flags row whole = IsTrue row.is_last ⊎ IsSet flags (whole + 1)
+IsRestNullable flags row suffix = IsTrue row.is_last ⊎ IsSet flags (suffix + 1)

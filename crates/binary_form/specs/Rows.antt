@@ -39,7 +39,7 @@ AreRows g rows = AreRowsUpTo g (item_count g.rules) rows
 
 -- the suffix's number and its item's are below the count, and so is that of the suffix behind the
 -- item, if there is one
-pub record IsRowWithin (row : SuffixRow) (whole count : ℕ) : Type 0 where
-  pub whole_below : whole < count
+pub record IsRowWithin (row : SuffixRow) (suffix count : ℕ) : Type 0 where
+  pub suffix_below : suffix < count
   pub item_below : row.item < count
-  pub next_below : IsFalse row.is_last → whole + 1 < count
+  pub next_below : IsFalse row.is_last → suffix + 1 < count

@@ -12,7 +12,7 @@ use crate::form::Binary;
 use crate::nullable::nullable_numbers;
 use crate::numbering::{first_suffixes, symbol_count};
 use crate::rows::rows_of;
-use crate::steps::{unit_steps, wholes_of};
+use crate::steps::{longer_suffixes_of, unit_steps};
 use cell_sets::Cell;
 use lbnf_grammar::Grammar;
 use number_graph::{Links, reached_from};
@@ -109,11 +109,11 @@ fn form_of<C: Cell>(alloc: Global, grammar: &Grammar) -> Result<Binary<C>, Alloc
     let rows = rows_of(alloc, grammar)?;
     let nullable = nullable_numbers(alloc, grammar, rows.as_slice())?;
     let steps = unit_steps(alloc, grammar, rows.as_slice(), nullable.as_slice())?;
-    let wholes = wholes_of(alloc, grammar, rows.as_slice())?;
+    let longer_suffixes = longer_suffixes_of(alloc, grammar, rows.as_slice())?;
     let firsts = first_suffixes(alloc, grammar)?;
     rules_have_own_symbols(grammar);
     let closures = closures_of(alloc, grammar, &steps)?;
-    Ok(Binary::of(grammar, firsts, nullable, closures, wholes))
+    Ok(Binary::of(grammar, firsts, nullable, closures, longer_suffixes))
 }
 
 /// The binary form of the grammar, or that it has more than 2,048 symbols, which takes no memory to

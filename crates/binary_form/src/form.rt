@@ -25,7 +25,7 @@ pub struct Binary<C: Cell> {
     first_suffixes: Items<u16>,
     nullable: Vec<bool>,
     closures: Vec<C>,
-    wholes: Links,
+    longer_suffixes: Links,
     none: C,
 }
 
@@ -41,7 +41,7 @@ impl<C: Cell> Model for Binary<C> {
 
     ghost invariant = { λ b.
         AreParts C.symbols C.ROOM b.grammar.value
-        b.first_suffixes b.nullable.items b.closures.items b.wholes
+        b.first_suffixes b.nullable.items b.closures.items b.longer_suffixes
         × AreCounts b.grammar.value b.category_count b.kind_count
         × (C.symbols b.none ≡ []) };
 }
@@ -53,10 +53,10 @@ impl<C: Cell> Binary<C> {
         first_suffixes: Items<u16>,
         nullable: Vec<bool>,
         closures: Vec<C>,
-        wholes: Links,
+        longer_suffixes: Links,
     ) -> Binary<C>
         requires { AreParts C.symbols C.ROOM grammar.now
-            first_suffixes nullable.items closures.items wholes }
+            first_suffixes nullable.items closures.items longer_suffixes }
         ensures { result ≡ grammar.now }
     {
         Binary {
@@ -66,7 +66,7 @@ impl<C: Cell> Binary<C> {
             first_suffixes,
             nullable,
             closures,
-            wholes,
+            longer_suffixes,
             none: C::empty(),
         }
     }
@@ -163,7 +163,7 @@ impl<C: Cell> Binary<C> {
         product_of(
             alloc,
             self.closures.as_slice(),
-            &self.wholes,
+            &self.longer_suffixes,
             left,
             right,
             cell,
@@ -175,6 +175,6 @@ impl<C: Cell> Binary<C> {
     pub fn meets(&self, left: &C, right: &C) -> bool
         ensures { IsTrue result ↔ HasProduct self.now (C.symbols left.now) (C.symbols right.now) }
     {
-        is_met(&self.wholes, left, right)
+        is_met(&self.longer_suffixes, left, right)
     }
 }

@@ -15,7 +15,7 @@ loop-item-preserved g c =
     let next = c.in-Some.ensures in
     let unmet = rw c.from.ensures at c.if-goes_on.ensures in (
       omega (arith, next.1, c.count.ensures),
-      none_up_to (IsItemMet c.args.wholes.now (symbols c.args.right.now)) (symbols c.args.left.now)
+      none_up_to (IsItemMet c.args.longer_suffixes.now (symbols c.args.right.now)) (symbols c.args.left.now)
           c.count.result c.loop-item.from c.in-Some.item next c.loop-item.invariant.1
           (λ met. false≢true (unmet.1 met)),
     )
@@ -23,7 +23,7 @@ loop-item-preserved g c =
 pub returns : goal.returns
 returns g c =
     let symbols = g.C.Cell.symbols in
-    let none = none_at_all (IsItemMet c.args.wholes.now (symbols c.args.right.now)) (symbols c.args.left.now)
+    let none = none_at_all (IsItemMet c.args.longer_suffixes.now (symbols c.args.right.now)) (symbols c.args.left.now)
     c.count.result c.loop-item.from c.in_default.ensures c.loop-item.invariant.1
-    (λ item met. rw c.count.ensures (link_within c.args.wholes.now item met.0 met.1)) in
+    (λ item met. rw c.count.ensures (link_within c.args.longer_suffixes.now item met.0 met.1)) in
     ((λ found. absurd (false≢true found)), (λ found. absurd (none found)))
