@@ -13,7 +13,8 @@ use Rattle.binary_form.specs.NumberSteps.{StepNumber}
 use Rattle.number_graph.specs.Graphs.{NumberReaches, stay as stay_number, step as step_number}
 use Rattle.binary_form.specs.Examples.{brackets}
 use Rattle.binary_form.proofs.ItemLemmas.{drop_within, items_from}
-use Rattle.binary_form.proofs.EmptySpanLemmas.{none_nullable, some_nullable, kind_not_nullable}
+use Rattle.lbnf_grammar.proofs.NullableLemmas.{kind_not_nullable}
+use Rattle.binary_form.proofs.EmptySpanLemmas.{none_nullable, some_nullable}
 use Rattle.binary_form.proofs.ReachLemmas.{number_step, step_below}
 use Rattle.binary_form.proofs.CellLemmas.{IsOneOf, HasReached, has_reached, own_rule}
 

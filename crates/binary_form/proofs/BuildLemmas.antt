@@ -1,11 +1,11 @@
 -- Cells and lists that are filled number by number.
 use Rattle.std.proofs.Common.{◌≡◌, ℕ, zero, suc, ◌+◌, ◌<◌, ◌≤◌, ◌↔◌, ◌⊎◌, List, [], ◌∷◌, ◌++◌, Some, Bool, inl, inr, length, length-append, slice_get, sym, subst, arith, Contains}
+use Rattle.std.proofs.lemmas.Bool.{cases_lt}
 use Rattle.spec_lbnf.specs.Expansion.{Expansion}
-use Rattle.cell_sets.specs.Cells.{AddsSymbol}
+use Rattle.cell_sets.specs.Cells.{Adds, AddsSymbol}
 use Rattle.binary_form.specs.BinaryForm.{IsClosureOf}
 use Rattle.number_graph.specs.Graphs.{IsSet}
 use Rattle.binary_form.specs.Forms.{AreClosuresUpTo}
-use Rattle.binary_form.specs.Products.{Adds}
 use Rattle.number_graph.proofs.FlagLemmas.{set_within}
 
 module _ (flags : List Bool) where
@@ -51,13 +51,10 @@ module _ (flags : List Bool) where
         | inr it ↦ (omega (arith, it.0), it.1)
       ]
 
-      below_or_at : n < limit + 1 → (n < limit) ⊎ (n ≡ limit)
-      below_or_at below = grind arith
-
       from : (n < limit + 1) × IsSet flags n → Contains new n
-      from is = elim (below_or_at is.0) [
+      from is = elim (cases_lt n limit) [
         | inl below ↦ (adds n).1 (inl ((before n).1 (below, is.1)))
-        | inr at ↦ (adds n).1 (inr (at, is.1))
+        | inr past ↦ (adds n).1 (inr (omega (arith, is.0), is.1))
       ]
 
   -- where the limit is past all flags, the cell has all numbers whose flags are set

@@ -11,11 +11,11 @@ use Rattle.binary_form.proofs.NumberLemmas.{number_is_one}
 use Rattle.binary_form.proofs.CellLemmas.{HasReached, token_cell}
 
 -- the place of an item, counted from the first suffix of its rule, is the suffix's number
-pub suffix_number :
+pub suffix_numbered :
     (g : Expansion) (firsts : List ℕ) (r p : ℕ)
     → AreFirstSuffixes g firsts → IsBinarySymbolOf g (suffix r p)
     → slice_index firsts r + p ≡ number_of g (suffix r p)
-suffix_number g firsts r p are is =
+suffix_numbered g firsts r p are is =
     ap (λ n. n + p) (are.each r (slice_get_within g.rules r is.0 is.1))
 
 module _ {C : Type 0} (symbols : C → List ℕ) (g : Expansion) (cells : List C)

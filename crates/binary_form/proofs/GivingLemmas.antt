@@ -1,15 +1,12 @@
 -- Lists that grow by what is given: by one giver more, or by the givers below a higher limit.
-use Rattle.std.proofs.Common.{◌≡◌, ℕ, ◌+◌, ◌<◌, ◌≤◌, ◌⊎◌, List, [], ◌∷◌, ◌++◌, Some, None, false, IsTrue, inl, inr, length, slice_get, get_or, take, refl, sym, subst, arith, Contains}
+use Rattle.std.proofs.Common.{◌≡◌, ℕ, ◌+◌, ◌<◌, ◌≤◌, ◌⊎◌, List, [], ◌∷◌, ◌++◌, Some, None, inl, inr, length, slice_get, get_or, take, refl, sym, subst, arith, Contains}
+use Rattle.std.proofs.lemmas.Bool.{cases_lt}
 use Rattle.std.proofs.lemmas.Option.{slice_get_read}
 use Rattle.std.proofs.lemmas.List.{take_more, take_all}
 use Rattle.std.proofs.lemmas.List.Elements.{Contains-append_left, Contains-append_right, Contains-append_cases}
-use Rattle.cell_sets.specs.Cells.{IsUnion, IsNextFrom}
-use Rattle.binary_form.specs.Products.{Adds, OneGives, OneGivesBelow, GoesOn, WholeGives, IsNextBelow}
+use Rattle.cell_sets.specs.Cells.{Adds, IsUnion, IsNextFrom}
+use Rattle.binary_form.specs.Products.{OneGives, OneGivesBelow, GoesOn, SuffixGives, IsNextBelow}
 use Rattle.number_graph.proofs.LinkLemmas.{Contains-one}
-
--- false is not true
-pub not_true : IsTrue false → ⊥
-not_true is = absurd (cc)
 
 -- where the next number of a cell is none, there is none below the count
 pub none_next :
@@ -32,49 +29,49 @@ same_item :
     → slice_get cells n ≡ Some a → slice_get cells n ≡ Some b → a ≡ b
 same_item cells n a b is_a is_b = cc
 
--- the union with the closure of a whole that goes on has what the whole gives
+-- the union with the closure of a suffix that goes on has what the suffix gives
 pub adds_closure :
-    {C : Type 0} (symbols : C → List ℕ) (cells : List C) (right : List ℕ) (whole : ℕ) (closure : C)
+    {C : Type 0} (symbols : C → List ℕ) (cells : List C) (right : List ℕ) (suffix : ℕ) (closure : C)
     (old new : List ℕ)
-    → GoesOn right whole → whole < length cells → closure ≡ get_or cells whole closure
-    → IsUnion old (symbols closure) new → Adds (WholeGives symbols cells right whole) old new
-adds_closure {C = C} symbols cells right whole closure old new goes_on within is union n = (to, from)
+    → GoesOn right suffix → suffix < length cells → closure ≡ get_or cells suffix closure
+    → IsUnion old (symbols closure) new → Adds (SuffixGives symbols cells right suffix) old new
+adds_closure {C = C} symbols cells right suffix closure old new goes_on within is union n = (to, from)
   where
-    at : slice_get cells whole ≡ Some closure
-    at = slice_get_read cells (length cells) whole closure refl within is
+    at : slice_get cells suffix ≡ Some closure
+    at = slice_get_read cells (length cells) suffix closure refl within is
 
-    to : Contains new n → Contains old n ⊎ WholeGives symbols cells right whole n
+    to : Contains new n → Contains old n ⊎ SuffixGives symbols cells right suffix n
     to has = elim ((union n).0 has) [
       | inl kept ↦ inl kept
       | inr added ↦ inr (goes_on, (closure, at, added))
     ]
 
-    from : Contains old n ⊎ WholeGives symbols cells right whole n → Contains new n
+    from : Contains old n ⊎ SuffixGives symbols cells right suffix n → Contains new n
     from (inl kept) = (union n).1 (inl kept)
     from (inr given) =
         let inner = given.1 in
-        let same = same_item cells whole inner.0 closure inner.1 at in
+        let same = same_item cells suffix inner.0 closure inner.1 at in
         let Has : C → Type 0 = λ c. Contains (symbols c) n in
         (union n).1 (inr (subst Has same inner.2))
 
--- a whole whose closure the cell has already adds nothing
+-- a suffix whose closure the cell has already adds nothing
 pub adds_known :
-    {C : Type 0} (symbols : C → List ℕ) (cells : List C) (right : List ℕ) (whole : ℕ) (closure : C)
+    {C : Type 0} (symbols : C → List ℕ) (cells : List C) (right : List ℕ) (suffix : ℕ) (closure : C)
     (old : List ℕ)
-    → whole < length cells → closure ≡ get_or cells whole closure
+    → suffix < length cells → closure ≡ get_or cells suffix closure
     → ((n : ℕ) → Contains (symbols closure) n → Contains old n)
-    → Adds (WholeGives symbols cells right whole) old old
-adds_known {C = C} symbols cells right whole closure old within is known n =
+    → Adds (SuffixGives symbols cells right suffix) old old
+adds_known {C = C} symbols cells right suffix closure old within is known n =
     ((λ has. inl has), back)
   where
-    at : slice_get cells whole ≡ Some closure
-    at = slice_get_read cells (length cells) whole closure refl within is
+    at : slice_get cells suffix ≡ Some closure
+    at = slice_get_read cells (length cells) suffix closure refl within is
 
-    back : Contains old n ⊎ WholeGives symbols cells right whole n → Contains old n
+    back : Contains old n ⊎ SuffixGives symbols cells right suffix n → Contains old n
     back (inl kept) = kept
     back (inr given) =
         let inner = given.1 in
-        let same = same_item cells whole inner.0 closure inner.1 at in
+        let same = same_item cells suffix inner.0 closure inner.1 at in
         let Has : C → Type 0 = λ c. Contains (symbols c) n in
         known n (subst Has same inner.2)
 
@@ -118,16 +115,13 @@ module _ (Fits : ℕ → Type 0) (xs : List ℕ) where
       → IsNextBelow count xs from (Some next) → NoneBelow from → (Fits next → ⊥)
       → NoneBelow (next + 1)
   none_up_to count from next is before last n below has fits =
-      elim (earlier_or_it n below) [
+      elim (cases_lt n from) [
         | inl earlier ↦ before n earlier has fits
-        | inr between ↦
-            let least : next ≤ n = is.3 n has between.0 in
-            let same : n ≡ next = omega (arith, between.1) in
+        | inr later ↦
+            let least : next ≤ n = is.3 n has later in
+            let same : n ≡ next = omega arith in
             last (subst Fits same fits)
       ]
-    where
-      earlier_or_it : (m : ℕ) → m < next + 1 → (m < from) ⊎ ((from ≤ m) × (m ≤ next))
-      earlier_or_it m under = grind arith
 
   -- where there is no next number below the count, none below it fits
   pub none_at_all :
@@ -135,13 +129,10 @@ module _ (Fits : ℕ → Type 0) (xs : List ℕ) where
       → IsNextBelow count xs from None → NoneBelow from → ((n : ℕ) → Fits n → n < count)
       → (n : ℕ) × Contains xs n × Fits n → ⊥
   none_at_all count from none before within found =
-      elim (under_or_not found.0) [
+      elim (cases_lt found.0 from) [
         | inl under ↦ before found.0 under found.1 found.2
         | inr not_under ↦ none found.0 found.1 not_under (within found.0 found.2)
       ]
-    where
-      under_or_not : (m : ℕ) → (m < from) ⊎ (from ≤ m)
-      under_or_not m = grind arith
 
 module _ (Gives : ℕ → ℕ → Type 0) where
   -- no giver gives nothing
@@ -209,16 +200,13 @@ module _ (Gives : ℕ → ℕ → Type 0) where
           | inr given ↦ inr (giver, omega arith, next.0, given)
         ]
 
-        earlier_or_it : (m : ℕ) → m < giver + 1 → (m < from) ⊎ ((from ≤ m) × (m ≤ giver))
-        earlier_or_it m below = grind arith
-
         back : Contains start n ⊎ OneGivesBelow Gives givers (giver + 1) n → Contains new n
         back (inl first) = (last n).1 (inl ((before n).1 (inl first)))
-        back (inr given) = elim (earlier_or_it given.0 given.1) [
+        back (inr given) = elim (cases_lt given.0 from) [
           | inl under ↦ (last n).1 (inl ((before n).1 (inr (given.0, under, given.2, given.3))))
-          | inr between ↦
-              let least : giver ≤ given.0 = next.3 given.0 given.2 between.0 in
-              let same : given.0 ≡ giver = omega (arith, between.1) in
+          | inr later ↦
+              let least : giver ≤ given.0 = next.3 given.0 given.2 later in
+              let same : given.0 ≡ giver = omega (arith, given.1) in
               let ByGiver : ℕ → Type 0 = λ m. Gives m n in
               (last n).1 (inr (subst ByGiver same given.3))
         ]
@@ -236,11 +224,8 @@ module _ (Gives : ℕ → ℕ → Type 0) where
           | inr given ↦ inr (given.0, given.2, given.3)
         ]
 
-        under_or_not : (m : ℕ) → (m < from) ⊎ (from ≤ m)
-        under_or_not m = grind arith
-
         under : (m : ℕ) → Contains givers m → m < count → m < from
-        under m has below = elim (under_or_not m) [
+        under m has below = elim (cases_lt m from) [
           | inl is ↦ is
           | inr not_under ↦ absurd (none m has not_under below)
         ]
@@ -257,16 +242,13 @@ pub has_next :
     → IsNextBelow count part from (Some next)
     → ((n : ℕ) → n < from → Contains part n → Contains cell n) → Contains cell next
     → (n : ℕ) → n < next + 1 → Contains part n → Contains cell n
-has_next part cell count from next is before here n below has = elim (earlier_or_it n below) [
+has_next part cell count from next is before here n below has = elim (cases_lt n from) [
   | inl earlier ↦ before n earlier has
-  | inr between ↦
-      let least : next ≤ n = is.3 n has between.0 in
-      let same : next ≡ n = omega (arith, between.1) in
+  | inr later ↦
+      let least : next ≤ n = is.3 n has later in
+      let same : next ≡ n = omega arith in
       subst (Contains cell) same here
 ]
-  where
-    earlier_or_it : (m : ℕ) → m < next + 1 → (m < from) ⊎ ((from ≤ m) × (m ≤ next))
-    earlier_or_it m under = grind arith
 
 -- where the part has no symbol from the limit on, the cell has all of them
 pub has_each :
@@ -274,10 +256,7 @@ pub has_each :
     → IsNextBelow count part from None → ((n : ℕ) → Contains part n → n < count)
     → ((n : ℕ) → n < from → Contains part n → Contains cell n)
     → (n : ℕ) → Contains part n → Contains cell n
-has_each part cell count from none within before n has = elim (under_or_not n) [
+has_each part cell count from none within before n has = elim (cases_lt n from) [
   | inl under ↦ before n under has
   | inr not_under ↦ absurd (none n has not_under (within n has))
 ]
-  where
-    under_or_not : (m : ℕ) → (m < from) ⊎ (from ≤ m)
-    under_or_not m = grind arith

@@ -10,7 +10,7 @@ pub mod BracketSteps
 pub mod Examples
 pub mod FormLemmas
 pub mod GivingLemmas
-pub mod WholeLemmas
+pub mod LongerSuffixesLemmas
 pub mod RowLemmas
 pub mod NullableLemmas
 pub mod StepLemmas

@@ -3,6 +3,7 @@
 use Rattle.std.proofs.Common.{◌≡◌, ◌≢◌, ℕ, suc, ◌+◌, ◌-◌, ◌<◌, ◌≤◌, ◌↔◌, ◌⊎◌, inl, inr, List, [], ◌∷◌, ◌++◌, Bool, false, IsTrue}
 use Rattle.std.proofs.Common.{Some, length, slice_get, slice_set, slice_index_or, take, drop, replicate, refl, sym, ap, ◌∙◌, subst, arith}
 use Rattle.std.proofs.Common.{length-set, length-append, get_or-set_other}
+use Rattle.std.proofs.lemmas.Bool.{cases_eq, cases_lt}
 use Rattle.std.proofs.lemmas.List.{take_all, length-replicate, get_or_append_left, get_or-append-add}
 use Rattle.std.proofs.lemmas.Grind.{get_or-set_at}
 use Rattle.spec_grammar.specs.declared.rule.Symbol.{Symbol}
@@ -11,19 +12,19 @@ use Rattle.spec_grammar.specs.declared.rule.Rule.{Rule}
 use Rattle.spec_grammar.specs.Derivation.{IsNullable}
 use Rattle.spec_lbnf.specs.Expansion.{Expansion, item_count, symbol_count}
 use Rattle.lbnf_grammar.specs.Nullable.{AreNullableFlags}
+use Rattle.lbnf_grammar.proofs.NullableLemmas.{kind_not_nullable}
 use Rattle.binary_form.specs.declared.rows.SuffixRow.{SuffixRow}
-use Rattle.binary_form.specs.Symbols.{BinarySymbol, plain, suffix, BinaryDerives}
+use Rattle.binary_form.specs.Symbols.{BinarySymbol, plain, suffix, BinaryDerives, plain_count, suffix_number}
 use Rattle.binary_form.specs.UnitSteps.{AreNullable}
 use Rattle.binary_form.specs.BinaryForm.{IsNumberOf, IsNullableNumber}
-use Rattle.binary_form.specs.Rows.{IsRowAt, suffix_number}
+use Rattle.binary_form.specs.Rows.{IsRowAt}
 use Rattle.binary_form.specs.NullableNumbers.{AreNullableNumbers, AreNullableFrom, IsRestNullable}
 use Rattle.number_graph.specs.Graphs.{IsSet}
-use Rattle.binary_form.proofs.EmptySpanLemmas.{none_nullable, some_nullable, kind_not_nullable}
+use Rattle.binary_form.proofs.EmptySpanLemmas.{none_nullable, some_nullable}
 use Rattle.binary_form.proofs.NumberLemmas.{number_is_one}
 use Rattle.binary_form.proofs.ItemLemmas.{items_behind, same_rule}
-use Rattle.number_graph.proofs.LinkLemmas.{same_or_other}
 use Rattle.number_graph.proofs.FlagLemmas.{none_set}
-use Rattle.binary_form.proofs.RowLemmas.{none_or_more, number_below, whole_number, next_number}
+use Rattle.binary_form.proofs.RowLemmas.{none_or_more, number_below, suffix_of_row, next_number}
 
 -- what comes to the same as another, which comes to the same as a third
 pub alike : {A B C : Type 0} → A ↔ B → B ↔ C → A ↔ C
@@ -53,14 +54,14 @@ module _ (g : Expansion) where
     suffix_empty =
         let is = at.is_row in
         let has = is.has in
-        let whole = number_empty (suffix at.r at.p) (suffix_number g n) (whole_number g n row at) in
+        let number = number_empty (suffix at.r at.p) (suffix_number g n) (suffix_of_row g n row at) in
         let items : BinaryDerives g.rules [] (suffix at.r at.p) 0 0 ↔ AreNullable g.rules (is.item ∷ is.behind) = (
           (λ x.
               let same : x.0 ≡ has.rule = same_rule g.rules at.r x.0 has.rule x.1 has.is_rule in
               subst (AreNullable g.rules) (ap (λ (y : Rule). drop at.p y.items) same ∙ has.is_item) x.2),
           (λ empty. (has.rule, has.is_rule, subst (AreNullable g.rules) (sym has.is_item) empty)),
         ) in
-        alike whole (alike items (some_nullable g.rules is.item is.behind))
+        alike number (alike items (some_nullable g.rules is.item is.behind))
 
     -- what is behind the item derives the empty span exactly where the row says that it is the last,
     -- or the flag of the next suffix that it does
@@ -97,7 +98,7 @@ module _ (g : Expansion) where
   -- the number of a category or a kind is below those of the suffixes
   plain_below :
       (s : Symbol) (n : ℕ)
-      → IsNumberOf g (plain s) n → n < length g.categories + length g.kinds
+      → IsNumberOf g (plain s) n → n < plain_count g
   plain_below (Category c) n is = omega (arith, is.0, is.1)
   plain_below (Kind k) n is = omega (arith, is.0, is.1)
 
@@ -113,7 +114,7 @@ module _ (g : Expansion) where
       → AreNullableFrom g n (slice_set flags (suffix_number g n) flag)
   flagged_from n row flags flag at before is = record {
     count = length-set flags (suffix_number g n) flag ∙ before.count;
-    exact = λ m below part. elim (same_or_other m (suffix_number g n)) [
+    exact = λ m below part. elim (cases_eq m (suffix_number g n)) [
       | inl same ↦
           let read : slice_index_or (slice_set flags (suffix_number g n) flag) m false ≡ flag =
           get_or-set_at flags (suffix_number g n) m flag false same within in
@@ -141,13 +142,13 @@ module _ (g : Expansion) where
           (turned (suffix_empty n row at)))
 
       within : suffix_number g n < length flags
-      within = omega (arith, before.count, number_below g (suffix at.r at.p) (suffix_number g n) (whole_number g n row at))
+      within = omega (arith, before.count, number_below g (suffix at.r at.p) (suffix_number g n) (suffix_of_row g n row at))
 
       other_part :
           (m : ℕ)
           → m ≢ suffix_number g n
-          → (m < length g.categories + length g.kinds) ⊎ (suffix_number g n ≤ m)
-          → (m < length g.categories + length g.kinds) ⊎ (suffix_number g (n + 1) ≤ m)
+          → (m < plain_count g) ⊎ (suffix_number g n ≤ m)
+          → (m < plain_count g) ⊎ (suffix_number g (n + 1) ≤ m)
       other_part m differ (inl early) = inl early
       other_part m differ (inr late) = inr (omega arith)
 
@@ -183,15 +184,12 @@ module _ (g : Expansion) where
       clear : List Bool
       clear = replicate (symbol_count g - length categories) false
 
-      below_or_not : (c n : ℕ) → (n < c) ⊎ (c ≤ n)
-      below_or_not c n = grind arith
-
       two_parts :
           (n : ℕ)
-          → n < symbol_count g → (n < length g.categories + length g.kinds) ⊎ (symbol_count g ≤ n)
-          → (n < length g.categories) ⊎ ((length g.categories ≤ n) × (n < length g.categories + length g.kinds))
+          → n < symbol_count g → (n < plain_count g) ⊎ (symbol_count g ≤ n)
+          → (n < length g.categories) ⊎ ((length g.categories ≤ n) × (n < plain_count g))
       two_parts n below (inr late) = absurd (omega arith)
-      two_parts n below (inl early) = elim (below_or_not (length g.categories) n) [
+      two_parts n below (inl early) = elim (cases_lt n (length g.categories)) [
         | inl category ↦ inl category
         | inr kind ↦ inr (kind, early)
       ]
@@ -211,7 +209,7 @@ module _ (g : Expansion) where
   pub flags_end : (flags : List Bool) → AreNullableFrom g 0 flags → AreNullableNumbers g flags
   flags_end flags from = record {
     count = from.count;
-    exact = λ n below. from.exact n below (two_parts (length g.categories + length g.kinds));
+    exact = λ n below. from.exact n below (two_parts (plain_count g));
   }
     where
       two_parts : {n : ℕ} (m : ℕ) → (n < m) ⊎ (m + 0 ≤ n)

@@ -1,10 +1,11 @@
 -- The numbers of the binary symbols: the items of each rule are counted behind those before it.
 use Rattle.std.proofs.Common.{◌≡◌, ℕ, ◌+◌, ◌-◌, ◌<◌, ◌≤◌, ◌⊎◌, List, [], ◌∷◌, Some, length, slice_get, take, zero, suc, refl, sym, ◌∙◌, ap, inl, inr, arith}
+use Rattle.std.proofs.lemmas.Bool.{cases_lt, cases_order}
 use Rattle.std.proofs.lemmas.List.Sums.{sum_by-cons}
 use Rattle.spec_grammar.specs.declared.rule.Symbol.TheVariants.{Category, Kind}
 use Rattle.spec_grammar.specs.declared.rule.Rule.{Rule}
 use Rattle.spec_lbnf.specs.Expansion.{Expansion, item_count}
-use Rattle.binary_form.specs.Symbols.{BinarySymbol, plain, suffix, IsBinarySymbolOf, number_of}
+use Rattle.binary_form.specs.Symbols.{BinarySymbol, plain, suffix, IsBinarySymbolOf, number_of, plain_count}
 use Rattle.binary_form.specs.BinaryForm.{IsNumberOf}
 use Rattle.binary_form.specs.Laws.{NumbersDiffer, NumbersAreBelow, NumbersAreUsed}
 
@@ -75,7 +76,7 @@ pub counted :
     → n < item_count rules → (r : ℕ) × (p : ℕ) × IsCounted rules r p n
 counted [] n below = absurd (omega arith)
 counted (x ∷ rules) n below =
-    elim (here_or_later (length x.items)) [
+    elim (cases_lt n (length x.items)) [
       | inl here ↦
           (0, n, record { rule = x; is_rule = refl; within = here; count = omega arith })
       | inr later ↦
@@ -91,26 +92,19 @@ counted (x ∷ rules) n below =
             },
           )
     ]
-  where
-    here_or_later : (m : ℕ) → (n < m) ⊎ (m ≤ n)
-    here_or_later m = grind arith
-
--- a number is below another, the same, or above it
-three_ways : (m n : ℕ) → (m < n) ⊎ ((m ≡ n) ⊎ (n < m))
-three_ways m n = grind arith
 
 -- two items with the same count before them are the same
 pub counted_once :
     (rules : List Rule) (r p t q n : ℕ)
     → IsCounted rules r p n → IsCounted rules t q n → suffix r p ≡ suffix t q
 counted_once rules r p t q n one other =
-    elim (three_ways r t) [
-      | inl before ↦
-          absurd (omega (arith, count_before rules r t one.rule one.is_rule before))
-      | inr (inl same) ↦
+    elim (cases_order r t) [
+      | inl same ↦
           let counts = ap (λ m. item_count (take m rules)) same in
           let places : p ≡ q = omega (arith, counts) in
           ap (λ m. suffix m p) same ∙ ap (suffix t) places
+      | inr (inl before) ↦
+          absurd (omega (arith, count_before rules r t one.rule one.is_rule before))
       | inr (inr behind) ↦
           absurd (omega (arith, count_before rules t r other.rule other.is_rule behind))
     ]
@@ -160,7 +154,7 @@ numbers_used g n below =
       | inl category ↦ (plain (Category n), category, refl)
       | inr (inl kind) ↦ (plain (Kind (n - length g.categories)), omega arith, omega arith)
       | inr (inr item) ↦
-          let x = counted g.rules (n - (length g.categories + length g.kinds)) (omega arith) in
+          let x = counted g.rules (n - (plain_count g)) (omega arith) in
           let is = x.2 in
           (suffix x.0 x.1, (is.rule, is.is_rule, is.within), omega (arith, is.count))
     ]

@@ -1,18 +1,18 @@
 -- The rows of suffixes say what the rules say.
-use Rattle.std.proofs.Common.{◌≡◌, ℕ, suc, ◌+◌, ◌<◌, ◌↔◌, ◌⊎◌, inl, inr, List, [], ◌∷◌, Bool, false, IsTrue, IsFalse, nat_eq, Some, length}
+use Rattle.std.proofs.Common.{◌≡◌, ℕ, suc, ◌+◌, ◌<◌, ◌↔◌, ◌⊎◌, inl, inr, List, [], ◌∷◌, false, IsFalse, nat_eq, Some, length}
 use Rattle.std.proofs.Common.{slice_get, take, drop, refl, sym, ap, ◌∙◌, subst, arith, length-drop}
 use Rattle.std.proofs.lemmas.List.{nil_from_length}
-use Rattle.std.proofs.lemmas.Bool.Decides.{Decides-eqb}
+use Rattle.std.proofs.lemmas.Bool.Decides.{Decides-at, Decides-eqb}
 use Rattle.std.proofs.lemmas.Option.{slice_get_within, slice_get_cases}
 use Rattle.std.proofs.lemmas.Bool.{false≢true}
 use Rattle.spec_grammar.specs.declared.rule.Symbol.{Symbol}
 use Rattle.spec_grammar.specs.declared.rule.Rule.{Rule}
 use Rattle.spec_lbnf.specs.Expansion.{Expansion, HasOwnSymbols, item_count, symbol_count}
 use Rattle.binary_form.specs.declared.rows.SuffixRow.{SuffixRow}
-use Rattle.binary_form.specs.Symbols.{BinarySymbol, plain, suffix}
+use Rattle.binary_form.specs.Symbols.{BinarySymbol, plain, suffix, suffix_number}
 use Rattle.binary_form.specs.UnitSteps.{HasItem}
 use Rattle.binary_form.specs.BinaryForm.{IsNumberOf}
-use Rattle.binary_form.specs.Rows.{IsRow, IsRowAt, AreRows, IsRowWithin, suffix_number}
+use Rattle.binary_form.specs.Rows.{IsRow, IsRowAt, AreRows, IsRowWithin}
 use Rattle.binary_form.proofs.ItemLemmas.{drop_from_get, drop_within, same_rule, next_item, suffix_symbol}
 use Rattle.binary_form.proofs.NumberLemmas.{IsCounted, counted_once, count_within, numbers_below}
 
@@ -26,13 +26,6 @@ pub none_or_more :
     → (items ≡ []) ⊎ ((t : Symbol) × (more : List Symbol) × (items ≡ t ∷ more))
 none_or_more [] = inl refl
 none_or_more (t ∷ more) = inr (t, more, refl)
-
--- a test of two numbers is true exactly where they are the same
-tested : (m n : ℕ) (test : Bool) → test ≡ nat_eq m n → IsTrue test ↔ (m ≡ n)
-tested m n test is = (
-  (λ true. (Decides-eqb m n).0 (sym is ∙ true)),
-  (λ same. is ∙ (Decides-eqb m n).1 same),
-)
 
 -- a place is the last exactly where nothing is behind it
 last_or_more :
@@ -51,7 +44,7 @@ module _ (g : Expansion) (r p : ℕ) (rule : Rule) (s : Symbol) where
       → IsNumberOf g (plain s) row.item → row.category ≡ rule.category → row.is_first ≡ nat_eq p 0
       → row.is_last ≡ nat_eq (p + 1) (length rule.items) → IsRow g r p row
   row_is row own is_rule is_item number category first last =
-      let is_last = tested (p + 1) (length rule.items) row.is_last last in
+      let is_last = Decides-at row.is_last _ last (Decides-eqb (p + 1) (length rule.items)) in
       let ends = last_or_more rule.items p (slice_get_within rule.items p s is_item) in
       record {
         item = s;
@@ -59,7 +52,7 @@ module _ (g : Expansion) (r p : ℕ) (rule : Rule) (s : Symbol) where
         has = record { rule = rule; is_rule = is_rule; is_item = drop_from_get rule.items p s is_item };
         is_item = number;
         is_category = ((own r rule is_rule).0, sym category);
-        is_first = tested p 0 row.is_first first;
+        is_first = Decides-at row.is_first _ first (Decides-eqb p 0);
         is_last = ((λ true. ends.0 (is_last.0 true)), (λ none. is_last.1 (ends.1 none)));
       }
 
@@ -105,9 +98,9 @@ module _ (g : Expansion) where
       subst Q same_places (subst P same_rules is)
 
   -- the number of a row's suffix
-  pub whole_number : (n : ℕ) (row : SuffixRow) (at : IsRowAt g n row)
+  pub suffix_of_row : (n : ℕ) (row : SuffixRow) (at : IsRowAt g n row)
       → IsNumberOf g (suffix at.r at.p) (suffix_number g n)
-  whole_number n row at =
+  suffix_of_row n row at =
       let is = at.is_row in (
         suffix_symbol g at.r at.p is.item is.behind is.has,
         omega (arith, at.count),
@@ -161,7 +154,7 @@ module _ (g : Expansion) where
     row_within n row is =
         let at = are.each n row is in
         record {
-          whole_below = number_below g (suffix at.r at.p) (suffix_number g n) (whole_number n row at);
+          suffix_below = number_below g (suffix at.r at.p) (suffix_number g n) (suffix_of_row n row at);
           item_below = number_below g (plain (at.is_row).item) row.item (at.is_row).is_item;
           next_below = λ not_last.
               let more = goes_on at.r at.p row at.is_row not_last in

@@ -1,46 +1,46 @@
 -- The links that rows give are those of the grammar.
-use Rattle.std.proofs.Common.{◌≡◌, ℕ, suc, ◌+◌, ◌<◌, ◌≤◌, ◌↔◌, ◌⊎◌, inl, inr, List, [], Bool, true, false, not, IsTrue, IsFalse}
+use Rattle.std.proofs.Common.{◌≡◌, ℕ, suc, ◌+◌, ◌≤◌, ◌↔◌, ◌⊎◌, inl, inr, List, [], Bool, not, IsTrue, IsFalse}
 use Rattle.std.proofs.Common.{Some, length, slice_get, take, drop, refl, sym, ap, ◌∙◌, subst, arith, length-drop}
 use Rattle.std.proofs.lemmas.List.{length-replicate}
 use Rattle.std.proofs.lemmas.Option.{slice_get_within}
-use Rattle.std.proofs.lemmas.Bool.{false≢true}
+use Rattle.std.proofs.lemmas.Bool.{cases_Bool, cases_lt, not-true, not_from_false}
 use Rattle.spec_grammar.specs.declared.rule.Symbol.TheVariants.{Category}
 use Rattle.spec_grammar.specs.declared.rule.Rule.{Rule}
 use Rattle.spec_grammar.specs.Derivation.{IsNullable}
 use Rattle.spec_lbnf.specs.Expansion.{Expansion, item_count}
 use Rattle.binary_form.specs.declared.rows.SuffixRow.{SuffixRow}
-use Rattle.binary_form.specs.Symbols.{BinarySymbol, plain, suffix, BinaryDerives, IsBinarySymbolOf, number_of}
+use Rattle.binary_form.specs.Symbols.{BinarySymbol, plain, suffix, BinaryDerives, IsBinarySymbolOf, number_of, plain_count, suffix_number}
 use Rattle.binary_form.specs.UnitSteps.{AreNullable, UnitStep, whole_side, last_item, passed_item}
 use Rattle.binary_form.specs.BinaryForm.{IsNumberOf}
 use Rattle.binary_form.specs.NumberSteps.{StepNumber}
-use Rattle.binary_form.specs.Rows.{IsRow, IsRowAt, AreRows, suffix_number}
-use Rattle.binary_form.specs.Wholes.{IsWhole, AreWholes}
+use Rattle.binary_form.specs.Rows.{IsRow, IsRowAt, AreRows}
+use Rattle.binary_form.specs.LongerSuffixes.{IsLongerSuffix, AreLongerSuffixes}
 use Rattle.binary_form.specs.NullableNumbers.{AreNullableNumbers, IsRestNullable}
 use Rattle.number_graph.specs.Graphs.{IsSet, HasLink, AddsLinks, AreNoLinks}
-use Rattle.binary_form.specs.RowLinks.{IsRowStep, IsRowWhole, IsLinkOfRows, AreLinksOfRows, AreUnitSteps}
+use Rattle.binary_form.specs.RowLinks.{IsRowStep, IsRowLongerSuffix, IsLinkOfRows, AreLinksOfRows, AreUnitSteps}
 use Rattle.binary_form.proofs.NumberLemmas.{number-suffix-suc}
 use Rattle.binary_form.proofs.ItemLemmas.{items_behind, same_rule, symbol_item}
-use Rattle.binary_form.proofs.RowLemmas.{number_below, whole_number, next_number, goes_on, row_at, same_item}
+use Rattle.binary_form.proofs.RowLemmas.{number_below, suffix_of_row, next_number, goes_on, row_at, same_item}
 use Rattle.binary_form.proofs.NullableLemmas.{alike, number_empty, rest_empty}
 use Rattle.number_graph.proofs.LinkLemmas.{no_link, adds_both, adds_tested}
 
 -- one suffix's unit steps are added, those of each sort where they are there
 pub adds_steps :
-    (nullable : List Bool) (row : SuffixRow) (whole : ℕ) (old first second new : List (List ℕ)) (empty passed : Bool)
-    → IsTrue empty ↔ IsRestNullable nullable row whole
+    (nullable : List Bool) (row : SuffixRow) (number : ℕ) (old first second new : List (List ℕ)) (empty passed : Bool)
+    → IsTrue empty ↔ IsRestNullable nullable row number
     → IsTrue passed ↔ (IsFalse row.is_last × IsSet nullable row.item)
-    → AddsLinks (λ m n. IsTrue row.is_first × (m ≡ whole) × (n ≡ row.category)) old first
-    → AddsLinks (λ m n. IsTrue empty × (m ≡ row.item) × (n ≡ whole)) first second
-    → AddsLinks (λ m n. IsTrue passed × (m ≡ whole + 1) × (n ≡ whole)) second new
-    → AddsLinks (IsRowStep nullable row whole) old new
-adds_steps nullable row whole old first second new empty passed is_empty is_passed adds_first adds_second adds_third =
-    let Second : Type 0 = IsRestNullable nullable row whole in
+    → AddsLinks (λ m n. IsTrue row.is_first × (m ≡ number) × (n ≡ row.category)) old first
+    → AddsLinks (λ m n. IsTrue empty × (m ≡ row.item) × (n ≡ number)) first second
+    → AddsLinks (λ m n. IsTrue passed × (m ≡ number + 1) × (n ≡ number)) second new
+    → AddsLinks (IsRowStep nullable row number) old new
+adds_steps nullable row number old first second new empty passed is_empty is_passed adds_first adds_second adds_third =
+    let Second : Type 0 = IsRestNullable nullable row number in
     let Third : Type 0 = IsFalse row.is_last × IsSet nullable row.item in
-    adds_both (λ m n. IsTrue row.is_first × (m ≡ whole) × (n ≡ row.category))
-    (λ m n. (Second × (m ≡ row.item) × (n ≡ whole)) ⊎ (Third × (m ≡ whole + 1) × (n ≡ whole))) old first new adds_first
-    (adds_both (λ m n. Second × (m ≡ row.item) × (n ≡ whole)) (λ m n. Third × (m ≡ whole + 1) × (n ≡ whole)) first second new
-    (adds_tested first second row.item whole Second empty is_empty adds_second)
-    (adds_tested second new (whole + 1) whole Third passed is_passed adds_third))
+    adds_both (λ m n. IsTrue row.is_first × (m ≡ number) × (n ≡ row.category))
+    (λ m n. (Second × (m ≡ row.item) × (n ≡ number)) ⊎ (Third × (m ≡ number + 1) × (n ≡ number))) old first new adds_first
+    (adds_both (λ m n. Second × (m ≡ row.item) × (n ≡ number)) (λ m n. Third × (m ≡ number + 1) × (n ≡ number)) first second new
+    (adds_tested first second row.item number Second empty is_empty adds_second)
+    (adds_tested second new (number + 1) number Third passed is_passed adds_third))
 
 module _ (Link : SuffixRow → ℕ → ℕ → ℕ → Type 0) (rows : List SuffixRow) (first count : ℕ) where
   -- of no rows there are no links
@@ -80,16 +80,13 @@ module _ (Link : SuffixRow → ℕ → ℕ → ℕ → Type 0) (rows : List Suff
             }
       ]
 
-      last_or_before : (k : ℕ) → k < many + 1 → (k < many) ⊎ (k ≡ many)
-      last_or_before k within = grind arith
-
       same_row :
           (k : ℕ) (other : SuffixRow)
           → k ≡ many → slice_get rows k ≡ Some other → other ≡ row
       same_row k other same is_other = cc
 
       back : (m n : ℕ) → IsLinkOfRows Link rows first (many + 1) m n → HasLink new m n
-      back m n link = (adds.links m n).1 (elim (last_or_before link.k link.within) [
+      back m n link = (adds.links m n).1 (elim (cases_lt link.k many) [
         | inl earlier ↦ inl ((before.exact m n).1 (record {
           k = link.k;
           row = link.row;
@@ -97,28 +94,23 @@ module _ (Link : SuffixRow → ℕ → ℕ → ℕ → Type 0) (rows : List Suff
           within = earlier;
           is_link = link.is_link;
         }))
-        | inr last ↦
+        | inr later ↦
+            let last : link.k ≡ many = omega (arith, link.within) in
             let same : link.row ≡ row = same_row link.k link.row last link.is_row in
             let P : SuffixRow → Type 0 = λ x. Link x (first + many) m n in
             let Q : ℕ → Type 0 = λ k. Link link.row (first + k) m n in
             inr (subst P same (subst Q last link.is_link))
       ])
 
--- a test is true, or false
-true_or_false : (test : Bool) → IsTrue test ⊎ IsFalse test
-true_or_false true = inl refl
-true_or_false false = inr refl
-
--- a test's opposite is true where the test is false
+-- a test's opposite is true exactly where the test is false
 pub not_tested : (test : Bool) → IsTrue (not test) ↔ IsFalse test
-not_tested true = ((λ is. absurd (false≢true is)), (λ is. absurd (false≢true (sym is))))
-not_tested false = ((λ is. refl), (λ is. refl))
+not_tested test = (not-true test, not_from_false test)
 
 -- an item with a symbol of the grammar behind it is not the last
 not_last :
     (g : Expansion) (r p : ℕ) (row : SuffixRow)
     → IsRow g r p row → IsBinarySymbolOf g (suffix r (suc p)) → IsFalse row.is_last
-not_last g r p row is next = elim (true_or_false row.is_last) [
+not_last g r p row is next = elim (cases_Bool row.is_last) [
   | inr no_more ↦ no_more
   | inl last ↦
       let are_behind = items_behind g.rules r p is.item is.behind next.0 is.has next.1 in
@@ -145,34 +137,34 @@ module _ (g : Expansion) (rows : List SuffixRow) (nullable : List Bool) (are : A
       → IsRowStep nullable row (suffix_number g n) from to → StepNumber g from to
   step_of_row n from to row at (inl (whole_rule, is_from, is_to)) =
       let is = at.is_row in
-      let whole = whole_number g n row at in
+      let number = suffix_of_row g n row at in
       let start : at.p ≡ 0 = (is.is_first).0 whole_rule in
       let own : BinarySymbol = plain (Category ((is.has).rule).category) in
       let P : ℕ → Type 0 = λ place. UnitStep g.rules (suffix at.r place) own in (
         suffix at.r at.p,
         own,
-        (whole.0, whole.1 ∙ sym is_from),
+        (number.0, number.1 ∙ sym is_from),
         ((is.is_category).0, (is.is_category).1 ∙ sym is_to),
         subst P (sym start) (whole_side (is.has).is_rule),
       )
   step_of_row n from to row at (inr (inl (rest, is_from, is_to))) =
       let is = at.is_row in
-      let whole = whole_number g n row at in (
+      let number = suffix_of_row g n row at in (
         plain is.item,
         suffix at.r at.p,
         ((is.is_item).0, (is.is_item).1 ∙ sym is_from),
-        (whole.0, whole.1 ∙ sym is_to),
+        (number.0, number.1 ∙ sym is_to),
         last_item is.has ((rest_is n row at).0 rest),
       )
   step_of_row n from to row at (inr (inr ((more_behind, set), is_from, is_to))) =
       let is = at.is_row in
-      let whole = whole_number g n row at in
+      let number = suffix_of_row g n row at in
       let more = goes_on g at.r at.p row is more_behind in
       let next = next_number g n row at more.0 more.1 more.2 in (
         suffix at.r (suc at.p),
         suffix at.r at.p,
         (next.0, next.1 ∙ sym is_from),
-        (whole.0, whole.1 ∙ sym is_to),
+        (number.0, number.1 ∙ sym is_to),
         passed_item is.has ((empty_is (plain is.item) row.item is.is_item).0 set),
       )
 
@@ -180,13 +172,13 @@ module _ (g : Expansion) (rows : List SuffixRow) (nullable : List Bool) (are : A
   pub row_of_step :
       (from to : ℕ)
       → StepNumber g from to
-      → IsLinkOfRows (IsRowStep nullable) rows (length g.categories + length g.kinds) (length rows) from to
+      → IsLinkOfRows (IsRowStep nullable) rows (plain_count g) (length rows) from to
   row_of_step from to step = row_of step.0 step.1 step.2 step.3 step.4
     where
       row_of :
           (a b : BinarySymbol)
           → IsNumberOf g a from → IsNumberOf g b to → UnitStep g.rules a b
-          → IsLinkOfRows (IsRowStep nullable) rows (length g.categories + length g.kinds) (length rows) from to
+          → IsLinkOfRows (IsRowStep nullable) rows (plain_count g) (length rows) from to
       row_of a b is_a is_b (whole_side {r = r} {rule = rule} is_rule) =
           let start = symbol_item g r 0 is_a.0 in
           let x = row_at g rows are r 0 start.0 start.1 start.2 in
@@ -201,7 +193,7 @@ module _ (g : Expansion) (rows : List SuffixRow) (nullable : List Bool) (are : A
             row = x.0;
             is_row = x.1;
             within = slice_get_within rows n x.0 x.1;
-            is_link = inl ((is.is_first).1 refl, sym is_a.1 ∙ (whole_number g n x.0 at).1, category);
+            is_link = inl ((is.is_first).1 refl, sym is_a.1 ∙ (suffix_of_row g n x.0 at).1, category);
           }
       row_of a b is_a is_b (last_item {r = r} {p = p} {s = s} {behind = behind} has empty) =
           let x = row_at g rows are r p s behind has in
@@ -219,7 +211,7 @@ module _ (g : Expansion) (rows : List SuffixRow) (nullable : List Bool) (are : A
             row = x.0;
             is_row = x.1;
             within = slice_get_within rows n x.0 x.1;
-            is_link = inr (inl (rest, item, sym is_b.1 ∙ (whole_number g n x.0 at).1));
+            is_link = inr (inl (rest, item, sym is_b.1 ∙ (suffix_of_row g n x.0 at).1));
           }
       row_of a b is_a is_b (passed_item {r = r} {p = p} {s = s} {behind = behind} has empty) =
           let x = row_at g rows are r p s behind has in
@@ -231,20 +223,20 @@ module _ (g : Expansion) (rows : List SuffixRow) (nullable : List Bool) (are : A
           let set = (empty_is (plain is.item) (x.0).item is.is_item).1
           (subst (IsNullable g.rules) same_first empty) in
           let next : from ≡ suffix_number g n + 1 =
-          sym is_a.1 ∙ number-suffix-suc g r p ∙ ap (λ m. m + 1) (whole_number g n x.0 at).1 in
+          sym is_a.1 ∙ number-suffix-suc g r p ∙ ap (λ m. m + 1) (suffix_of_row g n x.0 at).1 in
           record {
             k = n;
             row = x.0;
             is_row = x.1;
             within = slice_get_within rows n x.0 x.1;
-            is_link = inr (inr ((not_last g r p x.0 is is_a.0, set), next, sym is_b.1 ∙ (whole_number g n x.0 at).1));
+            is_link = inr (inr ((not_last g r p x.0 is is_a.0, set), next, sym is_b.1 ∙ (suffix_of_row g n x.0 at).1));
           }
 
   -- the links that all rows give are the unit steps
   pub unit_steps_are :
       (many : ℕ) (links : List (List ℕ))
       → length rows ≤ many
-      → AreLinksOfRows (IsRowStep nullable) rows (length g.categories + length g.kinds) many (length nullable) links
+      → AreLinksOfRows (IsRowStep nullable) rows (plain_count g) many (length nullable) links
       → AreUnitSteps g links
   unit_steps_are many links all given = record {
     count = given.size ∙ flags.count;
@@ -266,11 +258,11 @@ module _ (g : Expansion) (rows : List SuffixRow) (nullable : List Bool) (are : A
 
 module _ (g : Expansion) (rows : List SuffixRow) (are : AreRows g rows) where
   -- a row whose suffix goes on behind its item tells an item and the suffix that it begins
-  whole_of_row : (n item_number whole : ℕ) (row : SuffixRow) → IsRowAt g n row
-      → IsRowWhole row (suffix_number g n) item_number whole → IsWhole g item_number whole
-  whole_of_row n item_number whole row at (more_behind, is_item, is_whole) =
+  longer_of_row : (n item_number longer : ℕ) (row : SuffixRow) → IsRowAt g n row
+      → IsRowLongerSuffix row (suffix_number g n) item_number longer → IsLongerSuffix g item_number longer
+  longer_of_row n item_number longer row at (more_behind, is_item, is_suffix) =
       let is = at.is_row in
-      let number = whole_number g n row at in
+      let number = suffix_of_row g n row at in
       let more = goes_on g at.r at.p row is more_behind in
       record {
         r = at.r;
@@ -279,16 +271,16 @@ module _ (g : Expansion) (rows : List SuffixRow) (are : AreRows g rows) where
         behind = is.behind;
         has = is.has;
         is_item = ((is.is_item).0, (is.is_item).1 ∙ sym is_item);
-        is_whole = (number.0, number.1 ∙ sym is_whole);
+        is_suffix = (number.0, number.1 ∙ sym is_suffix);
         goes_on = (next_number g n row at more.0 more.1 more.2).0;
       }
 
   -- an item with an item behind it has a row whose suffix goes on
-  row_of_whole :
-      (item_number whole : ℕ)
-      → IsWhole g item_number whole
-      → IsLinkOfRows IsRowWhole rows (length g.categories + length g.kinds) (length rows) item_number whole
-  row_of_whole item_number whole x =
+  row_of_longer :
+      (item_number longer : ℕ)
+      → IsLongerSuffix g item_number longer
+      → IsLinkOfRows IsRowLongerSuffix rows (plain_count g) (length rows) item_number longer
+  row_of_longer item_number longer x =
       let found = row_at g rows are x.r x.p x.item x.behind x.has in
       let is = found.2 in
       let n : ℕ = item_count (take x.r g.rules) + x.p in
@@ -302,23 +294,23 @@ module _ (g : Expansion) (rows : List SuffixRow) (are : AreRows g rows) where
         row = found.0;
         is_row = found.1;
         within = slice_get_within rows n found.0 found.1;
-        is_link = (not_last g x.r x.p found.0 is x.goes_on, number, sym (x.is_whole).1 ∙ (whole_number g n found.0 at).1);
+        is_link = (not_last g x.r x.p found.0 is x.goes_on, number, sym (x.is_suffix).1 ∙ (suffix_of_row g n found.0 at).1);
       }
 
   -- the links that all rows give lead from items to the suffixes that they begin
-  pub wholes_are :
+  pub longer_suffixes_are :
       (many : ℕ) (links : List (List ℕ))
       → length rows ≤ many
-      → AreLinksOfRows IsRowWhole rows (length g.categories + length g.kinds) many (length g.categories + length g.kinds + length rows) links
-      → AreWholes g links
-  wholes_are many links all given = record {
+      → AreLinksOfRows IsRowLongerSuffix rows (plain_count g) many (suffix_number g (length rows)) links
+      → AreLongerSuffixes g links
+  longer_suffixes_are many links all given = record {
     count = omega (arith, given.size, are.count);
     links = λ m n. (
       (λ has.
           let link = (given.exact m n).0 has in
-          whole_of_row link.k m n link.row (are.each link.k link.row link.is_row) link.is_link),
+          longer_of_row link.k m n link.row (are.each link.k link.row link.is_row) link.is_link),
       (λ x.
-          let link = row_of_whole m n x in
+          let link = row_of_longer m n x in
           (given.exact m n).1 (record {
             k = link.k;
             row = link.row;

@@ -1,10 +1,12 @@
 -- What a caller sees of the binary form of a grammar.
-use Rattle.std.specs.Prelude.{◌≡◌, ℕ, suc, ◌<◌, ◌≤◌, ◌↔◌, ◌⊎◌, List, [], Option, Some, length}
+use Rattle.std.specs.Prelude.{◌≡◌, ℕ, suc, ◌<◌, ◌≤◌, ◌↔◌, List, [], Option, Some, length}
 use Rattle.std.specs.Prelude.{Contains}
 use Rattle.std.specs.Prelude.{Result, Ok, Err}
 use Rattle.spec_grammar.specs.declared.rule.Symbol.{Symbol}
 use Rattle.spec_grammar.specs.declared.rule.Symbol.TheVariants.{Kind}
 use Rattle.spec_lbnf.specs.Expansion.{Expansion, symbol_count}
+use Rattle.cell_sets.specs.Cells.{Adds}
+use Rattle.binary_form.specs.declared.build.TheConstants.{MAX_SYMBOLS}
 use Rattle.binary_form.specs.declared.fault.BinaryFault.{BinaryFault}
 use Rattle.binary_form.specs.declared.fault.BinaryFault.TheVariants.{Memory, TooManySymbols}
 use Rattle.binary_form.specs.Symbols.{BinarySymbol, plain, suffix, BinaryDerives, IsBinarySymbolOf}
@@ -57,8 +59,7 @@ IsProductOf g left right cell = (n : ℕ) → Contains cell n ↔ IsProductNumbe
 
 -- the new cell has the numbers of the old one, and those of the product of the two
 abbrev pub AddsProductOf : Expansion → List ℕ → List ℕ → List ℕ → List ℕ → Type 0
-AddsProductOf g left right old new =
-    (n : ℕ) → Contains new n ↔ (Contains old n ⊎ IsProductNumber g left right n)
+AddsProductOf g left right old new = Adds (IsProductNumber g left right) old new
 
 -- some number is in the product of the two cells
 abbrev pub HasProduct : Expansion → List ℕ → List ℕ → Type 0
@@ -67,6 +68,6 @@ HasProduct g left right = (n : ℕ) × IsProductNumber g left right n
 -- the answer on the grammar is its binary form, which is seen as the grammar, or that it has too
 -- many symbols; want of memory comes at no grammar of too many
 abbrev pub MakesBinary : Expansion → Result Expansion BinaryFault → Type 0
-MakesBinary g (Ok binary) = (symbol_count g ≤ 2048) × (binary ≡ g)
-MakesBinary g (Err Memory) = symbol_count g ≤ 2048
-MakesBinary g (Err (TooManySymbols count)) = (count ≡ symbol_count g) × (2048 < count)
+MakesBinary g (Ok binary) = (symbol_count g ≤ MAX_SYMBOLS) × (binary ≡ g)
+MakesBinary g (Err Memory) = symbol_count g ≤ MAX_SYMBOLS
+MakesBinary g (Err (TooManySymbols count)) = (count ≡ symbol_count g) × (MAX_SYMBOLS < count)

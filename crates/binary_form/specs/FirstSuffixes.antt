@@ -1,10 +1,7 @@
 -- Serves the proofs alone. Where the suffixes of each rule are numbered from.
-use Rattle.std.specs.Prelude.{◌≡◌, ℕ, ◌+◌, ◌<◌, List, length, slice_index_or, take}
-use Rattle.spec_lbnf.specs.Expansion.{Expansion, item_count}
-
--- the suffixes of rule r are numbered from here
-abbrev pub first_suffix : Expansion → ℕ → ℕ
-first_suffix g r = length g.categories + length g.kinds + item_count (take r g.rules)
+use Rattle.std.specs.Prelude.{◌≡◌, ℕ, ◌<◌, List, length, slice_index_or}
+use Rattle.spec_lbnf.specs.Expansion.{Expansion}
+use Rattle.binary_form.specs.Symbols.{first_suffix}
 
 -- for each rule, these tell where its suffixes are numbered from
 pub record AreFirstSuffixes (g : Expansion) (firsts : List ℕ) : Type 0 where

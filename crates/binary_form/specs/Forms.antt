@@ -1,10 +1,11 @@
 -- What a binary form keeps of its grammar. Serves the proofs alone.
 use Rattle.std.specs.Prelude.{◌≡◌, ℕ, ◌≤◌, List, Some, Bool, length, slice_get}
 use Rattle.spec_lbnf.specs.Expansion.{Expansion, HasOwnSymbols, symbol_count}
+use Rattle.binary_form.specs.declared.build.TheConstants.{MAX_SYMBOLS}
 use Rattle.binary_form.specs.BinaryForm.{IsClosureOf}
 use Rattle.binary_form.specs.FirstSuffixes.{AreFirstSuffixes}
 use Rattle.binary_form.specs.NullableNumbers.{AreNullableNumbers}
-use Rattle.binary_form.specs.Wholes.{AreWholes}
+use Rattle.binary_form.specs.LongerSuffixes.{AreLongerSuffixes}
 
 -- so many numbers, from 0 on, have cells, which are their closures
 pub record AreClosuresUpTo {C : Type 0} (symbols : C → List ℕ) (g : Expansion) (many : ℕ)
@@ -17,16 +18,16 @@ abbrev pub AreClosures : {C : Type 0} → (C → List ℕ) → Expansion → Lis
 AreClosures symbols g cells = AreClosuresUpTo symbols g (symbol_count g) cells
 
 -- the grammar's rules have its own symbols, and the parts are those of its binary form: where
--- suffixes are numbered from, flags of what is nullable, closures, wholes
+-- suffixes are numbered from, flags of what is nullable, closures, links to longer suffixes
 pub record AreParts {C : Type 0} (symbols : C → List ℕ) (most : ℕ) (g : Expansion) (firsts : List ℕ)
     (flags : List Bool) (cells : List C) (links : List (List ℕ)) : Type 0 where
-  pub own : HasOwnSymbols g
-  pub few : symbol_count g ≤ 2048
+  pub own_symbols : HasOwnSymbols g
+  pub few : symbol_count g ≤ MAX_SYMBOLS
   pub room : symbol_count g ≤ most
   pub firsts_are : AreFirstSuffixes g firsts
   pub nullable : AreNullableNumbers g flags
   pub closures : AreClosures symbols g cells
-  pub wholes : AreWholes g links
+  pub longer_suffixes : AreLongerSuffixes g links
 
 -- the counts are those of the grammar's categories and kinds
 abbrev pub AreCounts : Expansion → ℕ → ℕ → Type 0

@@ -4,7 +4,7 @@ pub mod UnitSteps
 pub mod Laws
 pub mod Examples
 pub mod NumberSteps
-pub mod Wholes
+pub mod LongerSuffixes
 pub mod Rows
 pub mod NullableNumbers
 pub mod RowLinks

@@ -1,10 +1,6 @@
--- The product of two cells, by wholes and their closures. Serves the proofs alone.
-use Rattle.std.specs.Prelude.{◌≡◌, ℕ, ◌+◌, ◌<◌, ◌≤◌, ◌↔◌, ◌⊎◌, List, [], Option, Some}
+-- The product of two cells, by suffixes and their closures. Serves the proofs alone.
+use Rattle.std.specs.Prelude.{◌≡◌, ℕ, ◌+◌, ◌<◌, ◌≤◌, List, [], Option, Some}
 use Rattle.std.specs.Prelude.{MatchOption, slice_get, slice_index_or, Contains}
-
--- the new list has what the old one has, and what is given
-abbrev pub Adds : (ℕ → Type 0) → List ℕ → List ℕ → Type 0
-Adds IsGiven old new = (n : ℕ) → Contains new n ↔ (Contains old n ⊎ IsGiven n)
 
 -- one of the givers gives the number
 abbrev pub OneGives : (ℕ → ℕ → Type 0) → List ℕ → ℕ → Type 0
@@ -15,41 +11,41 @@ abbrev pub OneGivesBelow : (ℕ → ℕ → Type 0) → List ℕ → ℕ → ℕ
 OneGivesBelow Gives givers limit n =
     (giver : ℕ) × (giver < limit) × Contains givers giver × Gives giver n
 
--- the whole goes on with a symbol of the right cell: the suffix behind its item has the next number
+-- the suffix goes on with a symbol of the right cell: the one behind its item has the next number
 abbrev pub GoesOn : List ℕ → ℕ → Type 0
-GoesOn right whole = Contains right (whole + 1)
+GoesOn right suffix = Contains right (suffix + 1)
 
 -- the cell at this place has the number
 abbrev pub IsInCellAt : {C : Type 0} → (C → List ℕ) → List C → ℕ → ℕ → Type 0
 IsInCellAt {C = C} symbols cells at n =
     (cell : C) × (slice_get cells at ≡ Some cell) × Contains (symbols cell) n
 
--- the whole goes on with a symbol of the right cell, and its closure has the number
-abbrev pub WholeGives : {C : Type 0} → (C → List ℕ) → List C → List ℕ → ℕ → ℕ → Type 0
-WholeGives symbols cells right whole n = GoesOn right whole × IsInCellAt symbols cells whole n
+-- the suffix goes on with a symbol of the right cell, and its closure has the number
+abbrev pub SuffixGives : {C : Type 0} → (C → List ℕ) → List C → List ℕ → ℕ → ℕ → Type 0
+SuffixGives symbols cells right suffix n = GoesOn right suffix × IsInCellAt symbols cells suffix n
 
--- a whole that begins with the item goes on with a symbol of the right cell, and its closure has
+-- a suffix that begins with the item goes on with a symbol of the right cell, and its closure has
 -- the number
 abbrev pub ItemGives : {C : Type 0} → (C → List ℕ) → List C → List (List ℕ)
     → List ℕ → ℕ → ℕ → Type 0
 ItemGives symbols cells links right item n =
-    OneGives (WholeGives symbols cells right) (slice_index_or links item []) n
+    OneGives (SuffixGives symbols cells right) (slice_index_or links item []) n
 
--- a whole that begins with the item goes on with a symbol of the right cell
+-- a suffix that begins with the item goes on with a symbol of the right cell
 abbrev pub IsItemMet : List (List ℕ) → List ℕ → ℕ → Type 0
 IsItemMet links right item =
-    (whole : ℕ) × Contains (slice_index_or links item []) whole × GoesOn right whole
+    (suffix : ℕ) × Contains (slice_index_or links item []) suffix × GoesOn right suffix
 
 -- each cell has numbers below the count alone
 abbrev pub AreBelow : {C : Type 0} → (C → List ℕ) → ℕ → List C → Type 0
 AreBelow {C = C} symbols count cells =
     (at n : ℕ) (cell : C) → slice_get cells at ≡ Some cell → Contains (symbols cell) n → n < count
 
--- the wholes are numbers below the count, and so are those of the suffixes behind their items
+-- the suffixes are numbers below the count, and so are those of the suffixes behind their items
 abbrev pub GoOnBelow : ℕ → List ℕ → Type 0
-GoOnBelow count wholes = (whole : ℕ) → Contains wholes whole → whole + 1 < count
+GoOnBelow count suffixes = (suffix : ℕ) → Contains suffixes suffix → suffix + 1 < count
 
--- all links lead to such wholes
+-- all links lead to such suffixes
 abbrev pub LinksGoOnBelow : ℕ → List (List ℕ) → Type 0
 LinksGoOnBelow count links = (item : ℕ) → GoOnBelow count (slice_index_or links item [])
 

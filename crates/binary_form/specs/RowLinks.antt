@@ -10,14 +10,14 @@ use Rattle.binary_form.specs.NullableNumbers.{IsRestNullable}
 -- the suffix of this number gives a unit step: from the whole right side to the category, from its
 -- item to it, or from the suffix behind its item to it
 abbrev pub IsRowStep : List Bool → SuffixRow → ℕ → ℕ → ℕ → Type 0
-IsRowStep nullable row whole from to =
-    (IsTrue row.is_first × (from ≡ whole) × (to ≡ row.category))
-    ⊎ ((IsRestNullable nullable row whole × (from ≡ row.item) × (to ≡ whole))
-    ⊎ ((IsFalse row.is_last × IsSet nullable row.item) × (from ≡ whole + 1) × (to ≡ whole)))
+IsRowStep nullable row suffix from to =
+    (IsTrue row.is_first × (from ≡ suffix) × (to ≡ row.category))
+    ⊎ ((IsRestNullable nullable row suffix × (from ≡ row.item) × (to ≡ suffix))
+    ⊎ ((IsFalse row.is_last × IsSet nullable row.item) × (from ≡ suffix + 1) × (to ≡ suffix)))
 
 -- the suffix of this number goes on behind its item
-abbrev pub IsRowWhole : SuffixRow → ℕ → ℕ → ℕ → Type 0
-IsRowWhole row whole from to = IsFalse row.is_last × (from ≡ row.item) × (to ≡ whole)
+abbrev pub IsRowLongerSuffix : SuffixRow → ℕ → ℕ → ℕ → Type 0
+IsRowLongerSuffix row suffix from to = IsFalse row.is_last × (from ≡ row.item) × (to ≡ suffix)
 
 -- one of so many rows gives the link
 pub record IsLinkOfRows (Link : SuffixRow → ℕ → ℕ → ℕ → Type 0) (rows : List SuffixRow)

@@ -21,10 +21,6 @@ pub record IsRow (g : Expansion) (r p : ℕ) (row : SuffixRow) : Type 0 where
   pub is_first : IsTrue row.is_first ↔ (p ≡ 0)
   pub is_last : IsTrue row.is_last ↔ (behind ≡ [])
 
--- the number of the suffix that begins at this item, the items of all rules counted in order
-abbrev pub suffix_number : Expansion → ℕ → ℕ
-suffix_number g n = length g.categories + length g.kinds + n
-
 -- the row is that of the suffix which begins at this item, the items of all rules counted in order
 pub record IsRowAt (g : Expansion) (n : ℕ) (row : SuffixRow) : Type 0 where
   pub r : ℕ
@@ -43,7 +39,7 @@ AreRows g rows = AreRowsUpTo g (item_count g.rules) rows
 
 -- the suffix's number and its item's are below the count, and so is that of the suffix behind the
 -- item, if there is one
-pub record IsRowWithin (row : SuffixRow) (whole count : ℕ) : Type 0 where
-  pub whole_below : whole < count
+pub record IsRowWithin (row : SuffixRow) (suffix count : ℕ) : Type 0 where
+  pub suffix_below : suffix < count
   pub item_below : row.item < count
-  pub next_below : IsFalse row.is_last → whole + 1 < count
+  pub next_below : IsFalse row.is_last → suffix + 1 < count

@@ -25,9 +25,20 @@ IsBinarySymbolOf g (plain s) = IsSymbolOf g s
 IsBinarySymbolOf g (suffix r p) =
     (rule : Rule) × (slice_get g.rules r ≡ Some rule) × (p < length rule.items)
 
+-- how many categories and kinds there are
+abbrev pub plain_count : Expansion → ℕ
+plain_count g = length g.categories + length g.kinds
+
+-- the number of the suffix that begins at this item, the items of all rules counted in order
+abbrev pub suffix_number : Expansion → ℕ → ℕ
+suffix_number g n = plain_count g + n
+
+-- the suffixes of rule r are numbered from here
+abbrev pub first_suffix : Expansion → ℕ → ℕ
+first_suffix g r = suffix_number g (item_count (take r g.rules))
+
 -- the number of a binary symbol: categories first, then kinds, then the suffixes, rule by rule
 abbrev pub number_of : Expansion → BinarySymbol → ℕ
 number_of g (plain (Category c)) = c
 number_of g (plain (Kind k)) = length g.categories + k
-number_of g (suffix r p) =
-    length g.categories + length g.kinds + item_count (take r g.rules) + p
+number_of g (suffix r p) = first_suffix g r + p

@@ -1,10 +1,10 @@
 //! Making the binary form of a grammar.
 ghost use Rattle.std.specs.Prelude.{◌≡◌, ℕ, ◌<◌, ◌≤◌, ◌↔◌, ◌⊎◌, length, Contains, IfOk};
 ghost use Rattle.spec_lbnf.specs.Expansion.{HasOwnSymbols, symbol_count};
+ghost use Rattle.cell_sets.specs.Cells.{Adds};
 ghost use Rattle.binary_form.specs.BinaryForm.{IsClosureOf, MakesBinary};
 ghost use Rattle.number_graph.specs.Graphs.{IsSet};
 ghost use Rattle.binary_form.specs.Forms.{AreClosures};
-ghost use Rattle.binary_form.specs.Products.{Adds};
 ghost use Rattle.binary_form.specs.RowLinks.{AreUnitSteps};
 
 use crate::fault::BinaryFault;
@@ -12,11 +12,14 @@ use crate::form::Binary;
 use crate::nullable::nullable_numbers;
 use crate::numbering::{first_suffixes, symbol_count};
 use crate::rows::rows_of;
-use crate::steps::{unit_steps, wholes_of};
+use crate::steps::{longer_suffixes_of, unit_steps};
 use cell_sets::Cell;
 use lbnf_grammar::Grammar;
 use number_graph::{Links, reached_from};
 use std::alloc::{AllocError, Global};
+
+/// The most symbols that a binary form has.
+pub const MAX_SYMBOLS: u32 = 2_048;
 
 /// The cell with the number, if its flag is set.
 fn with_number<C: Cell>(
@@ -40,7 +43,7 @@ fn with_number<C: Cell>(
 
 /// The cell of the numbers whose flags are set, put in from the least to the greatest.
 fn cell_of<C: Cell>(alloc: Global, flags: &[bool]) -> Result<C, AllocError>
-    requires few { length flags.now ≤ 2048 }
+    requires few { length flags.now ≤ MAX_SYMBOLS }
     requires room { length flags.now ≤ C.ROOM }
     ensures { IfOk result (λ cell. (n : ℕ) → Contains (C.symbols cell) n ↔ IsSet flags.now n) }
 {
@@ -58,10 +61,10 @@ fn closure_of<C: Cell>(
     steps: &Links,
     number: u16,
 ) -> Result<C, AllocError>
-    requires few { symbol_count grammar.now ≤ 2048 }
+    requires few { symbol_count grammar.now ≤ MAX_SYMBOLS }
     requires room { symbol_count grammar.now ≤ C.ROOM }
     requires steps { AreUnitSteps grammar.now steps.now }
-    requires known { HasOwnSymbols grammar.now }
+    requires own_symbols { HasOwnSymbols grammar.now }
     requires below { number < symbol_count grammar.now }
     ensures { IfOk result (λ cell. IsClosureOf grammar.now number (C.symbols cell)) }
 {
@@ -76,10 +79,10 @@ fn closures_of<C: Cell>(
     grammar: &Grammar,
     steps: &Links,
 ) -> Result<Vec<C>, AllocError>
-    requires few { symbol_count grammar.now ≤ 2048 }
+    requires few { symbol_count grammar.now ≤ MAX_SYMBOLS }
     requires room { symbol_count grammar.now ≤ C.ROOM }
     requires steps { AreUnitSteps grammar.now steps.now }
-    requires known { HasOwnSymbols grammar.now }
+    requires own_symbols { HasOwnSymbols grammar.now }
     ensures { IfOk result (λ cells. AreClosures C.symbols grammar.now cells.items) }
 {
     let mut closures = Vec::new(alloc);
@@ -99,29 +102,29 @@ fn rules_have_own_symbols(grammar: &Grammar)
 
 /// The binary form of a grammar of at most 2,048 symbols.
 fn form_of<C: Cell>(alloc: Global, grammar: &Grammar) -> Result<Binary<C>, AllocError>
-    requires few { symbol_count grammar.now ≤ 2048 }
+    requires few { symbol_count grammar.now ≤ MAX_SYMBOLS }
     requires room { symbol_count grammar.now ≤ C.ROOM }
     ensures { IfOk result (λ binary. binary ≡ grammar.now) }
 {
     let rows = rows_of(alloc, grammar)?;
     let nullable = nullable_numbers(alloc, grammar, rows.as_slice())?;
     let steps = unit_steps(alloc, grammar, rows.as_slice(), nullable.as_slice())?;
-    let wholes = wholes_of(alloc, grammar, rows.as_slice())?;
+    let longer_suffixes = longer_suffixes_of(alloc, grammar, rows.as_slice())?;
     let firsts = first_suffixes(alloc, grammar)?;
     rules_have_own_symbols(grammar);
     let closures = closures_of(alloc, grammar, &steps)?;
-    Ok(Binary::of(grammar, firsts, nullable, closures, wholes))
+    Ok(Binary::of(grammar, firsts, nullable, closures, longer_suffixes))
 }
 
 /// The binary form of the grammar, or that it has more than 2,048 symbols, which takes no memory to
 /// find out. It looks at each item of the rules a few times, and for each symbol at what it reaches
 /// by unit steps.
 pub fn binary<C: Cell>(alloc: Global, grammar: &Grammar) -> Result<Binary<C>, BinaryFault>
-    requires room { (symbol_count grammar.now ≤ C.ROOM) ⊎ (2048 < symbol_count grammar.now) }
+    requires room { (symbol_count grammar.now ≤ C.ROOM) ⊎ (MAX_SYMBOLS < symbol_count grammar.now) }
     ensures { MakesBinary grammar.now result }
 {
     let count = symbol_count(grammar);
-    if count > 2048 {
+    if count > MAX_SYMBOLS {
         return Err(BinaryFault::TooManySymbols { count });
     }
     form_of(alloc, grammar).map_err(|_| BinaryFault::Memory)

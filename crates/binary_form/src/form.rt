@@ -5,6 +5,7 @@ ghost use Rattle.binary_form.specs.Symbols.{plain, suffix, IsBinarySymbolOf, num
 ghost use Rattle.binary_form.specs.BinaryForm.{IsNullableNumber, IsClosureOf, IsTokenCell};
 ghost use Rattle.binary_form.specs.BinaryForm.{IsProductOf, AddsProductOf, HasProduct};
 ghost use Rattle.binary_form.specs.Forms.{AreParts};
+ghost use Rattle.binary_form.specs.declared.build.TheConstants.{MAX_SYMBOLS};
 
 use crate::product::{is_met, product_of};
 use cell_sets::Cell;
@@ -24,7 +25,7 @@ pub struct Binary<C: Cell> {
     first_suffixes: Items<u16>,
     nullable: Vec<bool>,
     closures: Vec<C>,
-    wholes: Links,
+    longer_suffixes: Links,
     none: C,
 }
 
@@ -40,7 +41,7 @@ impl<C: Cell> Model for Binary<C> {
 
     ghost invariant = { λ b.
         AreParts C.symbols C.ROOM b.grammar.value
-        b.first_suffixes b.nullable.items b.closures.items b.wholes
+        b.first_suffixes b.nullable.items b.closures.items b.longer_suffixes
         × AreCounts b.grammar.value b.category_count b.kind_count
         × (C.symbols b.none ≡ []) };
 }
@@ -52,10 +53,10 @@ impl<C: Cell> Binary<C> {
         first_suffixes: Items<u16>,
         nullable: Vec<bool>,
         closures: Vec<C>,
-        wholes: Links,
+        longer_suffixes: Links,
     ) -> Binary<C>
         requires { AreParts C.symbols C.ROOM grammar.now
-            first_suffixes nullable.items closures.items wholes }
+            first_suffixes nullable.items closures.items longer_suffixes }
         ensures { result ≡ grammar.now }
     {
         Binary {
@@ -65,7 +66,7 @@ impl<C: Cell> Binary<C> {
             first_suffixes,
             nullable,
             closures,
-            wholes,
+            longer_suffixes,
             none: C::empty(),
         }
     }
@@ -73,9 +74,9 @@ impl<C: Cell> Binary<C> {
     /// How many symbols there are: their numbers are those below. The rules of the grammar have its
     /// own symbols. It takes no memory.
     pub fn symbol_count(&self) -> u32
-        ensures own { HasOwnSymbols self.now }
+        ensures own_symbols { HasOwnSymbols self.now }
         ensures count { result ≡ symbol_count self.now }
-        ensures few { result ≤ 2048 }
+        ensures few { result ≤ MAX_SYMBOLS }
         ensures room { result ≤ C.ROOM }
     {
         self.nullable.len() as u32
@@ -140,11 +141,11 @@ impl<C: Cell> Binary<C> {
         }
     }
 
-    /// What a span is whose left part is what one cell has, and its right part what the other has:
-    /// the closure of each suffix whose first item is in the left cell and whose other items,
-    /// as a suffix, are in the right one (Valiant 1975; Lange and Leiss 2009). It looks at the
-    /// symbols of the left cell and at the places where they are items, and makes a union for each
-    /// suffix that it finds. An error is want of memory.
+    /// The symbols of a span whose left part has the symbols of one cell and whose right part those
+    /// of the other: the closure of each suffix whose first item is in the left cell and whose
+    /// other items, as a suffix, are in the right one (Valiant 1975; Lange and Leiss 2009). It
+    /// looks at the symbols of the left cell and at the places where they are items, and makes a
+    /// union for each suffix that it finds. An error is want of memory.
     pub fn product(&self, alloc: Global, left: &C, right: &C) -> Result<C, AllocError>
         ensures { IfOk result (λ cell.
             IsProductOf self.now (C.symbols left.now) (C.symbols right.now) (C.symbols cell)) }
@@ -162,7 +163,7 @@ impl<C: Cell> Binary<C> {
         product_of(
             alloc,
             self.closures.as_slice(),
-            &self.wholes,
+            &self.longer_suffixes,
             left,
             right,
             cell,
@@ -174,6 +175,6 @@ impl<C: Cell> Binary<C> {
     pub fn meets(&self, left: &C, right: &C) -> bool
         ensures { IsTrue result ↔ HasProduct self.now (C.symbols left.now) (C.symbols right.now) }
     {
-        is_met(&self.wholes, left, right)
+        is_met(&self.longer_suffixes, left, right)
     }
 }

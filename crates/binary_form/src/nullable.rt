@@ -14,19 +14,19 @@ use std::alloc::{AllocError, Global};
 
 /// Whether the items behind the one that begins this suffix derive the empty span, if there are
 /// any.
-pub fn is_rest_nullable(flags: &[bool], row: &SuffixRow, whole: u16) -> bool
-    requires { IsRowWithin row.now whole (length flags.now) }
-    ensures { IsTrue result ↔ IsRestNullable flags.now row.now whole }
+pub fn is_rest_nullable(flags: &[bool], row: &SuffixRow, suffix: u16) -> bool
+    requires { IsRowWithin row.now suffix (length flags.now) }
+    ensures { IsTrue result ↔ IsRestNullable flags.now row.now suffix }
 {
-    row.is_last || flags[whole as usize + 1]
+    row.is_last || flags[suffix as usize + 1]
 }
 
-fn is_suffix_nullable(flags: &[bool], row: &SuffixRow, whole: u16) -> bool
-    requires { IsRowWithin row.now whole (length flags.now) }
+fn is_suffix_nullable(flags: &[bool], row: &SuffixRow, suffix: u16) -> bool
+    requires { IsRowWithin row.now suffix (length flags.now) }
     ensures { IsTrue result
-        ↔ (IsSet flags.now row.now.item × IsRestNullable flags.now row.now whole) }
+        ↔ (IsSet flags.now row.now.item × IsRestNullable flags.now row.now suffix) }
 {
-    flags[row.item as usize] && is_rest_nullable(flags, row, whole)
+    flags[row.item as usize] && is_rest_nullable(flags, row, suffix)
 }
 
 /// Flags the suffixes, from the last one, so that what is behind an item has its flag before.
@@ -40,8 +40,8 @@ fn flag_suffixes(grammar: &Grammar, rows: &[SuffixRow], flags: &mut Vec<bool>)
     let mut number = rows.len();
     while 0 < number {
         number -= 1;
-        let whole = first + number as u16;
-        flags[whole as usize] = is_suffix_nullable(flags.as_slice(), &rows[number], whole);
+        let suffix = first + number as u16;
+        flags[suffix as usize] = is_suffix_nullable(flags.as_slice(), &rows[number], suffix);
     }
 }
 

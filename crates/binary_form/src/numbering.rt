@@ -1,7 +1,7 @@
 //! How many symbols there are, and their numbers: categories, then kinds, then suffixes.
-ghost use Rattle.std.specs.Prelude.{◌≡◌, ◌+◌, ◌<◌, ◌^◌, length, IfOk};
+ghost use Rattle.std.specs.Prelude.{◌≡◌, ◌<◌, ◌^◌, IfOk};
 ghost use Rattle.spec_lbnf.specs.Expansion.{IsSymbolOf, symbol_count};
-ghost use Rattle.binary_form.specs.Symbols.{plain};
+ghost use Rattle.binary_form.specs.Symbols.{plain, plain_count};
 ghost use Rattle.binary_form.specs.BinaryForm.{IsNumberOf};
 ghost use Rattle.binary_form.specs.FirstSuffixes.{AreFirstSuffixes};
 
@@ -36,7 +36,7 @@ pub fn number(grammar: &Grammar, symbol: Symbol) -> u16
 /// How many categories and kinds there are, which is the number of the first suffix.
 pub fn plain_count(grammar: &Grammar) -> u16
     requires { symbol_count grammar.now < 2 ^ 16 }
-    ensures { result ≡ length grammar.now.categories + length grammar.now.kinds }
+    ensures { result ≡ plain_count grammar.now }
 {
     grammar.category_count() + grammar.kind_count()
 }

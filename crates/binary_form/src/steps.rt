@@ -2,7 +2,7 @@
 ghost use Rattle.std.specs.Prelude.{◌↔◌, ◌≡◌, ◌<◌, ◌^◌, ◌+◌, length, IsTrue, IsFalse, IfOk, OnOk};
 ghost use Rattle.spec_lbnf.specs.Expansion.{symbol_count};
 ghost use Rattle.number_graph.specs.Graphs.{AddsLinks, IsSet};
-ghost use Rattle.binary_form.specs.Wholes.{AreWholes};
+ghost use Rattle.binary_form.specs.LongerSuffixes.{AreLongerSuffixes};
 ghost use Rattle.binary_form.specs.Rows.{AreRows, IsRowWithin};
 ghost use Rattle.binary_form.specs.NullableNumbers.{AreNullableNumbers};
 ghost use Rattle.binary_form.specs.RowLinks.{IsRowStep, AreUnitSteps};
@@ -27,18 +27,18 @@ fn add_steps(
     links: &mut Links,
     nullable: &[bool],
     row: &SuffixRow,
-    whole: u16,
+    suffix: u16,
 ) -> Result<(), AllocError>
     requires few { length nullable.now < 2 ^ 16 }
     requires links { length links.old ≡ length nullable.now }
-    requires row { IsRowWithin row.now whole (length nullable.now) }
-    ensures { OnOk result (AddsLinks (IsRowStep nullable.now row.now whole) links.old links.new) }
+    requires row { IsRowWithin row.now suffix (length nullable.now) }
+    ensures { OnOk result (AddsLinks (IsRowStep nullable.now row.now suffix) links.old links.new) }
 {
     let passed = is_item_passed(nullable, row);
-    let empty = is_rest_nullable(nullable, row, whole);
-    links.add_if(row.is_first, whole, row.category)?;
-    links.add_if(empty, row.item, whole)?;
-    links.add_if(passed, whole + 1, whole)?;
+    let empty = is_rest_nullable(nullable, row, suffix);
+    links.add_if(row.is_first, suffix, row.category)?;
+    links.add_if(empty, row.item, suffix)?;
+    links.add_if(passed, suffix + 1, suffix)?;
     Ok(())
 }
 
@@ -64,10 +64,14 @@ pub fn unit_steps(
 
 /// Where suffixes go on behind their items: the number of such an item is linked to that of the
 /// suffix which it begins.
-pub fn wholes_of(alloc: Global, grammar: &Grammar, rows: &[SuffixRow]) -> Result<Links, AllocError>
+pub fn longer_suffixes_of(
+    alloc: Global,
+    grammar: &Grammar,
+    rows: &[SuffixRow],
+) -> Result<Links, AllocError>
     requires few { symbol_count grammar.now < 2 ^ 16 }
     requires rows { AreRows grammar.now rows.now }
-    ensures { IfOk result (AreWholes grammar.now) }
+    ensures { IfOk result (AreLongerSuffixes grammar.now) }
 {
     let first = plain_count(grammar);
     let mut links = Links::new(alloc, first as usize + rows.len())?;

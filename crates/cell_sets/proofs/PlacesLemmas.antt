@@ -4,6 +4,7 @@ use Rattle.std.specs.List.{Contains, insert}
 use Rattle.std.specs.Prelude.{Result, Ok, Err}
 use Rattle.std.specs.Ordering.{nat_cmp}
 use Rattle.std.specs.List.Sorted.{IsBinarySearchResult}
+use Rattle.std.proofs.lemmas.Bool.{cases_lt}
 use Rattle.std.proofs.lemmas.List.Sorted.{searched}
 use Rattle.cell_sets.specs.Cells.{IsRising, AddsSymbol}
 use Rattle.cell_sets.specs.Places.{IsGapAt, IsPlaceOf}
@@ -16,8 +17,7 @@ module _ (xs : List ℕ) (symbol at : ℕ) (gap : IsGapAt xs symbol at) where
   pub missing : Contains xs symbol → ⊥
   missing (k, within, at_k) =
       let same : get_or xs k 0 ≡ symbol = sym (get_or_default_zero xs k symbol within) ∙ at_k in
-      let side : (k < at) ⊎ (at ≤ k) = grind arith in
-      elim side [
+      elim (cases_lt k at) [
         | inl front ↦ let below : get_or xs k 0 < symbol = gap.below k front in omega (arith, same)
         | inr rest ↦ let above : symbol < get_or xs k 0 = gap.above k rest within in omega (arith, same)
       ]

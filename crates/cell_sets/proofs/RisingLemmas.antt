@@ -1,6 +1,7 @@
 -- Laws of lists in rising order that stand one before the other, and of what they have.
-use Rattle.std.proofs.Common.{◌≡◌, ℕ, ◌+◌, ◌-◌, ◌<◌, ◌≤◌, ◌⊎◌, ◌↔◌, List, [], ◌∷◌, ◌++◌, length, get_or, refl, inl, inr, arith}
+use Rattle.std.proofs.Common.{◌≡◌, ℕ, ◌+◌, ◌-◌, ◌<◌, ◌⊎◌, ◌↔◌, List, [], ◌∷◌, ◌++◌, length, get_or, refl, inl, inr, arith}
 use Rattle.std.specs.List.{Contains}
+use Rattle.std.proofs.lemmas.Bool.{cases_lt}
 use Rattle.std.proofs.lemmas.List.{get_or_append_left, get_or-append_right, length-append}
 use Rattle.std.proofs.lemmas.List.Elements.{Contains-get_or, Contains-append_left, Contains-append_right, Contains-append_cases}
 use Rattle.cell_sets.specs.Cells.{IsRising}
@@ -16,12 +17,10 @@ pub rising_append :
 rising_append xs ys rising_x rising_y before i j order within =
     let n : ℕ = length xs in
     let long : length (xs ++ ys) ≡ n + length ys = length-append xs ys in
-    let side_j : (j < n) ⊎ (n ≤ j) = grind arith in
-    let side_i : (i < n) ⊎ (n ≤ i) = grind arith in
-    elim side_j [
+    elim (cases_lt j n) [
       | inl in_x ↦ rw (get_or_append_left xs ys 0 i (omega arith), get_or_append_left xs ys 0 j in_x)
           (rising_x i j order in_x)
-      | inr in_y ↦ elim side_i [
+      | inr in_y ↦ elim (cases_lt i n) [
         | inl in_x ↦ rw (get_or_append_left xs ys 0 i in_x, get_or-append_right xs ys n j 0 refl in_y)
             (before (get_or xs i 0) (get_or ys (j - n) 0) (Contains-get_or xs i 0 in_x)
             (Contains-get_or ys (j - n) 0 (omega arith)))

@@ -7,13 +7,17 @@ use Rattle.std.specs.List.{Contains}
 abbrev pub IsRising : List ℕ → Type 0
 IsRising xs = (i j : ℕ) → i < j → j < length xs → slice_index xs i < slice_index xs j
 
+-- the new list has what the old one has, and what is given
+abbrev pub Adds : (ℕ → Type 0) → List ℕ → List ℕ → Type 0
+Adds IsGiven old new = (s : ℕ) → Contains new s ↔ (Contains old s ⊎ IsGiven s)
+
 -- what is there after the symbol is added is what was there, and the symbol
 abbrev pub AddsSymbol : List ℕ → List ℕ → ℕ → Type 0
-AddsSymbol old new symbol = (s : ℕ) → Contains new s ↔ (Contains old s ⊎ (s ≡ symbol))
+AddsSymbol old new symbol = Adds (λ s. s ≡ symbol) old new
 
 -- the union of two lists has what either of them has
 abbrev pub IsUnion : List ℕ → List ℕ → List ℕ → Type 0
-IsUnion left right both = (s : ℕ) → Contains both s ↔ (Contains left s ⊎ Contains right s)
+IsUnion left right both = Adds (Contains right) left both
 
 -- the next member from a symbol on is the least that is not below it, and None where all are below
 abbrev pub IsNextFrom : List ℕ → ℕ → Option ℕ → Type 0

@@ -1,5 +1,6 @@
 -- Cells by their ends, to which the cuts at the ends of a row's entries are added one by one.
-use Rattle.std.proofs.Common.{◌≡◌, ℕ, zero, suc, ◌+◌, ◌<◌, ◌≤◌, ◌≢◌, ◌⊎◌, List, [], ◌∷◌, ◌++◌, Some, length, slice_get, get_or, take, set, refl, sym, ◌∙◌, ap, subst, inl, inr, arith}
+use Rattle.std.proofs.Common.{◌≡◌, ℕ, zero, suc, ◌+◌, ◌<◌, ◌≤◌, ◌≢◌, List, [], ◌∷◌, ◌++◌, Some, length, slice_get, get_or, take, set, refl, sym, ◌∙◌, ap, subst, inl, inr, arith}
+use Rattle.std.proofs.lemmas.Bool.{cases_eq}
 use Rattle.std.proofs.lemmas.Option.{slice_get_within, slice_get-get_or, slice_get_read}
 use Rattle.std.proofs.lemmas.List.{get_or_read, get_or-take, take_more, take_all, length-take-le, length-set}
 use Rattle.spec_lbnf.specs.Expansion.{Expansion}
@@ -109,8 +110,7 @@ module _ {C : Type 0} (symbols : C → List ℕ) (g : Expansion) (left : List �
         let m = get_or mid j c in
         let is_m : slice_get mid j ≡ Some m = slice_get-get_or mid j c in_mid in
         let first = before.each j c m is_c is_m in
-        let side : (j ≡ e.end) ⊎ (j ≢ e.end) = grind arith in
-        elim side [
+        elim (cases_eq j e.end) [
           | inl at ↦
               let Here : ℕ → Type 0 = λ x. AddsProductOf g left (found symbols (front ++ e ∷ []) x) (symbols c) (symbols d) in
               let Mid : ℕ → Type 0 = λ x. slice_get mid x ≡ Some m in

@@ -1,5 +1,6 @@
 -- Rows that are filled: each step keeps what they have, and all cuts of a span are those at a row's entries.
-use Rattle.std.proofs.Common.{◌≡◌, ℕ, ◌+◌, ◌-◌, ◌<◌, ◌≤◌, ◌≢◌, ◌⊎◌, List, [], ◌∷◌, ◌++◌, Option, Some, length, slice_get, get_or, refl, sym, subst, inl, inr, arith, Contains}
+use Rattle.std.proofs.Common.{below_more, ◌≡◌, ℕ, ◌+◌, ◌-◌, ◌<◌, ◌≤◌, ◌≢◌, List, [], ◌∷◌, ◌++◌, Option, Some, length, slice_get, get_or, refl, sym, subst, inl, inr, arith, Contains}
+use Rattle.std.proofs.lemmas.Bool.{cases_lt}
 use Rattle.std.proofs.lemmas.Option.{slice_get_within, get_or_from_slice_get, slice_get-get_or}
 use Rattle.spec_lbnf.specs.Expansion.{Expansion, HasOwnSymbols}
 use Rattle.binary_form.specs.Symbols.{BinarySymbol, BinaryDerives}
@@ -12,10 +13,6 @@ use Rattle.valiant.specs.Rows.{found, found_at}
 use Rattle.valiant.specs.Filling.{IsRowUpTo, next_token, AreLastRows, IsOfEntry, IsOfEntries, AddsEntry}
 use Rattle.valiant.proofs.RowLemmas.{StandsAt, found_none, found_entry, entry_found, found_push_other, found_push_same, within_push, rising_push}
 use Rattle.valiant.proofs.CutLemmas.{product_derived, derived_product}
-
--- what is below n + 1 is below n, or n
-last_or_before : (k n : ℕ) → k < n + 1 → (k < n) ⊎ (k ≡ n)
-last_or_before k n below = grind arith
 
 module _ {C : Type 0} (symbols : C → List ℕ) (g : Expansion) where
   module _ (count : ℕ) (rows : List (List (Entry C))) (row : List (Entry C)) (end : ℕ) where
@@ -41,9 +38,10 @@ module _ {C : Type 0} (symbols : C → List ℕ) (g : Expansion) where
         ]
 
         from : (k : ℕ) × (k < many + 1) × IsOfEntry symbols g count rows row end k n → Contains new n
-        from (k, below, (d, is_d, made)) = elim (last_or_before k many below) [
+        from (k, below, (d, is_d, made)) = elim (cases_lt k many) [
           | inl earlier ↦ (adds n).1 (inl ((before n).1 (k, earlier, (d, is_d, made))))
-          | inr last ↦
+          | inr later ↦
+              let last : k ≡ many = omega arith in
               let At : ℕ → Type 0 = λ m. slice_get row m ≡ Some d in
               let is_last : slice_get row many ≡ Some d = subst At last is_d in
               let same : d ≡ e = cc in
@@ -153,23 +151,18 @@ module _ {C : Type 0} (symbols : C → List ℕ) (g : Expansion) where
       none_at : (k : ℕ) (d : Entry C) → k < length row → (get_or row k d).end ≢ limit
       none_at k d within same = omega (arith, (filled.within k d within).1, same)
 
-      -- an end below the next limit is below this one, or it
-      ends : (j : ℕ) → j < limit + 1 → (j < limit) ⊎ (j ≡ limit)
-      ends j below = grind arith
+      -- for an end behind the token, these entries have just the symbols of the span
+      abbrev HasEntry : List (Entry C) → ℕ → Type 0
+      HasEntry entries j = i < j → IsEntryOf g kinds i j (found symbols entries j)
 
       -- a row stays as it is where the next cell is empty
       row_kept : symbols cell ≡ [] → IsRowUpTo symbols g kinds i (limit + 1) row
       row_kept empty = record {
         rising = filled.rising;
         within = λ k d within. ((filled.within k d within).0, omega (arith, (filled.within k d within).1));
-        exact = λ j after before. elim (ends j before) [
-          | inl below ↦ filled.exact j after below
-          | inr last ↦
-              let nothing : IsEntryOf g kinds i limit (found symbols row limit) =
-              rw (found_none symbols row limit none_at) (rw empty at is) in
-              let At : ℕ → Type 0 = λ m. IsEntryOf g kinds i m (found symbols row m) in
-              subst At (sym last) nothing
-        ];
+        exact = λ j after before.
+            below_more (HasEntry row) limit (λ m below later. filled.exact m later below)
+            (λ _. rw (found_none symbols row limit none_at) (rw empty at is)) j before after;
       }
 
       -- and gets the next cell as its last entry where it is not
@@ -177,13 +170,11 @@ module _ {C : Type 0} (symbols : C → List ℕ) (g : Expansion) where
       row_pushed = record {
         rising = rising_push row e i limit refl filled.within filled.rising;
         within = within_push row e i limit refl filled.within order;
-        exact = λ j after before. elim (ends j before) [
-          | inl below ↦
-              rw (found_push_other symbols row e j (λ same. omega (arith, below, same))) (filled.exact j after below)
-          | inr last ↦
-              let At : ℕ → Type 0 = λ m. IsEntryOf g kinds i m (found symbols (row ++ e ∷ []) m) in
-              subst At (sym last) (rw (found_push_same symbols row e none_at) is)
-        ];
+        exact = λ j after before.
+            below_more (HasEntry (row ++ e ∷ [])) limit
+            (λ m below later.
+            rw (found_push_other symbols row e m (λ same. omega (arith, below, same))) (filled.exact m later below))
+            (λ _. rw (found_push_same symbols row e none_at) is) j before after;
       }
 
       -- a row that goes on with the next cell has the spans up to the next limit

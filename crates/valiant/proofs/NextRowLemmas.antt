@@ -1,12 +1,13 @@
 -- The row of one token is filled end by end, from the cells to which its entries add their cuts.
 use Rattle.std.proofs.Common.{◌≡◌, ℕ, zero, suc, ◌+◌, ◌-◌, ◌<◌, ◌≤◌, ◌⊎◌, List, [], ◌∷◌, ◌++◌, Option, Some, length, slice_get, get_or, set, refl, sym, ◌∙◌, subst, inl, inr, arith}
+use Rattle.std.proofs.lemmas.Bool.{cases_lt}
 use Rattle.std.proofs.lemmas.Option.{slice_get_within, slice_get-get_or, slice_get_read}
 use Rattle.std.proofs.lemmas.List.{length-set, length_push}
 use Rattle.spec_lbnf.specs.Expansion.{Expansion, HasOwnSymbols}
 use Rattle.valiant.specs.declared.rows.Entry.{Entry}
 use Rattle.valiant.specs.Charts.{IsEntryOf}
 use Rattle.valiant.specs.Rows.{HasRisingEnds}
-use Rattle.valiant.specs.Filling.{IsRowUpTo, next_token, AreLastRows, IsOfEntries, AreEndsBelow, AddsCuts, AreEmpty, AreFirstCells, AreCellsBehind, HasSame}
+use Rattle.valiant.specs.Filling.{IsRowUpTo, next_token, AreLastRows, IsOfEntries, AreEndsBelow, AddsCuts, AreEmpty, AreFirstCells, AreCellsBehind}
 use Rattle.valiant.proofs.FillingLemmas.{entries_none, entries_more, entries_all}
 use Rattle.valiant.proofs.CellLemmas.{get_set_same, get_set_other}
 
@@ -22,13 +23,6 @@ get_append_next :
     {X : Type 0} (xs : List X) (x : X) → slice_get (xs ++ x ∷ []) (length xs) ≡ Some x
 get_append_next [] x = refl
 get_append_next (y ∷ xs) x = get_append_next xs x
-
--- what has the numbers of an entry is an entry of the span
-pub same_entry :
-    (g : Expansion) (kinds : List (Option ℕ)) (i j : ℕ) (one other : List ℕ)
-    → IsEntryOf g kinds i j one → HasSame one other → IsEntryOf g kinds i j other
-same_entry g kinds i j one other is same n =
-    ((λ has. (is n).0 ((same n).0 has)), (λ derived. (same n).1 ((is n).1 derived)))
 
 module _ {C : Type 0} (symbols : C → List ℕ) (g : Expansion) (kinds : List (Option ℕ)) where
   -- empty cells, with the token's cell at its end, are the first cells
@@ -59,8 +53,7 @@ module _ {C : Type 0} (symbols : C → List ℕ) (g : Expansion) (kinds : List (
       -- the row behind is that of its token, if there is one
       rows_behind : HasRisingEnds behind × AreEndsBelow (length kinds + 1) behind
       rows_behind =
-          let side : (token < length kinds) ⊎ (length kinds ≤ token) = grind arith in
-          elim side [
+          elim (cases_lt token (length kinds)) [
             | inl within ↦
                 let place = length kinds - token - 1 in
                 let is = last place (get_or rows place []) (slice_get-get_or rows place [] (omega arith)) in
@@ -115,14 +108,14 @@ module _ {C : Type 0} (symbols : C → List ℕ) (g : Expansion) (kinds : List (
         cuts = λ j c behind later is. are.cuts j c (omega arith) later is;
       }
 
-      -- where it is not, they get the cuts at the end of its entry
+      -- where it is not, they get the cuts at the end of its entry, whatever stands in its place
       pub cells_more :
-          (cell : C) (behind : List (Entry C)) (new : List C)
+          (cell other : C) (behind : List (Entry C)) (new : List C)
           → (place + 1 < length kinds → behind ≡ get_or rows (length kinds - (place + 1) - 1) [])
-          → AddsCuts symbols g (symbols cell) behind cells new
+          → AddsCuts symbols g (symbols cell) behind (set cells (place + 1) other) new
           → AreCellsBehind symbols g kinds rows i (row ++ record { end = place + 1; cell = cell } ∷ []) (place + 1) new
-      cells_more cell behind new is_row adds = record {
-        count = adds.count ∙ are.count;
+      cells_more cell other behind new is_row adds = record {
+        count = adds.count ∙ length-set cells (place + 1) other ∙ are.count;
         token = λ c here is. absurd (omega (arith, here));
         cuts = cuts;
       }
@@ -149,9 +142,11 @@ module _ {C : Type 0} (symbols : C → List ℕ) (g : Expansion) (kinds : List (
           cuts j c after later is_c =
               let below : j < length new = slice_get_within new j c is_c in
               let d = get_or cells j c in
-              let is_d : slice_get cells j ≡ Some d = slice_get-get_or cells j c (omega (arith, adds.count, below)) in
-              let next : place + 1 < length kinds = omega (arith, adds.count, are.count, below, after) in
-              let added = rw (is_row next) at (adds.each j d c is_d is_c) in
+              let longer = length-set cells (place + 1) other in
+              let is_d : slice_get cells j ≡ Some d = slice_get-get_or cells j c (omega (arith, adds.count, longer, below)) in
+              let next : place + 1 < length kinds = omega (arith, adds.count, longer, are.count, below, after) in
+              let stays = get_set_other cells (place + 1) j other (λ at. omega (arith, after, at)) in
+              let added = rw (is_row next) at (adds.each j d c (stays ∙ is_d) is_c) in
               let before = so_far j (symbols d) (are.cuts j d (omega arith) later is_d) in
               rw (length_push row (record { end = place + 1; cell = cell }))
               (entries_more symbols g (length kinds) rows (row ++ record { end = place + 1; cell = cell } ∷ []) j

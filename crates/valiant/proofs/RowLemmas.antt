@@ -1,8 +1,9 @@
 -- What a row has for the span up to an end.
-use Rattle.std.proofs.Common.{◌≡◌, ℕ, zero, suc, ◌+◌, ◌<◌, ◌≤◌, ◌≢◌, ◌⊎◌, List, [], ◌∷◌, ◌++◌, length, get_or, slice_get, Some, refl, sym, ◌∙◌, ap, inl, inr, arith, Contains}
+use Rattle.std.proofs.Common.{◌≡◌, ℕ, zero, suc, ◌+◌, ◌<◌, ◌≤◌, ◌≢◌, List, [], ◌∷◌, ◌++◌, length, get_or, slice_get, Some, refl, sym, ◌∙◌, ap, inl, inr, arith, Contains}
 use Rattle.std.specs.Prelude.{Result, Ok, Err}
 use Rattle.std.specs.List.Sorted.{IsSearchInRange, IsBinarySearchResult, IsNonDecreasingBy}
 use Rattle.std.specs.Ordering.{nat_cmp, ordering_index}
+use Rattle.std.proofs.lemmas.Bool.{cases_lt, cases_eq}
 use Rattle.std.proofs.lemmas.Cmp.{ranked}
 use Rattle.std.proofs.lemmas.List.{length_push, get_or_push, get_or_append_left}
 use Rattle.std.proofs.lemmas.Option.{slice_get_within, get_or_from_slice_get}
@@ -30,8 +31,7 @@ module _ {C : Type 0} where
         → IsPlaceOf row end place
     searched (Ok at) within equal = (within, λ d. ranked _ end _ (sym (equal d)))
     searched (Err at) within parted = λ k d in_row same.
-        let side : (k < at) ⊎ (at ≤ k) = grind arith in
-        elim side [
+        elim (cases_lt k at) [
           | inl before ↦
               let below : (get_or row k d).end < end =
               ranked _ end _ (sym ((parted comparisons_rise).0 k d (omega arith) before)) in
@@ -100,8 +100,7 @@ module _ {C : Type 0} where
         → Contains (found symbols row end) n → (at : ℕ) × StandsAt row end at
     entry_found [] end n has = absurd (omega (arith, has.1))
     entry_found (e ∷ row) end n has =
-        let side : (e.end ≡ end) ⊎ (e.end ≢ end) = grind arith in
-        elim side [
+        elim (cases_eq e.end end) [
           | inl same ↦ (
             0,
             record {
@@ -130,8 +129,7 @@ module _ {C : Type 0} where
         → e.end ≢ end → found symbols (row ++ e ∷ []) end ≡ found symbols row end
     found_push_other [] e end other = found_behind e [] end other
     found_push_other (d ∷ row) e end other =
-        let side : (d.end ≡ end) ⊎ (d.end ≢ end) = grind arith in
-        elim side [
+        elim (cases_eq d.end end) [
           | inl same ↦ found_first d (row ++ e ∷ []) end same ∙ sym (found_first d row end same)
           | inr behind ↦ found_behind d (row ++ e ∷ []) end behind ∙ found_push_other row e end other
               ∙ sym (found_behind d row end behind)
@@ -154,19 +152,16 @@ module _ {C : Type 0} where
 
   module _ (row : List (Entry C)) (e : Entry C) (i limit : ℕ) (same : e.end ≡ limit)
       (within : AreEndsWithin i limit row) where
-    -- what is below n + 1 is below n, or n
-    below_or_at : (k n : ℕ) → k < n + 1 → (k < n) ⊎ (k ≡ n)
-    below_or_at k n below = grind arith
-
     -- with an entry at the limit, the limit is one further
     pub within_push : i < limit → AreEndsWithin i (limit + 1) (row ++ e ∷ [])
     within_push order k d below =
         let longer : length (row ++ e ∷ []) ≡ length row + 1 = length_push row e in
-        elim (below_or_at k (length row) (omega arith)) [
+        elim (cases_lt k (length row)) [
           | inl before ↦
               let is : get_or (row ++ e ∷ []) k d ≡ get_or row k d = get_or_append_left row (e ∷ []) d k before in
               rw is ((within k d before).0, omega (arith, (within k d before).1))
-          | inr last ↦
+          | inr past ↦
+              let last : k ≡ length row = omega (arith, longer) in
               let is : get_or (row ++ e ∷ []) k d ≡ e = get_or_push row e d k (sym last) in
               rw is (omega (arith, same), omega (arith, same))
         ]
@@ -177,11 +172,12 @@ module _ {C : Type 0} where
         let longer : length (row ++ e ∷ []) ≡ length row + 1 = length_push row e in
         let first : get_or (row ++ e ∷ []) m d ≡ get_or row m d =
         get_or_append_left row (e ∷ []) d m (omega (arith, longer)) in
-        elim (below_or_at n (length row) (omega (arith, longer))) [
+        elim (cases_lt n (length row)) [
           | inl before ↦
               let second : get_or (row ++ e ∷ []) n d ≡ get_or row n d = get_or_append_left row (e ∷ []) d n before in
               rw (first, second) (rising m n d order before)
-          | inr last ↦
+          | inr past ↦
+              let last : n ≡ length row = omega (arith, longer) in
               let second : get_or (row ++ e ∷ []) n d ≡ e = get_or_push row e d n (sym last) in
               rw (first, second) (omega (arith, (within m d (omega arith)).1, same))
         ]

@@ -79,8 +79,10 @@ impl<C: Cell> Chart<C> {
         }
     }
 
-    /// Whether the symbol of this number derives the span of the tokens from i up to j. It searches
-    /// the entries that begin with token i, by halves, and takes no memory.
+    /// Whether the entry of the span of the tokens from i up to j has this number. In a chart that
+    /// stands for kinds under a grammar it has the number of a symbol exactly where the symbol
+    /// derives the span, by `entries_tell_derivation`. It searches the entries that begin with
+    /// token i, by halves, and takes no memory.
     pub fn has(&self, symbol: u16, i: u32, j: u32) -> bool
         requires room { symbol < C.ROOM }
         requires order { i < j }

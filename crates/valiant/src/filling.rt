@@ -82,7 +82,7 @@ fn first_cells<C: Cell>(
     kinds: &[Option<u16>],
     token: usize,
 ) -> Result<Vec<C>, AllocError>
-    requires own { HasOwnSymbols bin.now }
+    requires own_symbols { HasOwnSymbols bin.now }
     requires within { token < length kinds.now }
     requires few { length kinds.now ≤ 16384 }
     ensures { IfOk result (λ cells.
@@ -108,15 +108,15 @@ fn row_behind<C>(rows: &[Row<C>], count: usize, token: usize) -> &[Entry<C>]
 }
 
 /// The entries of the spans that begin with the next token, which is the one before those of the
-/// rows. When an end is reached, its cell has what all cuts give; with its entry, the cells of the
-/// ends behind it get the cuts there.
+/// rows. When an end is reached, its cell has what all cuts give, and goes into its entry, with
+/// which the cells of the ends behind it get the cuts there.
 fn next_row<C: Cell>(
     alloc: Global,
     bin: &Binary<C>,
     kinds: &[Option<u16>],
     rows: &[Row<C>],
 ) -> Result<Row<C>, AllocError>
-    requires own { HasOwnSymbols bin.now }
+    requires own_symbols { HasOwnSymbols bin.now }
     requires rows { AreLastRows C.symbols bin.now kinds.now rows.now }
     requires short { length rows.now < length kinds.now }
     requires few { length kinds.now ≤ 16384 }
@@ -131,7 +131,7 @@ fn next_row<C: Cell>(
         if cells[last + 1].is_empty() {
             continue;
         }
-        let cell: C = copy_of(alloc, &cells[last + 1])?;
+        let cell: C = mem::replace(&mut cells[last + 1], C::empty());
         let behind = row_behind(rows, kinds.len(), last + 1);
         cells = with_cuts(alloc, bin, cells, &cell, behind)?;
         row.push(Entry {

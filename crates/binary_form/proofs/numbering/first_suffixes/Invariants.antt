@@ -1,5 +1,5 @@
 use Rattle.std.proofs.Common.{◌≡◌, ◌<◌, ℕ, length, slice_index_or}
-use Rattle.binary_form.specs.FirstSuffixes.{first_suffix}
+use Rattle.binary_form.specs.Symbols.{first_suffix}
 use Rattle.binary_form.proofs.numbering.first_suffixes.Given as goal
 
 -- the rules so far are told, and the next one is numbered from the next number

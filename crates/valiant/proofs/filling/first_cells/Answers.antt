@@ -11,7 +11,7 @@ returns g c =
     let i = c.args.token in
     let empty = c.in_ok-cells.ensures in
     let token =
-    one_token_entry c.args.bin.now c.requires.own kinds i (i + 1) (symbols c.token_cell.result.now)
+    one_token_entry c.args.bin.now c.requires.own_symbols kinds i (i + 1) (symbols c.token_cell.result.now)
     (symbols c.in_ok-cell.cell) c.requires.within refl c.token_cell.ensures c.in_ok-cell.ensures in
     first_cells symbols c.args.bin.now kinds i c.in_ok-cells.cells.items c.in_ok-cell.cell empty.0 empty.1
     c.requires.within token

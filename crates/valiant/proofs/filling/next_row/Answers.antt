@@ -1,8 +1,8 @@
 -- The first cells, one more span with symbols or without, and all spans.
-use Rattle.std.proofs.Common.{ℕ, ◌≡◌, ◌+◌, ◌<◌, ◌≤◌, length, refl, inl, inr, subst, arith}
+use Rattle.std.proofs.Common.{ℕ, ◌≡◌, ◌+◌, ◌<◌, ◌≤◌, length, length-set, get_or, refl, sym, ◌∙◌, inl, inr, subst, arith}
 use Rattle.valiant.specs.Filling.{IsRowUpTo, next_token}
 use Rattle.valiant.proofs.FillingLemmas.{row_none, row_more}
-use Rattle.valiant.proofs.NextRowLemmas.{same_entry, behind_rising, behind_below, cells_start, cell_entry, cells_kept, cells_more}
+use Rattle.valiant.proofs.NextRowLemmas.{behind_rising, behind_below, cells_start, cell_entry, cells_kept, cells_more}
 use Rattle.valiant.proofs.filling.next_row.Goals as goal
 
 pub loop-last-init : goal.loop-last-init
@@ -27,7 +27,7 @@ loop-last-preserved-then-is_empty g c =
     let within : last < length kinds = omega (arith, c.loop-last-test.true) in
     let is =
     cell_entry symbols c.args.bin.now kinds rows c.requires.rows c.requires.short c.loop-last.row last
-    c.loop-last.cells.items from within c.loop-last.invariant.cells c.index.result.now c.requires.own
+    c.loop-last.cells.items from within c.loop-last.invariant.cells c.index.result.now c.requires.own_symbols
     c.loop-last.invariant.row c.index.ensures in
     record {
       row =
@@ -52,7 +52,8 @@ with_cuts-requires-clause-below g c κs loop =
     let later : next_token c.args.kinds.now c.args.rows.now < c.loop-last.last + 1 = omega (arith, c.loop-last.auto.last) in
     behind_below symbols c.args.bin.now c.args.kinds.now c.args.rows.now c.requires.rows c.requires.short
     (c.loop-last.last + 1) c.row_behind-behind.result.now later c.row_behind-behind.ensures.row
-    c.row_behind-behind.ensures.none c.loop-last.cells.items c.loop-last.invariant.cells.count
+    c.row_behind-behind.ensures.none _
+    (length-set c.loop-last.cells.items (c.loop-last.last + 1) c.replace-cell.new.dest ∙ c.loop-last.invariant.cells.count)
 
 pub loop-last-preserved : goal.loop-last-preserved
 loop-last-preserved g c =
@@ -63,20 +64,19 @@ loop-last-preserved g c =
     let last = c.loop-last.last in
     let from : i ≤ last = omega (arith, c.loop-last.auto.last) in
     let within : last < length kinds = omega (arith, c.loop-last-test.true) in
+    let cell = c.replace-cell.result in
+    let read = subst (λ x. x ≡ get_or c.loop-last.cells.items (last + 1) x) (sym c.replace-cell.ensures.value) c.index_mut.ensures.value in
     let is =
     cell_entry symbols c.args.bin.now kinds rows c.requires.rows c.requires.short c.loop-last.row last
-    c.loop-last.cells.items from within c.loop-last.invariant.cells c.index-in-loop-last.result.now c.requires.own
-    c.loop-last.invariant.row c.index-in-loop-last.ensures in
-    let copied =
-    same_entry c.args.bin.now kinds i (last + 1) (symbols c.index-in-loop-last.result.now) (symbols c.in_ok-cell.cell) is
-    c.in_ok-cell.ensures in
+    c.loop-last.cells.items from within c.loop-last.invariant.cells cell c.requires.own_symbols
+    c.loop-last.invariant.row read in
     rw c.in_ok-push.ensures.ok (record {
       row =
-          row_more symbols c.args.bin.now kinds i (last + 1) c.loop-last.row _ c.in_ok-cell.cell
-          c.loop-last.invariant.row (omega (arith, from)) copied (inr refl);
+          row_more symbols c.args.bin.now kinds i (last + 1) c.loop-last.row _ cell
+          c.loop-last.invariant.row (omega (arith, from)) is (inr refl);
       cells =
           cells_more symbols c.args.bin.now kinds rows c.requires.rows c.requires.short c.loop-last.row last
-          c.loop-last.cells.items from within c.loop-last.invariant.cells c.in_ok-cell.cell
+          c.loop-last.cells.items from within c.loop-last.invariant.cells cell c.replace-cell.new.dest
           c.row_behind-behind.result.now c.in_ok-cells-2.cells.items c.row_behind-behind.ensures.row
           c.in_ok-cells-2.ensures;
     })

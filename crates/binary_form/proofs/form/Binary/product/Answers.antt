@@ -1,7 +1,7 @@
 -- What is added to no symbols is the product.
 use Rattle.std.proofs.lemmas.Result.{IfOk-weaker}
 use Rattle.binary_form.specs.BinaryForm.{IsProductOf}
-use Rattle.binary_form.proofs.WholeLemmas.{product_from_none}
+use Rattle.binary_form.proofs.LongerSuffixesLemmas.{product_from_none}
 use Rattle.binary_form.proofs.form.Binary.product.Goals as goal
 
 pub returns : goal.returns

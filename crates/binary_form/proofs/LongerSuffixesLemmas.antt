@@ -1,33 +1,34 @@
--- The product of cells is what the wholes of items give.
+-- The product of cells is what the suffixes of items give that have an item behind.
 use Rattle.std.proofs.Common.{◌≡◌, ℕ, ◌+◌, ◌↔◌, ◌⊎◌, List, [], inl, inr, suc, length, refl, sym, ◌∙◌, ap, subst, arith, Contains}
 use Rattle.std.proofs.lemmas.Option.{slice_get_cases}
 use Rattle.spec_lbnf.specs.Expansion.{Expansion, symbol_count}
+use Rattle.cell_sets.specs.Cells.{Adds}
 use Rattle.binary_form.specs.Symbols.{BinarySymbol, suffix, number_of}
 use Rattle.binary_form.specs.UnitSteps.{stay}
 use Rattle.binary_form.specs.BinaryForm.{IsNumberOf, IsReachedNumber, MakesNumber, IsProductNumber, IsProductOf, AddsProductOf, HasProduct}
 use Rattle.number_graph.specs.Graphs.{HasLink}
-use Rattle.binary_form.specs.Wholes.{IsWhole, AreWholes}
+use Rattle.binary_form.specs.LongerSuffixes.{IsLongerSuffix, AreLongerSuffixes}
 use Rattle.binary_form.specs.Forms.{AreClosures}
-use Rattle.binary_form.specs.Products.{Adds, AreBelow, OneGives, IsInCellAt, ItemGives, IsItemMet, LinksGoOnBelow}
+use Rattle.binary_form.specs.Products.{AreBelow, OneGives, IsInCellAt, ItemGives, IsItemMet, LinksGoOnBelow}
 use Rattle.binary_form.proofs.ItemLemmas.{suffix_symbol}
 use Rattle.binary_form.proofs.NumberLemmas.{number_is_one, numbers_below, number-suffix-suc}
 
--- the suffix behind the item of a whole has the next number
+-- the suffix behind the item of a longer suffix has the next number
 next_number :
-    (g : Expansion) (item whole : ℕ) (is : IsWhole g item whole)
-    → number_of g (suffix is.r (suc is.p)) ≡ whole + 1
-next_number g item whole is =
-    let at : number_of g (suffix is.r is.p) ≡ whole = is.is_whole.1 in
+    (g : Expansion) (item longer : ℕ) (is : IsLongerSuffix g item longer)
+    → number_of g (suffix is.r (suc is.p)) ≡ longer + 1
+next_number g item longer is =
+    let at : number_of g (suffix is.r is.p) ≡ longer = is.is_suffix.1 in
     omega (arith, at, number-suffix-suc g is.r is.p)
 
--- wholes go on with a number below the count of symbols
+-- longer suffixes go on with a number below the count of symbols
 pub links_go_on :
     (g : Expansion) (links : List (List ℕ))
-    → AreWholes g links → LinksGoOnBelow (symbol_count g) links
-links_go_on g links wholes item whole has =
-    let is = (wholes.links item whole).0 has in
+    → AreLongerSuffixes g links → LinksGoOnBelow (symbol_count g) links
+links_go_on g links longer_suffixes item longer has =
+    let is = (longer_suffixes.links item longer).0 has in
     let below = numbers_below g (suffix is.r (suc is.p)) is.goes_on in
-    omega (arith, below, next_number g item whole is)
+    omega (arith, below, next_number g item longer is)
 
 -- what is added to a list without numbers is the product
 pub product_from_none :
@@ -42,7 +43,7 @@ product_from_none g left right none cell empty added n = (to, (λ x. (added n).1
     ]
 
 module _ {C : Type 0} (symbols : C → List ℕ) (g : Expansion) (cells : List C) (links : List (List ℕ))
-    (closures : AreClosures symbols g cells) (wholes : AreWholes g links) where
+    (closures : AreClosures symbols g cells) (longer_suffixes : AreLongerSuffixes g links) where
   -- the cell at the place of a number has what the symbol of the number reaches
   in_cell :
       (a : BinarySymbol) (at n : ℕ)
@@ -65,38 +66,38 @@ module _ {C : Type 0} (symbols : C → List ℕ) (g : Expansion) (cells : List C
       let same : x.0 ≡ a = number_is_one g x.0 a at x.1 is in
       rw same at x.2
 
-  -- two numbers make what a whole gives
+  -- two numbers make what a longer suffix gives
   makes_given :
       (right : List ℕ) (l m n : ℕ)
       → Contains right m → MakesNumber g l m n → ItemGives symbols cells links right l n
   makes_given right l m n on_right makes =
-      let whole = number_of g (suffix makes.r makes.p) in
-      let is : IsWhole g l whole = record {
+      let longer = number_of g (suffix makes.r makes.p) in
+      let is : IsLongerSuffix g l longer = record {
         r = makes.r;
         p = makes.p;
         item = makes.item;
         behind = makes.behind;
         has = makes.has;
         is_item = makes.is_left;
-        is_whole = (suffix_symbol g makes.r makes.p makes.item makes.behind makes.has, refl);
+        is_suffix = (suffix_symbol g makes.r makes.p makes.item makes.behind makes.has, refl);
         goes_on = makes.is_right.0;
       } in
-      let next : m ≡ whole + 1 = sym makes.is_right.1 ∙ next_number g l whole is in
+      let next : m ≡ longer + 1 = sym makes.is_right.1 ∙ next_number g l longer is in
       let Has : ℕ → Type 0 = λ k. Contains right k in (
-        whole,
-        (wholes.links l whole).1 is,
+        longer,
+        (longer_suffixes.links l longer).1 is,
         (
           subst Has next on_right,
-          in_cell (suffix makes.r makes.p) whole n is.is_whole makes.reaches,
+          in_cell (suffix makes.r makes.p) longer n is.is_suffix makes.reaches,
         ),
       )
 
-  -- what a whole gives, its item and the suffix behind it make
+  -- what a longer suffix gives, its item and the suffix behind it make
   given_makes :
-      (l whole n : ℕ)
-      → HasLink links l whole → IsInCellAt symbols cells whole n → MakesNumber g l (whole + 1) n
-  given_makes l whole n link found =
-      let is = (wholes.links l whole).0 link in
+      (l longer n : ℕ)
+      → HasLink links l longer → IsInCellAt symbols cells longer n → MakesNumber g l (longer + 1) n
+  given_makes l longer n link found =
+      let is = (longer_suffixes.links l longer).0 link in
       record {
         r = is.r;
         p = is.p;
@@ -104,8 +105,8 @@ module _ {C : Type 0} (symbols : C → List ℕ) (g : Expansion) (cells : List C
         behind = is.behind;
         has = is.has;
         is_left = is.is_item;
-        is_right = (is.goes_on, next_number g l whole is);
-        reaches = reached_from_cell (suffix is.r is.p) whole n is.is_whole found;
+        is_right = (is.goes_on, next_number g l longer is);
+        reaches = reached_from_cell (suffix is.r is.p) longer n is.is_suffix found;
       }
 
   -- a number of the product is one that an item of the left cell gives
@@ -115,8 +116,8 @@ module _ {C : Type 0} (symbols : C → List ℕ) (g : Expansion) (cells : List C
   product_number left right n = (
     (λ x.
         let given = x.2 in
-        let whole = given.0 in
-        (x.0, whole + 1, x.1, given.2.0, given_makes x.0 whole n given.1 given.2.1)),
+        let longer = given.0 in
+        (x.0, longer + 1, x.1, given.2.0, given_makes x.0 longer n given.1 given.2.1)),
     (λ x. (x.0, x.2, makes_given right x.0 x.1 n x.3 x.4)),
   )
 
@@ -151,11 +152,11 @@ module _ {C : Type 0} (symbols : C → List ℕ) (g : Expansion) (cells : List C
   met_is left right = (
     (λ x.
         let met = x.2 in
-        let whole = met.0 in
-        let is = (wholes.links x.0 whole).0 met.1 in
+        let longer = met.0 in
+        let is = (longer_suffixes.links x.0 longer).0 met.1 in
         let a = suffix is.r is.p in
-        let own = in_cell a whole whole is.is_whole (a, is.is_whole, stay) in
-        (whole, (product_number left right whole).0 (x.0, x.1, (whole, met.1, (met.2, own))))),
+        let own = in_cell a longer longer is.is_suffix (a, is.is_suffix, stay) in
+        (longer, (product_number left right longer).0 (x.0, x.1, (longer, met.1, (met.2, own))))),
     (λ y.
         let x = (product_number left right y.0).1 y.1 in
         let given = x.2 in

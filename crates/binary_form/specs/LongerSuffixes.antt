@@ -10,18 +10,18 @@ use Rattle.number_graph.specs.Graphs.{HasLink}
 
 -- the one number is that of an item of a rule with an item behind it, and the other is that of the
 -- suffix which it begins; the suffix behind the item has the next number
-pub record IsWhole (g : Expansion) (item_number whole : ℕ) : Type 0 where
+pub record IsLongerSuffix (g : Expansion) (item_number suffix_number : ℕ) : Type 0 where
   pub r : ℕ
   pub p : ℕ
   pub item : Symbol
   pub behind : List Symbol
   pub has : HasItem g.rules r p item behind
   pub is_item : IsNumberOf g (plain item) item_number
-  pub is_whole : IsNumberOf g (suffix r p) whole
+  pub is_suffix : IsNumberOf g (suffix r p) suffix_number
   pub goes_on : IsBinarySymbolOf g (suffix r (suc p))
 
 -- the links lead from each item that has an item behind it to the suffix that it begins
-pub record AreWholes (g : Expansion) (wholes : List (List ℕ)) : Type 0 where
-  pub count : length wholes ≡ symbol_count g
-  pub links : (item_number whole : ℕ)
-      → HasLink wholes item_number whole ↔ IsWhole g item_number whole
+pub record AreLongerSuffixes (g : Expansion) (longer : List (List ℕ)) : Type 0 where
+  pub count : length longer ≡ symbol_count g
+  pub links : (item_number suffix_number : ℕ)
+      → HasLink longer item_number suffix_number ↔ IsLongerSuffix g item_number suffix_number

@@ -1,10 +1,10 @@
 use Rattle.std.proofs.Common.{◌+◌, ℕ, IsFalse, length, not, slice_index_or, subst, arith}
 use Rattle.std.proofs.lemmas.Option.{slice_get-get_or}
-use Rattle.binary_form.specs.RowLinks.{IsRowWhole, AreLinksOfRows}
+use Rattle.binary_form.specs.RowLinks.{IsRowLongerSuffix, AreLinksOfRows}
 use Rattle.number_graph.proofs.LinkLemmas.{adds_tested}
 use Rattle.binary_form.proofs.RowLemmas.{no_row, row_within}
-use Rattle.binary_form.proofs.StepLemmas.{links_of_more, not_tested, wholes_are}
-use Rattle.binary_form.proofs.steps.wholes_of.Goals as goal
+use Rattle.binary_form.proofs.StepLemmas.{links_of_more, not_tested, longer_suffixes_are}
+use Rattle.binary_form.proofs.steps.longer_suffixes_of.Goals as goal
 
 pub add_if-requires : goal.add_if-requires
 add_if-requires c =
@@ -21,7 +21,7 @@ loop-number-preserved c =
     let first = c.plain_count-first.result in
     let number = c.loop-number.number in
     let row = slice_index_or rows number no_row in
-    links_of_more IsRowWhole rows first (first + length rows) number row c.loop-number.links c.add_if.new.self
+    links_of_more IsRowLongerSuffix rows first (first + length rows) number row c.loop-number.links c.add_if.new.self
     (slice_get-get_or rows number no_row c.loop-number-test.true) c.loop-number.invariant
     (adds_tested c.loop-number.links c.add_if.new.self row.item (first + number) (IsFalse row.is_last) (not row.is_last)
     (not_tested row.is_last) c.in_ok-add_if.ensures)
@@ -31,6 +31,6 @@ returns c =
     let rows = c.args.rows.now in
     let links = c.loop-number.links in
     let number = c.loop-number.number in
-    let P : ℕ → Type 0 = λ first. AreLinksOfRows IsRowWhole rows first number (first + length rows) links in
-    wholes_are c.args.grammar.now rows c.requires.rows number links c.loop-number-test.false
+    let P : ℕ → Type 0 = λ first. AreLinksOfRows IsRowLongerSuffix rows first number (first + length rows) links in
+    longer_suffixes_are c.args.grammar.now rows c.requires.rows number links c.loop-number-test.false
     (subst P c.plain_count-first.ensures c.loop-number.invariant)
