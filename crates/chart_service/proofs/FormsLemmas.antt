@@ -1,11 +1,8 @@
 -- What the forms of a script's lines rest on: decimal numbers, and a line that is cut in two.
-use Rattle.std.proofs.Common.{◌≡◌, ℕ, zero, suc, ◌^◌, ◌<◌, ◌≤◌, ◌&&◌, List, [], ◌∷◌, ◌++◌, length, take, drop, true, false, Result, Ok, Err, OkIff, decimal, IsUtf8, nat_eq, slice_index, refl, sym, ◌∙◌, ap, subst, arith, get_or}
+use Rattle.std.proofs.Common.{◌≡◌, ℕ, zero, suc, ◌^◌, ◌<◌, ◌≤◌, ◌&&◌, List, [], ◌∷◌, ◌++◌, length, true, Result, Ok, Err, OkIff, decimal, IsUtf8, slice_index, refl, sym, ◌∙◌, ap, subst, arith, get_or}
 use Rattle.std.specs.List.{list_all}
 use Rattle.std.specs.Char.{is_ascii_digit}
 use Rattle.std.specs.Str.{all_ascii_digits}
-use lib.Pointwise.{pointwise, bytes_decides}
-use Rattle.std.proofs.lemmas.List.{take-append-drop}
-use Rattle.std.proofs.Math.Seq.{take-append_seam}
 use Rattle.std.specs.Str.Parse.{digits_value, ParsesUnsigned}
 use Rattle.spec_session.proofs.ScriptLemmas.{same_rest}
 use Rattle.chart_service.specs.Forms.{HasNumberForm}
@@ -70,19 +67,6 @@ module _ (word text : List ℕ) (same : text ≡ word) (form : HasNumberForm wor
   -- and no other's
   pub parsed_only : (v : ℕ) → ParsesUnsigned {E = ℕ} 32 10 text (Ok v) → 10 ^ 9 ≤ v → (n : ℕ) → n < 10 ^ 9 → word ≡ decimal n → ⊥
   parsed_only v p large n small spelled = omega (arith, (parsed (Ok v) p).1, value_is n small spelled)
-
--- a line that begins so is the beginning and what is behind it
-pub behind_beginning : (line beginning : List ℕ) → pointwise nat_eq (take (length beginning) line) beginning ≡ true → line ≡ beginning ++ drop (length beginning) line
-behind_beginning line beginning e =
-    let front : take (length beginning) line ≡ beginning = (bytes_decides (take (length beginning) line) beginning).0 e in
-    sym (take-append-drop (length beginning) line) ∙ ap (λ bytes. bytes ++ drop (length beginning) line) front
-
--- and another line is not
-pub begins_otherwise : (line beginning : List ℕ) → pointwise nat_eq (take (length beginning) line) beginning ≡ false → (rest : List ℕ) → line ≡ beginning ++ rest → ⊥
-begins_otherwise line beginning e rest spelled =
-    let front : take (length beginning) line ≡ beginning = rw spelled (take-append_seam beginning rest) in
-    let same : pointwise nat_eq (take (length beginning) line) beginning ≡ true = (bytes_decides (take (length beginning) line) beginning).1 front in
-    cc
 
 -- a number behind the beginning that is too large, or none, leaves no count
 pub count_above : (line beginning rest : List ℕ) (most count : ℕ) → line ≡ beginning ++ rest → count < 10 ^ 9 → rest ≡ decimal count → most < count → (n : ℕ) → n < 10 ^ 9 → n ≤ most → line ≡ beginning ++ decimal n → ⊥
