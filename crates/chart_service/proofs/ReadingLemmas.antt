@@ -1,10 +1,11 @@
 -- Lines and blocks in the bytes that come: a line has one first LF, and what follows a command's line is its block.
-use Rattle.std.proofs.Common.{◌≡◌, ℕ, suc, ◌+◌, ◌^◌, ◌<◌, ◌≤◌, List, [], ◌∷◌, ◌++◌, length, drop, get_or, decimal, codes, IsAscii, Vec, Global, MatchOption, option_map, Option, Some, None, Result, Ok, Err, IfOk, Bool, true, false, nat_eq, refl, sym, ◌∙◌, ap, subst, arith, append_assoc, length-append}
+use Rattle.std.proofs.Common.{◌≡◌, ℕ, suc, ◌+◌, ◌^◌, ◌<◌, ◌≤◌, List, [], ◌∷◌, ◌++◌, length, drop, get_or, decimal, codes, IsAscii, Vec, Global, MatchOption, option_map, Option, Some, None, Result, IfOk, Bool, true, false, nat_eq, refl, sym, ◌∙◌, ap, subst, arith, append_assoc, length-append}
 use lib.Pointwise.{pointwise, bytes_decides}
 use Rattle.std.specs.Bool.{then_some}
 use Rattle.std.specs.Option.{is_some}
 use Rattle.std.proofs.lemmas.Fmt.{decimal_injective}
 use Rattle.std.proofs.lemmas.List.{nil_from_length}
+use Rattle.std.proofs.lemmas.Result.{IfOk-weaker}
 use Rattle.cyk_io.specs.Streams.{Takes}
 use Rattle.cyk_io.specs.Lines.{HasNoLf, IsLine, LineReads}
 use Rattle.cyk_io.specs.Blocks.{BlockReads}
@@ -61,11 +62,6 @@ module _ (count from to : ℕ) (old new : Option (List ℕ)) where
 -- the line of a command within its limits is a line
 pub line_within : (command : Command) → IsWithinLimits command → IsLine 256 (line_of command)
 line_within command w = (each_differs 10 (line_of command) (line_lacks_lf command w), line_is_short command w)
-
--- a result that is Ok keeps more
-pub if_ok_more : {X E : Type 0} (P Q : X → Type 0) (r : Result X E) → ((x : X) → P x → Q x) → IfOk r P → IfOk r Q
-if_ok_more P Q (Ok x) more h = more x h
-if_ok_more P Q (Err e) more h = tt
 
 -- bytes that are taken in turn
 pub takes_both : (old mid new : Option (List ℕ)) (first second : List ℕ) → Takes old mid first → Takes mid new second → Takes old new (first ++ second)
@@ -300,7 +296,7 @@ module _ (from : ℕ) (old : Option (List ℕ)) where
       grammar_behind count taken r h =
           let IsBehind : Option (List ℕ) → Type 0 = NextBlock count mid_at to mid new in
           let IsNext : Option (List ℕ) → Type 0 = NextGrammar from to old new in
-          if_ok_more (Finds 65536 IsBehind) (Finds 65536 IsNext) r
+          IfOk-weaker r (Finds 65536 IsBehind) (Finds 65536 IsNext)
           (finds_more 65536 IsBehind IsNext (λ next is. next_grammar next
           (counted (codes "grammar ") 999999999 from mid_at to old mid new count (omega arith) taken next is))) h
 
