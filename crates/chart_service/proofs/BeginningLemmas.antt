@@ -32,15 +32,15 @@ text_is_short command w = omega (arith, length-append (line_of command) (10 ∷ 
     block_is_short (has constituent) w = omega arith
 
 -- so its end is not far
-pub taken_room : (from to : ℕ) (old new : Option (List ℕ)) (command : Command) → TakesCommand from to old new command → to < 2 ^ 50
-taken_room from to old new command t = omega (arith, t.early, t.offset, text_is_short command t.within_limits)
+pub taken_early : (from to : ℕ) (old new : Option (List ℕ)) (command : Command) → TakesCommand from to old new command → to < 2 ^ 50
+taken_early from to old new command t = omega (arith, t.early, t.offset, text_is_short command t.within_limits)
 
 -- nor is that of a grammar that was found
-pub grammar_room : (from to : ℕ) (old new : Option (List ℕ)) (found : Block)
+pub grammar_early : (from to : ℕ) (old new : Option (List ℕ)) (found : Block)
     → Finds 65536 (NextGrammar from to old new) (Some found) → to < 2 ^ 50
-grammar_room from to old new found finds =
+grammar_early from to old new found finds =
     let f = found_grammar from to old new found finds in
-    taken_room from to old new (grammar f.0) f.2
+    taken_early from to old new (grammar f.0) f.2
 
 -- the command in its place
 is_header : (command : Command) → IsInOrder (command ∷ []) → IsHeader command

@@ -44,7 +44,7 @@ pub(crate) fn next_line<S: Source>(
     ahead: &mut Ahead,
     line: &mut Line<MAX_LINE>,
 ) -> Result<bool, Status>
-    requires room { ahead.old.offset < 2 ^ 62 }
+    requires early { ahead.old.offset < 2 ^ 62 }
     requires end { IsTrue ahead.old.ended → IsAtEnd (S.left source.old) }
     ensures ok { IfOk result (NextLine ahead.old.offset ahead.new.offset
         (coming ahead.old (S.left source.old)) (coming ahead.new (S.left source.new)) line.new) }
@@ -71,7 +71,7 @@ pub(crate) fn read_header<S: Source>(
     ahead: &mut Ahead,
     line: &mut Line<MAX_LINE>,
 ) -> Result<bool, Status>
-    requires room { ahead.old.offset < 2 ^ 62 }
+    requires early { ahead.old.offset < 2 ^ 62 }
     requires end { IsTrue ahead.old.ended → IsAtEnd (S.left source.old) }
     ensures ok { IfOk result (NextHeader ahead.old.offset ahead.new.offset
         (coming ahead.old (S.left source.old)) (coming ahead.new (S.left source.new))) }
@@ -106,7 +106,7 @@ fn keep_block<S: Source>(
     ahead: &mut Ahead,
     count: u32,
 ) -> Result<Option<Vec<u8>>, Status>
-    requires room { ahead.old.offset < 2 ^ 62 }
+    requires early { ahead.old.offset < 2 ^ 62 }
     requires end { IsTrue ahead.old.ended → IsAtEnd (S.left source.old) }
     ensures ok { IfOk result (λ block. NextBlock count ahead.old.offset ahead.new.offset
         (coming ahead.old (S.left source.old)) (coming ahead.new (S.left source.new))
@@ -134,7 +134,7 @@ fn pass_block<S: Source>(
     count: u32,
 ) -> Result<bool, Status>
     requires some { 0 < count }
-    requires room { ahead.old.offset < 2 ^ 61 }
+    requires early { ahead.old.offset < 2 ^ 61 }
     requires end { IsTrue ahead.old.ended → IsAtEnd (S.left source.old) }
     ensures ok { IfOk result (PassesBlock count ahead.old.offset ahead.new.offset
         (coming ahead.old (S.left source.old)) (coming ahead.new (S.left source.new))) }
@@ -163,7 +163,7 @@ fn read_count<S: Source>(
     most: u32,
 ) -> Result<Option<u32>, Status>
     requires most { most < 10 ^ 9 }
-    requires room { ahead.old.offset < 2 ^ 62 }
+    requires early { ahead.old.offset < 2 ^ 62 }
     requires end { IsTrue ahead.old.ended → IsAtEnd (S.left source.old) }
     ensures ok { IfOk result (NextCount beginning.now most ahead.old.offset ahead.new.offset
         (coming ahead.old (S.left source.old)) (coming ahead.new (S.left source.new))) }
@@ -187,7 +187,7 @@ fn read_block<S: Source>(
     ahead: &mut Ahead,
     count: u32,
 ) -> Result<Option<Block>, Status>
-    requires room { ahead.old.offset < 2 ^ 61 }
+    requires early { ahead.old.offset < 2 ^ 61 }
     requires end { IsTrue ahead.old.ended → IsAtEnd (S.left source.old) }
     ensures ok { IfOk result (Finds 65536 (NextBlock count ahead.old.offset ahead.new.offset
         (coming ahead.old (S.left source.old)) (coming ahead.new (S.left source.new)))) }
@@ -213,7 +213,7 @@ pub(crate) fn read_grammar<S: Source>(
     ahead: &mut Ahead,
     line: &mut Line<MAX_LINE>,
 ) -> Result<Option<Block>, Status>
-    requires room { ahead.old.offset < 2 ^ 60 }
+    requires early { ahead.old.offset < 2 ^ 60 }
     requires end { IsTrue ahead.old.ended → IsAtEnd (S.left source.old) }
     ensures ok { IfOk result (Finds 65536 (NextGrammar ahead.old.offset ahead.new.offset
         (coming ahead.old (S.left source.old)) (coming ahead.new (S.left source.new)))) }
@@ -247,7 +247,7 @@ pub(crate) fn read_text<S: Source>(
     ahead: &mut Ahead,
     line: &mut Line<MAX_LINE>,
 ) -> Result<Option<Vec<u8>>, Status>
-    requires room { ahead.old.offset < 2 ^ 60 }
+    requires early { ahead.old.offset < 2 ^ 60 }
     requires end { IsTrue ahead.old.ended → IsAtEnd (S.left source.old) }
     ensures ok { IfOk result (λ text. NextText ahead.old.offset ahead.new.offset
         (coming ahead.old (S.left source.old)) (coming ahead.new (S.left source.new))

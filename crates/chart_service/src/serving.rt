@@ -68,7 +68,7 @@ fn turn<S: Source, K: Sink>(
     line: &mut Line<MAX_LINE>,
     opened: &Opened,
 ) -> Option<Status>
-    requires room { ahead.old.offset < 2 ^ 61 }
+    requires early { ahead.old.offset < 2 ^ 61 }
     requires end { IsTrue ahead.old.ended → IsAtEnd (S.left source.old) }
     ensures ok { (input before : List ℕ)
         → Running input before (coming ahead.old (S.left source.old)) ahead.old.offset
@@ -110,7 +110,7 @@ fn answer_all<S: Source, K: Sink>(
     line: &mut Line<MAX_LINE>,
     opened: &Opened,
 ) -> Status
-    requires room { ahead.old.offset < 2 ^ 50 }
+    requires early { ahead.old.offset < 2 ^ 50 }
     requires end { IsTrue ahead.old.ended → IsAtEnd (S.left source.old) }
     ensures ok { (input before : List ℕ)
         → Running input before (coming ahead.old (S.left source.old)) ahead.old.offset
