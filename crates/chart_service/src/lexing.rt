@@ -40,7 +40,7 @@ fn kind_end(kind: &KindDef, text: &[u8], start: usize) -> Option<usize>
     }
 }
 
-/// Where the word ends that stands at start. None if it does not, or has no byte.
+/// The end of the word if it stands at `start`; None if it does not, or is empty.
 fn word_end(word: &[u8], text: &[u8], start: usize) -> Option<usize>
     requires { start ≤ length text.now }
     ensures { IsKindEnd (Word word.now) text.now start result }

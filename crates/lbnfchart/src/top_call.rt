@@ -29,7 +29,7 @@ fn write_usage<K: Sink>(sink: &mut K) -> u8
 /// Runs what the words behind the program's name ask for, and answers the exit status: that of the
 /// session where they are the one word `serve`, and else 1, with the usage line on the sink and the
 /// source not read. 4 and 5 are faults of the source and of the sink, 6 is want of memory. `joins`
-/// counts the joins of charts.
+/// is for the joins of charts; no join is counted.
 pub fn lbnf_main<S: Source, K: Sink, L: Ledger>(
     alloc: Global,
     words: &[String],
