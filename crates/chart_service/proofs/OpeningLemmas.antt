@@ -23,7 +23,7 @@ use Rattle.chart_service.specs.declared.opening.LanguageFault.{LanguageFault}
 use Rattle.chart_service.specs.declared.opening.LanguageFault.TheVariants.{Text, Grammar, Binary}
 use Rattle.chart_service.specs.declared.language.Language.{Language}
 use Rattle.chart_service.specs.declared.status.Status.{Status}
-use Rattle.chart_service.specs.declared.status.Status.TheVariants.{Ok as Fine, BadGrammar, BadScript, ReadFault, WriteFault, OutOfMemory}
+use Rattle.chart_service.specs.declared.status.Status.TheVariants.{Ended, BadGrammar, BadScript, ReadFault, WriteFault, OutOfMemory}
 use Rattle.chart_service.specs.Statuses.{IsWriteStop}
 use Rattle.chart_service.specs.Writing.{EndsWith}
 use Rattle.chart_service.specs.Opening.{HasDistinctNames, ReadsLanguage, reason_of, IsRefusal, IsGrammarLine, EndsAtGrammar, IsOpened, EndsAtText}
@@ -85,7 +85,7 @@ refusal_is block fault line h (reason, is, whole) = (reason, reason_is block fau
 
 -- a reply that was cut short, at a fault's status
 pub cut_short : (block line : List ℕ) (old new : Option (List ℕ)) → IsGrammarLine block line → GrowsByPrefix old new line → (status : Status) → IsWriteStop status → EndsAtGrammar block old new status
-cut_short block line old new is cut Fine stop = absurd stop
+cut_short block line old new is cut Ended stop = absurd stop
 cut_short block line old new is cut BadGrammar stop = absurd stop
 cut_short block line old new is cut BadScript stop = absurd stop
 cut_short block line old new is cut ReadFault stop = absurd stop
@@ -111,7 +111,7 @@ cut_text g chart text old new o count e cut status stop = by_status status stop
     is_line = (o.0, (o.1).are_tokens, ap (version_reply 0) (e ∙ chart_len g chart text o.0 o.1))
 
     by_status : (status : Status) → IsWriteStop status → EndsAtText g text old new status
-    by_status Fine stop = absurd stop
+    by_status Ended stop = absurd stop
     by_status BadGrammar stop = absurd stop
     by_status BadScript stop = absurd stop
     by_status ReadFault stop = absurd stop

@@ -12,7 +12,7 @@ use Rattle.spec_session.proofs.SessionsLemmas.{replies_come_first, replies_then_
 use Rattle.spec_session.proofs.FrontLemmas.{questions_more, replies_more, grammar_told, text_told}
 use Rattle.chart_service.specs.declared.opening.Opened.{Opened}
 use Rattle.chart_service.specs.declared.status.Status.{Status}
-use Rattle.chart_service.specs.declared.status.Status.TheVariants.{Ok as Fine, BadGrammar, BadScript, ReadFault, WriteFault, OutOfMemory}
+use Rattle.chart_service.specs.declared.status.Status.TheVariants.{Ended, BadGrammar, BadScript, ReadFault, WriteFault, OutOfMemory}
 use Rattle.chart_service.specs.Statuses.{number_of, IsReadStop, IsWriteStop}
 use Rattle.chart_service.specs.Writing.{EndsWith}
 use Rattle.chart_service.specs.Serving.{IsFaultStatus, IsPrefixOfSession}
@@ -23,7 +23,7 @@ use Rattle.chart_service.specs.Progress.{Running, Ends}
 
 -- the statuses of faults
 pub write_stop : (status : Status) → IsWriteStop status → IsFaultStatus (number_of status)
-write_stop Fine h = absurd h
+write_stop Ended h = absurd h
 write_stop BadGrammar h = absurd h
 write_stop BadScript h = absurd h
 write_stop ReadFault h = absurd h
@@ -31,7 +31,7 @@ write_stop WriteFault h = inr (inl refl)
 write_stop OutOfMemory h = inr (inr refl)
 
 pub read_stop : (status : Status) → IsReadStop status → IsFaultStatus (number_of status)
-read_stop Fine h = absurd h
+read_stop Ended h = absurd h
 read_stop BadGrammar h = absurd h
 read_stop BadScript h = absurd h
 read_stop ReadFault h = inl refl
@@ -116,7 +116,7 @@ module _ (input before : List ℕ) where
       by_status WriteFault h = by_line h.0 h.1 h.2 WriteFault (inr (inl refl))
       by_status OutOfMemory (inl h) = stopped [] (λ out n s. (out, refl)) new (h (before ++ []) none_yet) OutOfMemory (inr (inr refl))
       by_status OutOfMemory (inr h) = by_line h.0 h.1 h.2 OutOfMemory (inr (inr refl))
-      by_status Fine h = absurd h
+      by_status Ended h = absurd h
       by_status BadScript h = absurd h
       by_status ReadFault h = absurd h
 
@@ -142,7 +142,7 @@ module _ (input before : List ℕ) where
       by_status OutOfMemory (inl h) =
           stopped (grammar_reply g) before_text new (h (before ++ grammar_reply g) written) OutOfMemory (inr (inr refl))
       by_status OutOfMemory (inr h) = by_line h.0 h.1 h.2 OutOfMemory (inr (inr refl))
-      by_status Fine h = absurd h
+      by_status Ended h = absurd h
       by_status BadGrammar h = absurd h
       by_status BadScript h = absurd h
       by_status ReadFault h = absurd h
@@ -232,12 +232,12 @@ module _ {input before : List ℕ} {coming : Option (List ℕ)} {at : ℕ} {now 
       now new r.has_written BadScript status refl says
 
   -- the end follows
-  running_ended : (more : List ℕ) → at < 2 ^ 48 → r.rest ≡ codes "end" ++ (10 ∷ more) → (new : Option (List ℕ)) (status : Status) → EndsWith now new (last_line ended) Fine status → Ends input before new status
+  running_ended : (more : List ℕ) → at < 2 ^ 48 → r.rest ≡ codes "end" ++ (10 ∷ more) → (new : Option (List ℕ)) (status : Status) → EndsWith now new (last_line ended) Ended status → Ends input before new status
   unfolding front told
   running_ended more early e new status says =
       last input before front at r.rest told r.are_questions r.begins all_replies ended
       (record { more = more; early = early; complete = r.are_questions; spelled = e })
-      now new r.has_written Fine status refl says
+      now new r.has_written Ended status refl says
 
   -- a line is read, or none comes
   module _ (to : ℕ) (next : Option (List ℕ)) (line : List ℕ) where
@@ -262,7 +262,7 @@ module _ {input before : List ℕ} {coming : Option (List ℕ)} {at : ℕ} {now 
 
       -- the line `end` ends it
       pub end_line_ends : line ≡ codes "end" → (new : Option (List ℕ)) (status : Status)
-          → EndsWith now new (last_line ended) Fine status → Ends input before new status
+          → EndsWith now new (last_line ended) Ended status → Ends input before new status
       end_line_ends e =
           let end = is_end at to coming next line r.rest taken r.comes e in
           running_ended end.0 taken.0 end.1

@@ -91,7 +91,7 @@ fn turn<S: Source, K: Sink>(
     }
     match question_of(line.as_bytes()) {
         None => Some(refuse_script(alloc, sink, start)),
-        Some(Question::End) => Some(finish(sink, b"end\n".as_slice(), Status::Ok)),
+        Some(Question::End) => Some(finish(sink, b"end\n".as_slice(), Status::Ended)),
         Some(Question::Has(constituent)) => {
             match say_answer(alloc, sink, answer_of(opened, &constituent)) {
                 Ok(()) => None,
