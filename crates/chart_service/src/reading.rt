@@ -1,12 +1,9 @@
 //! Reading the commands of a script from a source, one line and block at a time.
 ghost use Rattle.std.specs.Prelude.{◌≡◌, ◌+◌, ◌^◌, ◌<◌, ◌≤◌, ◌++◌, ◌∷◌, [], ℕ, List, length};
-ghost use Rattle.std.specs.Prelude.{IsTrue, IsErr, IsErrOf, IfOk, IfErr, IsAscii, MatchOption};
-ghost use Rattle.std.specs.Prelude.{option_map};
-ghost use Rattle.cyk_io.specs.Causes.{HasCause};
+ghost use Rattle.std.specs.Prelude.{IsTrue, IfOk, IsAscii, MatchOption, option_map};
 ghost use Rattle.cyk_io.specs.Streams.{IsAtEnd, coming};
-ghost use Rattle.chart_service.specs.Statuses.{IsReadStop};
-ghost use Rattle.chart_service.specs.Reading.{NextLine, NextBlock, NextCount, NextHeader};
-ghost use Rattle.chart_service.specs.Reading.{NextGrammar, NextText, PassesBlock, Finds};
+ghost use Rattle.chart_service.specs.Reading.{StopsAtRead, NextLine, NextBlock, PassesBlock};
+ghost use Rattle.chart_service.specs.Reading.{NextCount, NextHeader, NextGrammar, NextText, Finds};
 
 use crate::forms::count_behind;
 use crate::status::Status;
@@ -48,9 +45,7 @@ pub(crate) fn next_line<S: Source>(
     requires end { IsTrue ahead.old.ended → IsAtEnd (S.left source.old) }
     ensures ok { IfOk result (NextLine ahead.old.offset ahead.new.offset
         (coming ahead.old (S.left source.old)) (coming ahead.new (S.left source.new)) line.new) }
-    ensures err { IfErr result IsReadStop }
-    ensures cause { HasCause (S.faults source.old) (S.faults source.new)
-        (IsErrOf result Status.ReadFault) }
+    ensures stop { StopsAtRead result (S.faults source.old) (S.faults source.new) }
     ensures end { IsTrue ahead.new.ended → IsAtEnd (S.left source.new) }
     ensures range { ahead.new.offset ≤ ahead.old.offset + 257 }
 {
@@ -75,9 +70,7 @@ pub(crate) fn read_header<S: Source>(
     requires end { IsTrue ahead.old.ended → IsAtEnd (S.left source.old) }
     ensures ok { IfOk result (NextHeader ahead.old.offset ahead.new.offset
         (coming ahead.old (S.left source.old)) (coming ahead.new (S.left source.new))) }
-    ensures err { IfErr result IsReadStop }
-    ensures cause { HasCause (S.faults source.old) (S.faults source.new)
-        (IsErrOf result Status.ReadFault) }
+    ensures stop { StopsAtRead result (S.faults source.old) (S.faults source.new) }
     ensures end { IsTrue ahead.new.ended → IsAtEnd (S.left source.new) }
     ensures range { ahead.new.offset ≤ ahead.old.offset + 257 }
 {
@@ -111,9 +104,7 @@ fn keep_block<S: Source>(
     ensures ok { IfOk result (λ block. NextBlock count ahead.old.offset ahead.new.offset
         (coming ahead.old (S.left source.old)) (coming ahead.new (S.left source.new))
         (option_map (λ b. b.items) block)) }
-    ensures err { IfErr result IsReadStop }
-    ensures cause { HasCause (S.faults source.old) (S.faults source.new)
-        (IsErrOf result Status.ReadFault) }
+    ensures stop { StopsAtRead result (S.faults source.old) (S.faults source.new) }
     ensures end { IsTrue ahead.new.ended → IsAtEnd (S.left source.new) }
 {
     let whole = u64::from(count) + 1;
@@ -138,9 +129,7 @@ fn pass_block<S: Source>(
     requires end { IsTrue ahead.old.ended → IsAtEnd (S.left source.old) }
     ensures ok { IfOk result (PassesBlock count ahead.old.offset ahead.new.offset
         (coming ahead.old (S.left source.old)) (coming ahead.new (S.left source.new))) }
-    ensures err { IfErr result IsReadStop }
-    ensures cause { HasCause (S.faults source.old) (S.faults source.new)
-        (IsErrOf result Status.ReadFault) }
+    ensures stop { StopsAtRead result (S.faults source.old) (S.faults source.new) }
     ensures end { IsTrue ahead.new.ended → IsAtEnd (S.left source.new) }
 {
     let mut bytes = Vec::new(alloc);
@@ -167,9 +156,7 @@ fn read_count<S: Source>(
     requires end { IsTrue ahead.old.ended → IsAtEnd (S.left source.old) }
     ensures ok { IfOk result (NextCount beginning.now most ahead.old.offset ahead.new.offset
         (coming ahead.old (S.left source.old)) (coming ahead.new (S.left source.new))) }
-    ensures err { IfErr result IsReadStop }
-    ensures cause { HasCause (S.faults source.old) (S.faults source.new)
-        (IsErrOf result Status.ReadFault) }
+    ensures stop { StopsAtRead result (S.faults source.old) (S.faults source.new) }
     ensures end { IsTrue ahead.new.ended → IsAtEnd (S.left source.new) }
     ensures range { ahead.new.offset ≤ ahead.old.offset + 257 }
 {
@@ -191,9 +178,7 @@ fn read_block<S: Source>(
     requires end { IsTrue ahead.old.ended → IsAtEnd (S.left source.old) }
     ensures ok { IfOk result (Finds 65536 (NextBlock count ahead.old.offset ahead.new.offset
         (coming ahead.old (S.left source.old)) (coming ahead.new (S.left source.new)))) }
-    ensures err { IfErr result IsReadStop }
-    ensures cause { HasCause (S.faults source.old) (S.faults source.new)
-        (IsErrOf result Status.ReadFault) }
+    ensures stop { StopsAtRead result (S.faults source.old) (S.faults source.new) }
     ensures end { IsTrue ahead.new.ended → IsAtEnd (S.left source.new) }
 {
     if count > MAX_GRAMMAR {
@@ -217,9 +202,7 @@ pub(crate) fn read_grammar<S: Source>(
     requires end { IsTrue ahead.old.ended → IsAtEnd (S.left source.old) }
     ensures ok { IfOk result (Finds 65536 (NextGrammar ahead.old.offset ahead.new.offset
         (coming ahead.old (S.left source.old)) (coming ahead.new (S.left source.new)))) }
-    ensures err { IfErr result IsReadStop }
-    ensures cause { HasCause (S.faults source.old) (S.faults source.new)
-        (IsErrOf result Status.ReadFault) }
+    ensures stop { StopsAtRead result (S.faults source.old) (S.faults source.new) }
     ensures end { IsTrue ahead.new.ended → IsAtEnd (S.left source.new) }
 {
     match read_count(source, ahead, line, b"grammar ".as_slice(), MAX_BLOCK)? {
@@ -252,9 +235,7 @@ pub(crate) fn read_text<S: Source>(
     ensures ok { IfOk result (λ text. NextText ahead.old.offset ahead.new.offset
         (coming ahead.old (S.left source.old)) (coming ahead.new (S.left source.new))
         (option_map (λ t. t.items) text)) }
-    ensures err { IfErr result IsReadStop }
-    ensures cause { HasCause (S.faults source.old) (S.faults source.new)
-        (IsErrOf result Status.ReadFault) }
+    ensures stop { StopsAtRead result (S.faults source.old) (S.faults source.new) }
     ensures end { IsTrue ahead.new.ended → IsAtEnd (S.left source.new) }
 {
     let Some(count) = read_count(source, ahead, line, b"open ".as_slice(), MAX_TEXT)? else {

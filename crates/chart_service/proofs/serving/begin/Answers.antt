@@ -94,4 +94,4 @@ returns-clause-ok g c input before comes written =
     let accepted =
     with_accepted taken (g.K.Sink.written c.accept.new.sink) c.in-Ok.language c.in-Ok.ensures.ok in
     text_stopped accepted
-    c.in-Err-read_text.status (read_stop c.in-Err-read_text.status c.in-Err-read_text.ensures.err)
+    c.in-Err-read_text.status (read_stop c.in-Err-read_text.status c.in-Err-read_text.ensures.stop.err)
