@@ -159,8 +159,5 @@ pub(crate) fn question_of(line: &[u8]) -> Option<Question<'_>>
     if line == b"end".as_slice() {
         return Some(Question::End);
     }
-    match has_question(line) {
-        Some(constituent) => Some(Question::Has(constituent)),
-        None => None,
-    }
+    has_question(line).map(Question::Has)
 }

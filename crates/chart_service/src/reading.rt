@@ -185,10 +185,8 @@ fn read_block<S: Source>(
         let passed = pass_block(alloc, source, ahead, count)?;
         return Ok(passed.then_some(Block::TooLong(count)));
     }
-    match keep_block(alloc, source, ahead, count)? {
-        Some(bytes) => Ok(Some(Block::Kept(bytes))),
-        None => Ok(None),
-    }
+    let kept = keep_block(alloc, source, ahead, count)?;
+    Ok(kept.map(Block::Kept))
 }
 
 /// Reads the command `grammar` with its block. One of more than 65,536 bytes is passed over.
