@@ -13,7 +13,9 @@ use Rattle.binary_form.proofs.NumberLemmas.{number_is_one}
 use Rattle.valiant.specs.Charts.{ChartValue}
 use Rattle.chart_service.specs.Opening.{IsOpened}
 
-module _ (g : Expansion) (chart : ChartValue) (text : List ℕ) (tokens : List Token) (o : IsOpened g chart text tokens) (category : ℕ) (own : category < length g.categories) (number : ℕ) (is_number : number ≡ number_of g (plain (Category category))) where
+module _ (g : Expansion) (chart : ChartValue) (text : List ℕ) (tokens : List Token)
+    (o : IsOpened g chart text tokens) (category : ℕ) (own : category < length g.categories)
+    (number : ℕ) (is_number : number ≡ number_of g (plain (Category category))) where
   -- the number is the category's
   is_its : IsNumberOf g (plain (Category category)) number
   is_its = (own, sym is_number)
@@ -23,7 +25,8 @@ module _ (g : Expansion) (chart : ChartValue) (text : List ℕ) (tokens : List T
       → ((a : BinarySymbol) × IsNumberOf g a number × BinaryDerives g.rules (kinds_of tokens) a first end)
       → Derives g.rules (kinds_of tokens) (Category category) first end
   of_number first end found =
-      let same : found.0 ≡ plain (Category category) = number_is_one g found.0 (plain (Category category)) number found.1 is_its in
+      let same : found.0 ≡ plain (Category category) =
+      number_is_one g found.0 (plain (Category category)) number found.1 is_its in
       let P : BinarySymbol → Type 0 = λ a. BinaryDerives g.rules (kinds_of tokens) a first end in
       subst P same found.2
 
@@ -45,7 +48,8 @@ module _ (g : Expansion) (chart : ChartValue) (text : List ℕ) (tokens : List T
       let nullable = nullable_derives g.rules (kinds_of tokens) (Category category) first in
       let P : ℕ → Type 0 = λ n. Derives g.rules (kinds_of tokens) (Category category) first n in (
         (λ t. let found = h.0 t in
-            let same_symbol : found.0 ≡ plain (Category category) = number_is_one g found.0 (plain (Category category)) number found.1 is_its in
+            let same_symbol : found.0 ≡ plain (Category category) =
+            number_is_one g found.0 (plain (Category category)) number found.1 is_its in
             let Q : BinarySymbol → Type 0 = λ a. BinaryDerives g.rules [] a 0 0 in
             subst P same (nullable.0 (subst Q same_symbol found.2))),
         (λ d. h.1 (plain (Category category), is_its, nullable.1 (subst P (sym same) d))),

@@ -1,8 +1,11 @@
 -- How a session begins: the header, the grammar and the text are taken in turn, and each may be
 -- missing.
-use Rattle.std.proofs.Common.{◌≡◌, ℕ, ◌+◌, ◌^◌, ◌<◌, ◌≤◌, List, [], ◌∷◌, ◌++◌, length, Option, Some, None, Result, Ok, Err, OnOk, refl, sym, ◌∙◌, ap, subst, arith, append_assoc, append-nil, length-append}
+use Rattle.std.proofs.Common.{◌≡◌, ℕ, ◌+◌, ◌^◌, ◌<◌, ◌≤◌, List, [], ◌∷◌, ◌++◌, length, Option, Some}
+use Rattle.std.proofs.Common.{None, Result, Ok, Err, OnOk, refl, sym, ◌∙◌, ap, subst, arith}
+use Rattle.std.proofs.Common.{append_assoc, append-nil, length-append}
 use Rattle.spec_lbnf.specs.Expansion.{Expansion}
-use Rattle.spec_session.specs.Script.{Command, header, grammar, opens, has, line_of, block_of, text_of, IsWithinLimits, IsInOrder, Begins, broken}
+use Rattle.spec_session.specs.Script.{Command, header, grammar, opens, has, line_of, block_of}
+use Rattle.spec_session.specs.Script.{text_of, IsWithinLimits, IsInOrder, Begins, broken}
 use Rattle.spec_session.specs.Replies.{IsAccepted, grammar_reply, version_reply}
 use Rattle.spec_session.specs.Sessions.{last_line}
 use Rattle.spec_session.proofs.ScriptLemmas.{line_is_short}
@@ -15,7 +18,8 @@ use Rattle.chart_service.specs.declared.status.Status.TheVariants.{BadScript}
 use Rattle.chart_service.specs.Statuses.{number_of}
 use Rattle.chart_service.specs.Writing.{EndsWith}
 use Rattle.chart_service.specs.Serving.{IsFaultStatus}
-use Rattle.chart_service.specs.Reading.{IsBlock, Finds, TakesCommand, NoneComes, IsHeader, IsGrammar, IsText, NextGrammar}
+use Rattle.chart_service.specs.Reading.{IsBlock, Finds, TakesCommand, NoneComes, IsHeader}
+use Rattle.chart_service.specs.Reading.{IsGrammar, IsText, NextGrammar}
 use Rattle.chart_service.specs.Opening.{Accepts, EndsAtGrammar, HasOpened, OpensText}
 use Rattle.chart_service.specs.Progress.{Running, Ends, Begun}
 use Rattle.chart_service.proofs.ReadingLemmas.{found_grammar, found_none}
@@ -23,7 +27,9 @@ use Rattle.chart_service.proofs.ProgressLemmas.{Begins-append, last, stopped_beh
 
 -- a command is short
 text_is_short : (command : Command) → IsWithinLimits command → length (text_of command) ≤ 2 ^ 30
-text_is_short command w = omega (arith, length-append (line_of command) (10 ∷ block_of command), line_is_short command w, block_is_short command w)
+text_is_short command w =
+    let size = length-append (line_of command) (10 ∷ block_of command) in
+    omega (arith, size, line_is_short command w, block_is_short command w)
   where
     block_is_short : (command : Command) → IsWithinLimits command → length (block_of command) ≤ 10 ^ 9
     block_is_short header w = omega arith
@@ -32,15 +38,16 @@ text_is_short command w = omega (arith, length-append (line_of command) (10 ∷ 
     block_is_short (has constituent) w = omega arith
 
 -- so its end is not far
-pub taken_room : (from to : ℕ) (old new : Option (List ℕ)) (command : Command) → TakesCommand from to old new command → to < 2 ^ 50
-taken_room from to old new command t = omega (arith, t.early, t.offset, text_is_short command t.within_limits)
+pub taken_early : (from to : ℕ) (old new : Option (List ℕ)) (command : Command)
+    → TakesCommand from to old new command → to < 2 ^ 50
+taken_early from to old new command t = omega (arith, t.early, t.offset, text_is_short command t.within_limits)
 
 -- nor is that of a grammar that was found
-pub grammar_room : (from to : ℕ) (old new : Option (List ℕ)) (found : Block)
+pub grammar_early : (from to : ℕ) (old new : Option (List ℕ)) (found : Block)
     → Finds 65536 (NextGrammar from to old new) (Some found) → to < 2 ^ 50
-grammar_room from to old new found finds =
+grammar_early from to old new found finds =
     let f = found_grammar from to old new found finds in
-    taken_room from to old new (grammar f.0) f.2
+    taken_early from to old new (grammar f.0) f.2
 
 -- the command in its place
 is_header : (command : Command) → IsInOrder (command ∷ []) → IsHeader command
@@ -97,7 +104,8 @@ module _ {input before : List ℕ} {from : ℕ} {coming old : Option (List ℕ)}
   no_header none new status says =
       last input before [] 0 input [] tt (refl, refl) refl (broken 0) (
         refl,
-        (λ go. none input comes (omega (arith, start)) go.command go.more (is_header go.command go.in_order) go.within_limits go.spelled),
+        (λ go. none input comes (omega (arith, start)) go.command go.more
+            (is_header go.command go.in_order) go.within_limits go.spelled),
         (λ end. end.complete),
       )
       old new (written ∙ ap Some (sym (append-nil before))) BadScript status refl says
@@ -128,7 +136,8 @@ module _ {input before : List ℕ} {at : ℕ} {coming old : Option (List ℕ)}
       found_none 65536 (NextGrammar at behind coming later) finds in
       last input before (header ∷ []) at h.rest [] tt h.begins refl (broken place) (
         e,
-        (λ go. none h.rest h.comes go.early go.command go.more (is_grammar go.command go.in_order) go.within_limits go.spelled),
+        (λ go. none h.rest h.comes go.early go.command go.more
+            (is_grammar go.command go.in_order) go.within_limits go.spelled),
         (λ end. end.complete),
       )
       old new (h.has_written ∙ ap Some (sym (append-nil before))) BadScript status refl says
@@ -145,7 +154,8 @@ module _ {input before : List ℕ} {at : ℕ} {coming old : Option (List ℕ)}
         is_block = f.1;
         rest = t.0;
         comes = t.1;
-        begins = Begins-append 0 input (header ∷ []) at h.rest h.begins (grammar f.0) t.0 taken.early taken.within_limits t.2 behind taken.offset;
+        begins = Begins-append 0 input (header ∷ []) at h.rest h.begins (grammar f.0) t.0
+            taken.early taken.within_limits t.2 behind taken.offset;
         has_written = h.has_written;
       }
 
@@ -189,7 +199,8 @@ module _ {input before : List ℕ} {g : Expansion} {at : ℕ} {coming now : Opti
       last input before (header ∷ grammar h.block ∷ []) at h.rest (grammar_reply g) tt h.begins
       (grammar_told g h.block h.accepted) (broken place) (
         e,
-        (λ go. none h.rest h.comes go.early go.command go.more (is_text h.block go.command go.in_order) go.within_limits go.spelled),
+        (λ go. none h.rest h.comes go.early go.command go.more
+            (is_text h.block go.command go.in_order) go.within_limits go.spelled),
         (λ end. end.complete),
       )
       now new h.has_written BadScript status refl says
@@ -200,8 +211,12 @@ module _ {input before : List ℕ} {g : Expansion} {at : ℕ} {coming now : Opti
     text_begins : (rest : List ℕ) × (later ≡ Some rest)
         × Begins 0 input (header ∷ grammar h.block ∷ opens text ∷ []) end rest
     text_begins =
-        let t = taken.taken h.rest h.comes in
-        (t.0, t.1, Begins-append 0 input (header ∷ grammar h.block ∷ []) at h.rest h.begins (opens text) t.0 taken.early taken.within_limits t.2 end taken.offset)
+        let t = taken.taken h.rest h.comes in (
+          t.0,
+          t.1,
+          Begins-append 0 input (header ∷ grammar h.block ∷ []) at h.rest h.begins
+              (opens text) t.0 taken.early taken.within_limits t.2 end taken.offset,
+        )
 
     -- and opened
     opened_runs : (new : Option (List ℕ)) (opened : Opened) → HasOpened g text now new opened
@@ -219,18 +234,25 @@ module _ {input before : List ℕ} {g : Expansion} {at : ℕ} {coming now : Opti
       accepted = subst (IsAccepted h.block) (sym o.grammar) h.accepted;
       is_opened = o.is_opened;
       are_replies = refl;
-      has_written = o.written (before ++ grammar_reply g) h.has_written ∙ ap Some (append_assoc before (grammar_reply g) (version_reply 0 (length o.tokens)) ∙ ap (λ bytes. before ++ bytes) same_reply);
+      has_written = o.written (before ++ grammar_reply g) h.has_written
+          ∙ ap Some (append_assoc before (grammar_reply g) (version_reply 0 (length o.tokens))
+          ∙ ap (λ bytes. before ++ bytes) same_reply);
     }
       where
-        same_reply : grammar_reply g ++ version_reply 0 (length o.tokens) ≡ grammar_reply opened.language.grammar ++ (version_reply 0 (length o.tokens) ++ [])
-        same_reply = ap (λ (x : Expansion). grammar_reply x ++ version_reply 0 (length o.tokens)) (sym o.grammar) ∙ ap (λ bytes. grammar_reply opened.language.grammar ++ bytes) (sym (append-nil (version_reply 0 (length o.tokens))))
+        same_reply : grammar_reply g ++ version_reply 0 (length o.tokens)
+            ≡ grammar_reply opened.language.grammar ++ (version_reply 0 (length o.tokens) ++ [])
+        same_reply =
+            ap (λ (x : Expansion). grammar_reply x ++ version_reply 0 (length o.tokens)) (sym o.grammar)
+            ∙ ap (λ bytes. grammar_reply opened.language.grammar ++ bytes)
+            (sym (append-nil (version_reply 0 (length o.tokens))))
 
     -- or the session ends at it
     pub text_opened : (new : Option (List ℕ)) (r : Result Opened Status) → OpensText g text now new r
         → Begun input before later end new r
     text_opened new (Ok opened) o = opened_runs new opened o
     text_opened new (Err status) ends =
-        ended_at_text input before h.block text g h.accepted at h.rest h.begins end text_begins.0 text_begins.2 now new h.has_written status ends
+        ended_at_text input before h.block text g h.accepted at h.rest h.begins
+        end text_begins.0 text_begins.2 now new h.has_written status ends
 
 -- what holds anyway
 pub on_ok : {X E : Type 0} (P : Type 0) (r : Result X E) → P → OnOk r P

@@ -12,8 +12,9 @@ use Rattle.spec_lexing.specs.declared.kind_def.KindDef.{KindDef}
 use Rattle.spec_lexing.specs.declared.kind_def.KindDef.TheVariants.{Word}
 use Rattle.spec_lexing.specs.LongestMatch.{IsLongestMatch, IsUnmatched, MatchesAt}
 use Rattle.spec_lexing.specs.Kinds.{LexKind, white, symbol, IsWhite, Matches, MatchesDef, numbered_from, lex_kinds}
+use Rattle.chart_service.specs.declared.lexing.Matched.TheVariants.{White, Kind}
 use Rattle.chart_service.specs.declared.lexing.LongestMatch.{LongestMatch}
-use Rattle.chart_service.specs.Lexing.{IsLongestOfKind, IsNowhere, IsLongest, IsBest, IsStep}
+use Rattle.chart_service.specs.Lexing.{kind_of, IsLongestOfKind, IsNowhere, IsLongest, IsBest, IsStep}
 
 -- a part of a text has as many bytes as lie between its bounds
 length-range : (text : List ℕ) (start end : ℕ) → start ≤ end → end ≤ length text →
@@ -108,7 +109,7 @@ white_match text start end some within m =
 -- before each kind of the grammar, a white byte is the longest match at its place
 pub white_is_longest : (text : List ℕ) (start : ℕ) → start < length text →
     IsWhite (slice_index text start) →
-    IsLongest [] text start (record { kind = None; end = start + 1 })
+    IsLongest [] text start (record { matched = White; end = start + 1 })
 white_is_longest text start before is = record {
   order = 0;
   kind = white;
@@ -261,7 +262,7 @@ module _ (kinds : List KindDef) (kind : KindDef) (text : List ℕ) (start : ℕ)
   taken : (number end : ℕ) → number ≡ length kinds → IsLongestOfKind kind text start end →
       ((place later : ℕ) → end ≤ later → later ≤ length text →
       MatchesAt Matches (lex_kinds kinds) text place start later → ⊥) →
-      IsLongest (kinds ++ kind ∷ []) text start (record { kind = Some number; end = end })
+      IsLongest (kinds ++ kind ∷ []) text start (record { matched = Kind number; end = end })
   taken number end size is longer = record {
     order = length (lex_kinds kinds);
     kind = symbol (length kinds) kind;
@@ -314,18 +315,18 @@ module _ (kinds : List KindDef) (number : ℕ) (kind : KindDef) (below : number 
   -- a longer match is the best
   pub longer_is_best : (found : LongestMatch) (end : ℕ) → IsLongest (take number kinds) text start found →
       IsLongestOfKind kind text start end → found.end < end →
-      IsLongest (take (number + 1) kinds) text start (record { kind = Some number; end = end })
+      IsLongest (take (number + 1) kinds) text start (record { matched = Kind number; end = end })
   longer_is_best found end best is longer =
-      up_to (λ ks. IsLongest ks text start (record { kind = Some number; end = end }))
+      up_to (λ ks. IsLongest ks text start (record { matched = Kind number; end = end }))
       (taken (take number kinds) kind text start number end size_below is
       (λ place later after inside m. best.is_longest.longest place later (omega arith) inside m))
 
   -- the first match is the best
   pub first_is_best : (end : ℕ) → IsUnmatched Matches (lex_kinds (take number kinds)) text start →
       IsLongestOfKind kind text start end →
-      IsLongest (take (number + 1) kinds) text start (record { kind = Some number; end = end })
+      IsLongest (take (number + 1) kinds) text start (record { matched = Kind number; end = end })
   first_is_best end none is =
-      up_to (λ ks. IsLongest ks text start (record { kind = Some number; end = end }))
+      up_to (λ ks. IsLongest ks text start (record { matched = Kind number; end = end }))
       (taken (take number kinds) kind text start number end size_below is
       (λ place later after inside m. none place later (omega (arith, is.some)) inside m))
 
@@ -352,22 +353,22 @@ module _ (kinds : List KindDef) (text : List ℕ) (start : ℕ) where
 
   -- a match of a kind of the grammar is a token
   pub token_step : (found : LongestMatch) (number : ℕ) → IsLongest kinds text start found →
-      found.kind ≡ Some number →
+      found.matched ≡ Kind number →
       IsStep kinds text start
       (record { token = Some (record { kind = Some number; first = start; end = found.end }); end = found.end })
   token_step found number best is = record {
     forward = best.is_longest.some;
     within = best.is_longest.within;
     tokens = λ rest are.
-        keeps start found.end best.order number best.kind rest best.is_longest best.stands (best.number ∙ is) are;
+        keeps start found.end best.order number best.kind rest best.is_longest best.stands (best.number ∙ ap kind_of is) are;
   }
 
   -- a match of white space is no token
-  pub white_step : (found : LongestMatch) → IsLongest kinds text start found → found.kind ≡ None →
+  pub white_step : (found : LongestMatch) → IsLongest kinds text start found → found.matched ≡ White →
       IsStep kinds text start (record { token = None; end = found.end })
   white_step found best is = record {
     forward = best.is_longest.some;
     within = best.is_longest.within;
     tokens = λ rest are.
-        skips start found.end best.order best.kind rest best.is_longest best.stands (best.number ∙ is) are;
+        skips start found.end best.order best.kind rest best.is_longest best.stands (best.number ∙ ap kind_of is) are;
   }

@@ -1,5 +1,6 @@
 -- Accepting a grammar or refusing it, and opening a text.
-use Rattle.std.proofs.Common.{◌≡◌, ℕ, inl, inr, List, [], length, Option, Some, None, Ok, Err, ◌<◌, ◌≤◌, arith, sym, ◌∙◌, ap, subst, option_map}
+use Rattle.std.proofs.Common.{◌≡◌, ℕ, inl, inr, List, [], length, Option, Some, None, Ok, Err, ◌<◌}
+use Rattle.std.proofs.Common.{◌≤◌, arith, sym, ◌∙◌, ap, subst, option_map}
 use Rattle.std.specs.Option.{IfSome}
 use Rattle.std.proofs.lemmas.List.{length-map}
 use Rattle.std.proofs.lemmas.Option.{same_Some, none-some}
@@ -11,7 +12,9 @@ use Rattle.spec_lbnf.specs.Expansion.{Expansion, expansion_of, symbol_count}
 use Rattle.spec_lbnf.specs.Faults.{Spells, IsFirstFault, too_large, is_large}
 use Rattle.spec_lbnf.specs.Checks.{AreFit, IsUnfit}
 use Rattle.spec_session.specs.Script.{opens}
-use Rattle.spec_session.specs.Replies.{IsReply, IsRefused, IsRefusedFor, AreAccepted, faulty, unfit, too_many_symbols, fault_reason, unfit_reason, symbols_reason, version_reply}
+use Rattle.spec_session.specs.Replies.{IsReply, IsRefused, IsRefusedFor, AreAccepted, faulty, unfit}
+use Rattle.spec_session.specs.Replies.{too_many_symbols, fault_reason, unfit_reason, symbols_reason}
+use Rattle.spec_session.specs.Replies.{version_reply}
 use Rattle.lbnf_text.specs.Reading.{file_fault_of}
 use Rattle.lbnf_text.specs.declared.fault.TextFault.TheVariants.{TooLarge}
 use Rattle.lbnf_grammar.specs.Grammars.{unfitness_of}
@@ -23,10 +26,13 @@ use Rattle.chart_service.specs.declared.opening.LanguageFault.{LanguageFault}
 use Rattle.chart_service.specs.declared.opening.LanguageFault.TheVariants.{Text, Grammar, Binary}
 use Rattle.chart_service.specs.declared.language.Language.{Language}
 use Rattle.chart_service.specs.declared.status.Status.{Status}
-use Rattle.chart_service.specs.declared.status.Status.TheVariants.{Ok as Fine, BadGrammar, BadScript, ReadFault, WriteFault, OutOfMemory}
+use Rattle.chart_service.specs.declared.status.Status.TheVariants.{Ended, BadGrammar, BadScript}
+use Rattle.chart_service.specs.declared.status.Status.TheVariants.{ReadFault, WriteFault}
+use Rattle.chart_service.specs.declared.status.Status.TheVariants.{OutOfMemory}
 use Rattle.chart_service.specs.Statuses.{IsWriteStop}
 use Rattle.chart_service.specs.Writing.{EndsWith}
-use Rattle.chart_service.specs.Opening.{HasDistinctNames, ReadsLanguage, reason_of, IsRefusal, IsGrammarLine, EndsAtGrammar, IsOpened, EndsAtText}
+use Rattle.chart_service.specs.Opening.{HasDistinctNames, ReadsLanguage, reason_of, IsRefusal}
+use Rattle.chart_service.specs.Opening.{IsGrammarLine, EndsAtGrammar, IsOpened, EndsAtText}
 
 -- no category's text stands twice in the grammar that definitions stand for
 spelled_distinct : (defs : List Def) (g : Expansion) → g ≡ expansion_of defs → HasDistinctNames g
@@ -80,28 +86,38 @@ reason_is block (Binary (TooManySymbols count)) reason h is =
     (sym (same_Some (symbols_reason count) reason is) ∙ ap symbols_reason made.0)
 
 -- the line that refuses is the fault's
-pub refusal_is : (block : List ℕ) (fault : LanguageFault) (line : List ℕ) → ReadsLanguage block (Err fault) → IsRefusal fault line → IsRefused block line
+pub refusal_is : (block : List ℕ) (fault : LanguageFault) (line : List ℕ)
+    → ReadsLanguage block (Err fault) → IsRefusal fault line → IsRefused block line
 refusal_is block fault line h (reason, is, whole) = (reason, reason_is block fault reason h is, whole)
 
 -- a reply that was cut short, at a fault's status
-pub cut_short : (block line : List ℕ) (old new : Option (List ℕ)) → IsGrammarLine block line → GrowsByPrefix old new line → (status : Status) → IsWriteStop status → EndsAtGrammar block old new status
-cut_short block line old new is cut Fine stop = absurd stop
+pub cut_short : (block line : List ℕ) (old new : Option (List ℕ)) → IsGrammarLine block line
+    → GrowsByPrefix old new line → (status : Status) → IsWriteStop status
+    → EndsAtGrammar block old new status
+cut_short block line old new is cut Ended stop = absurd stop
 cut_short block line old new is cut BadGrammar stop = absurd stop
 cut_short block line old new is cut BadScript stop = absurd stop
 cut_short block line old new is cut ReadFault stop = absurd stop
 cut_short block line old new is cut WriteFault stop = (line, is, cut)
 cut_short block line old new is cut OutOfMemory stop = inr (line, is, cut)
 
-pub refused_so : (block line : List ℕ) (old new : Option (List ℕ)) → IsRefused block line → (status : Status) → EndsWith old new line BadGrammar status → EndsAtGrammar block old new status
-refused_so block line old new is status (inl h) = let P : Status → Type 0 = EndsAtGrammar block old new in subst P (sym h.1) (line, is, h.0)
+pub refused_so : (block line : List ℕ) (old new : Option (List ℕ)) → IsRefused block line
+    → (status : Status) → EndsWith old new line BadGrammar status → EndsAtGrammar block old new status
+refused_so block line old new is status (inl h) =
+    let P : Status → Type 0 = EndsAtGrammar block old new in
+    subst P (sym h.1) (line, is, h.0)
 refused_so block line old new is status (inr h) = cut_short block line old new (inl is) h.0 status h.1
 
 -- the chart has as many tokens as the text
-pub chart_len : (g : Expansion) (chart : ChartValue) (text : List ℕ) (tokens : List Token) → IsOpened g chart text tokens → length chart.kinds ≡ length tokens
+pub chart_len : (g : Expansion) (chart : ChartValue) (text : List ℕ) (tokens : List Token)
+    → IsOpened g chart text tokens → length chart.kinds ≡ length tokens
 chart_len g chart text tokens o = ap length (o.is_chart.same_kinds) ∙ length-map tokens (λ (token : Token). token.kind)
 
 -- the reply to a text that was cut short, at a fault's status
-pub cut_text : (g : Expansion) (chart : ChartValue) (text : List ℕ) (old new : Option (List ℕ)) → ((tokens : List Token) × IsOpened g chart text tokens) → (count : ℕ) → count ≡ length chart.kinds → GrowsByPrefix old new (version_reply 0 count) → (status : Status) → IsWriteStop status → EndsAtText g text old new status
+pub cut_text : (g : Expansion) (chart : ChartValue) (text : List ℕ) (old new : Option (List ℕ))
+    → ((tokens : List Token) × IsOpened g chart text tokens) → (count : ℕ) → count ≡ length chart.kinds
+    → GrowsByPrefix old new (version_reply 0 count) → (status : Status) → IsWriteStop status
+    → EndsAtText g text old new status
 cut_text g chart text old new o count e cut status stop = by_status status stop
   where
     line : List ℕ
@@ -111,7 +127,7 @@ cut_text g chart text old new o count e cut status stop = by_status status stop
     is_line = (o.0, (o.1).are_tokens, ap (version_reply 0) (e ∙ chart_len g chart text o.0 o.1))
 
     by_status : (status : Status) → IsWriteStop status → EndsAtText g text old new status
-    by_status Fine stop = absurd stop
+    by_status Ended stop = absurd stop
     by_status BadGrammar stop = absurd stop
     by_status BadScript stop = absurd stop
     by_status ReadFault stop = absurd stop

@@ -1,18 +1,25 @@
 -- How a session goes on and how it ends: what was written so far is the replies to the commands so far.
-use Rattle.std.proofs.Common.{◌≡◌, true, false, ℕ, ◌+◌, ◌^◌, ◌<◌, inl, inr, List, [], ◌∷◌, ◌++◌, length, take, drop, codes, Option, Some, None, refl, sym, ◌∙◌, ap, subst, arith, append_assoc, append-nil, length-append}
+use Rattle.std.proofs.Common.{◌≡◌, true, false, ℕ, ◌+◌, ◌^◌, ◌<◌, inl, inr, List, [], ◌∷◌, ◌++◌}
+use Rattle.std.proofs.Common.{length, take, drop, codes, Option, Some, None, refl, sym, ◌∙◌, ap}
+use Rattle.std.proofs.Common.{subst, arith, append_assoc, append-nil, length-append}
 use Rattle.std.proofs.lemmas.List.{take-append-drop}
 use Rattle.cyk_io.specs.Streams.{Takes, Grows, GrowsByPrefix}
 use Rattle.cyk_io.specs.Lines.{IsLine}
 use Rattle.spec_lbnf.specs.Expansion.{Expansion}
-use Rattle.spec_session.specs.Script.{Constituent, Command, header, grammar, opens, has, line_of, block_of, text_of, IsWithinLimits, AreQuestions, IsInOrder, Begins, Ending, ended, broken, EndsAs, IsScript}
+use Rattle.spec_session.specs.Script.{Constituent, Command, header, grammar, opens, has, line_of}
+use Rattle.spec_session.specs.Script.{block_of, text_of, IsWithinLimits, AreQuestions, IsInOrder}
+use Rattle.spec_session.specs.Script.{Begins, Ending, ended, broken, EndsAs, IsScript}
 use Rattle.spec_session.specs.Replies.{IsAccepted, IsReply, IsAnswer, grammar_reply, version_reply}
 use Rattle.spec_session.specs.Sessions.{AreReplies, AreAllReplies, IsSession, refused, whole, last_line, last_status}
-use Rattle.spec_session.proofs.ScriptLemmas.{tested, each_differs, lacks_if_each_differs, cut_same, command_line, line_lacks_lf, line_is_short}
+use Rattle.spec_session.proofs.ScriptLemmas.{tested, each_differs, lacks_if_each_differs, cut_same}
+use Rattle.spec_session.proofs.ScriptLemmas.{command_line, line_lacks_lf, line_is_short}
 use Rattle.spec_session.proofs.SessionsLemmas.{replies_come_first, replies_then_last_line, refusal_is_all}
 use Rattle.spec_session.proofs.FrontLemmas.{questions_more, replies_more, grammar_told, text_told}
 use Rattle.chart_service.specs.declared.opening.Opened.{Opened}
 use Rattle.chart_service.specs.declared.status.Status.{Status}
-use Rattle.chart_service.specs.declared.status.Status.TheVariants.{Ok as Fine, BadGrammar, BadScript, ReadFault, WriteFault, OutOfMemory}
+use Rattle.chart_service.specs.declared.status.Status.TheVariants.{Ended, BadGrammar, BadScript}
+use Rattle.chart_service.specs.declared.status.Status.TheVariants.{ReadFault, WriteFault}
+use Rattle.chart_service.specs.declared.status.Status.TheVariants.{OutOfMemory}
 use Rattle.chart_service.specs.Statuses.{number_of, IsReadStop, IsWriteStop}
 use Rattle.chart_service.specs.Writing.{EndsWith}
 use Rattle.chart_service.specs.Serving.{IsFaultStatus, IsPrefixOfSession}
@@ -23,7 +30,7 @@ use Rattle.chart_service.specs.Progress.{Running, Ends}
 
 -- the statuses of faults
 pub write_stop : (status : Status) → IsWriteStop status → IsFaultStatus (number_of status)
-write_stop Fine h = absurd h
+write_stop Ended h = absurd h
 write_stop BadGrammar h = absurd h
 write_stop BadScript h = absurd h
 write_stop ReadFault h = absurd h
@@ -31,7 +38,7 @@ write_stop WriteFault h = inr (inl refl)
 write_stop OutOfMemory h = inr (inr refl)
 
 pub read_stop : (status : Status) → IsReadStop status → IsFaultStatus (number_of status)
-read_stop Fine h = absurd h
+read_stop Ended h = absurd h
 read_stop BadGrammar h = absurd h
 read_stop BadScript h = absurd h
 read_stop ReadFault h = inl refl
@@ -39,15 +46,22 @@ read_stop WriteFault h = absurd h
 read_stop OutOfMemory h = inr (inr refl)
 
 -- commands that are taken join those before them
-pub Begins-append : (at : ℕ) (bytes : List ℕ) (commands : List Command) (mid : ℕ) (rest : List ℕ) → Begins at bytes commands mid rest → (command : Command) (more : List ℕ) → mid < 2 ^ 48 → IsWithinLimits command → rest ≡ text_of command ++ more → (end : ℕ) → end ≡ mid + length (text_of command) → Begins at bytes (commands ++ command ∷ []) end more
+pub Begins-append : (at : ℕ) (bytes : List ℕ) (commands : List Command) (mid : ℕ) (rest : List ℕ)
+    → Begins at bytes commands mid rest → (command : Command) (more : List ℕ) → mid < 2 ^ 48
+    → IsWithinLimits command → rest ≡ text_of command ++ more → (end : ℕ)
+    → end ≡ mid + length (text_of command) → Begins at bytes (commands ++ command ∷ []) end more
 Begins-append at bytes [] mid rest h command more early w e end to =
     (more, omega (arith, early, h.0), w, sym h.1 ∙ e, (to ∙ ap (λ n. n + length (text_of command)) h.0, refl))
 Begins-append at bytes (c ∷ commands) mid rest h command more early w e end to =
-    (h.0, h.1, h.2, h.3, Begins-append (at + length (text_of c)) h.0 commands mid rest h.4 command more early w e end to)
+    let behind = Begins-append (at + length (text_of c)) h.0 commands mid rest h.4 command more early w e end to in
+    (h.0, h.1, h.2, h.3, behind)
 
 module _ (input before : List ℕ) where
   -- a fault left a prefix: the replies so far and a part of the next line
-  pub cut_short : (told line : List ℕ) → ((out : List ℕ) (status : ℕ) → IsSession input out status → (more : List ℕ) × (out ≡ (told ++ line) ++ more)) → (old new : Option (List ℕ)) → old ≡ Some (before ++ told) → GrowsByPrefix old new line → (status : Status) → IsFaultStatus (number_of status) → Ends input before new status
+  pub cut_short : (told line : List ℕ)
+      → ((out : List ℕ) (status : ℕ) → IsSession input out status → (more : List ℕ) × (out ≡ (told ++ line) ++ more))
+      → (old new : Option (List ℕ)) → old ≡ Some (before ++ told) → GrowsByPrefix old new line
+      → (status : Status) → IsFaultStatus (number_of status) → Ends input before new status
   cut_short told line sure old new written cut status fault = (
     told ++ take cut.0 line,
     cut.2 (before ++ told) written ∙ ap Some (append_assoc before told (take cut.0 line)),
@@ -65,16 +79,23 @@ module _ (input before : List ℕ) where
       prefix out n s = let m = sure out n s in (drop cut.0 line ++ m.0, m.1 ∙ parts m.0)
 
   -- nothing more was written
-  pub stopped : (told : List ℕ) → ((out : List ℕ) (status : ℕ) → IsSession input out status → (more : List ℕ) × (out ≡ told ++ more)) → (now : Option (List ℕ)) → now ≡ Some (before ++ told) → (status : Status) → IsFaultStatus (number_of status) → Ends input before now status
+  pub stopped : (told : List ℕ)
+      → ((out : List ℕ) (status : ℕ) → IsSession input out status → (more : List ℕ) × (out ≡ told ++ more))
+      → (now : Option (List ℕ)) → now ≡ Some (before ++ told) → (status : Status)
+      → IsFaultStatus (number_of status) → Ends input before now status
   stopped told sure now written status fault = (told, written, inr (fault, sure))
 
-  module _ (front : List Command) (at : ℕ) (rest told : List ℕ) (in_order : IsInOrder front) (begins : Begins 0 input front at rest) (replies : AreAllReplies front told) where
+  module _ (front : List Command) (at : ℕ) (rest told : List ℕ) (in_order : IsInOrder front)
+      (begins : Begins 0 input front at rest) (replies : AreAllReplies front told) where
     -- a fault behind these commands
-    pub stopped_behind : (now : Option (List ℕ)) → now ≡ Some (before ++ told) → (status : Status) → IsFaultStatus (number_of status) → Ends input before now status
+    pub stopped_behind : (now : Option (List ℕ)) → now ≡ Some (before ++ told) → (status : Status)
+        → IsFaultStatus (number_of status) → Ends input before now status
     stopped_behind = stopped told (replies_come_first input front at rest told begins in_order replies)
 
     -- the last line of the session
-    pub last : (ending : Ending) → EndsAs front at rest ending → (old new : Option (List ℕ)) → old ≡ Some (before ++ told) → (wanted status : Status) → number_of wanted ≡ last_status ending → EndsWith old new (last_line ending) wanted status → Ends input before new status
+    pub last : (ending : Ending) → EndsAs front at rest ending → (old new : Option (List ℕ))
+        → old ≡ Some (before ++ told) → (wanted status : Status) → number_of wanted ≡ last_status ending
+        → EndsWith old new (last_line ending) wanted status → Ends input before new status
     last ending ends old new written wanted status final (inl h) = (
       told ++ last_line ending,
       h.0 (before ++ told) written ∙ ap Some (append_assoc before told (last_line ending)),
@@ -89,88 +110,123 @@ module _ (input before : List ℕ) where
         script : IsScript input front ending
         script = record { at = at; rest = rest; in_order = in_order; begins = begins; ends = ends }
 
-        sure : (out : List ℕ) (n : ℕ) → IsSession input out n → (more : List ℕ) × (out ≡ (told ++ last_line ending) ++ more)
-        sure out n s = ([], (replies_then_last_line input front ending told script replies out n s).0 ∙ sym (append-nil (told ++ last_line ending)))
+        sure : (out : List ℕ) (n : ℕ) → IsSession input out n
+            → (more : List ℕ) × (out ≡ (told ++ last_line ending) ++ more)
+        sure out n s =
+            let all = replies_then_last_line input front ending told script replies out n s in
+            ([], all.0 ∙ sym (append-nil (told ++ last_line ending)))
 
   -- one more command whose reply was cut short
-  pub cut_behind : (front : List Command) (at : ℕ) (rest told line : List ℕ) → IsInOrder front → Begins 0 input front at rest → AreAllReplies front (told ++ line) → (old new : Option (List ℕ)) → old ≡ Some (before ++ told) → GrowsByPrefix old new line → (status : Status) → IsFaultStatus (number_of status) → Ends input before new status
+  pub cut_behind : (front : List Command) (at : ℕ) (rest told line : List ℕ) → IsInOrder front
+      → Begins 0 input front at rest → AreAllReplies front (told ++ line) → (old new : Option (List ℕ))
+      → old ≡ Some (before ++ told) → GrowsByPrefix old new line → (status : Status)
+      → IsFaultStatus (number_of status) → Ends input before new status
   cut_behind front at rest told line in_order begins replies =
       cut_short told line (replies_come_first input front at rest (told ++ line) begins in_order replies)
 
   -- the last line cut short, or a fault, at a refused grammar
-  pub ended_at_grammar : (block : List ℕ) (at : ℕ) (rest : List ℕ) → Begins 0 input (header ∷ grammar block ∷ []) at rest → (old new : Option (List ℕ)) → old ≡ Some before → (status : Status) → EndsAtGrammar block old new status → Ends input before new status
+  pub ended_at_grammar : (block : List ℕ) (at : ℕ) (rest : List ℕ)
+      → Begins 0 input (header ∷ grammar block ∷ []) at rest → (old new : Option (List ℕ))
+      → old ≡ Some before → (status : Status) → EndsAtGrammar block old new status
+      → Ends input before new status
   ended_at_grammar block at rest begins old new written status h = by_status status h
     where
       none_yet : old ≡ Some (before ++ [])
       none_yet = written ∙ ap Some (sym (append-nil before))
 
-      by_line : (line : List ℕ) → IsGrammarLine block line → GrowsByPrefix old new line → (status : Status) → IsFaultStatus (number_of status) → Ends input before new status
+      by_line : (line : List ℕ) → IsGrammarLine block line → GrowsByPrefix old new line
+          → (status : Status) → IsFaultStatus (number_of status) → Ends input before new status
       by_line line (inl r) cut status fault =
-          cut_short [] line (λ out n s. ([], (refusal_is_all input block line at rest begins r out n s).0 ∙ sym (append-nil line))) old new none_yet cut status fault
+          cut_short [] line
+          (λ out n s. ([], (refusal_is_all input block line at rest begins r out n s).0 ∙ sym (append-nil line)))
+          old new none_yet cut status fault
       by_line line (inr a) cut status fault =
           let P : List ℕ → Type 0 = AreAllReplies (header ∷ grammar block ∷ []) in
-          cut_behind (header ∷ grammar block ∷ []) at rest [] line tt begins (subst P (sym a.2) (grammar_told a.0 block a.1)) old new none_yet cut status fault
+          cut_behind (header ∷ grammar block ∷ []) at rest [] line tt begins
+          (subst P (sym a.2) (grammar_told a.0 block a.1)) old new none_yet cut status fault
 
       by_status : (status : Status) → EndsAtGrammar block old new status → Ends input before new status
       by_status BadGrammar h = (h.0, h.2 before written, inl (refused block rest at begins h.1 refl))
       by_status WriteFault h = by_line h.0 h.1 h.2 WriteFault (inr (inl refl))
-      by_status OutOfMemory (inl h) = stopped [] (λ out n s. (out, refl)) new (h (before ++ []) none_yet) OutOfMemory (inr (inr refl))
+      by_status OutOfMemory (inl h) =
+          stopped [] (λ out n s. (out, refl)) new (h (before ++ []) none_yet) OutOfMemory (inr (inr refl))
       by_status OutOfMemory (inr h) = by_line h.0 h.1 h.2 OutOfMemory (inr (inr refl))
-      by_status Fine h = absurd h
+      by_status Ended h = absurd h
       by_status BadScript h = absurd h
       by_status ReadFault h = absurd h
 
   -- a fault at the text, behind a grammar that was accepted
-  pub ended_at_text : (block text : List ℕ) (g : Expansion) → IsAccepted block g → (mid : ℕ) (mid_rest : List ℕ) → Begins 0 input (header ∷ grammar block ∷ []) mid mid_rest → (at : ℕ) (rest : List ℕ) → Begins 0 input (header ∷ grammar block ∷ opens text ∷ []) at rest → (old new : Option (List ℕ)) → old ≡ Some (before ++ grammar_reply g) → (status : Status) → EndsAtText g text old new status → Ends input before new status
-  ended_at_text block text g accepted mid mid_rest mid_begins at rest begins old new written status h = by_status status h
+  pub ended_at_text : (block text : List ℕ) (g : Expansion) → IsAccepted block g
+      → (mid : ℕ) (mid_rest : List ℕ) → Begins 0 input (header ∷ grammar block ∷ []) mid mid_rest
+      → (at : ℕ) (rest : List ℕ) → Begins 0 input (header ∷ grammar block ∷ opens text ∷ []) at rest
+      → (old new : Option (List ℕ)) → old ≡ Some (before ++ grammar_reply g) → (status : Status)
+      → EndsAtText g text old new status → Ends input before new status
+  ended_at_text block text g accepted mid mid_rest mid_begins at rest begins old new written status h =
+      by_status status h
     where
-      sure : (line : List ℕ) → IsReply g [] (opens text) line → (out : List ℕ) (n : ℕ) → IsSession input out n → (more : List ℕ) × (out ≡ (grammar_reply g ++ line) ++ more)
+      sure : (line : List ℕ) → IsReply g [] (opens text) line → (out : List ℕ) (n : ℕ)
+          → IsSession input out n → (more : List ℕ) × (out ≡ (grammar_reply g ++ line) ++ more)
       sure line t out n s =
           let told = text_told g block text t.0 [] [] accepted t.1 refl in
-          let first = replies_come_first input (header ∷ grammar block ∷ opens text ∷ []) at rest _ begins tt told out n s in
+          let front : List Command = header ∷ grammar block ∷ opens text ∷ [] in
+          let first = replies_come_first input front at rest _ begins tt told out n s in
           let short : version_reply 0 (length t.0) ++ [] ≡ line = append-nil (version_reply 0 (length t.0)) ∙ sym t.2 in
           (first.0, first.1 ∙ ap (λ bytes. (grammar_reply g ++ bytes) ++ first.0) short)
 
-      by_line : (line : List ℕ) → IsReply g [] (opens text) line → GrowsByPrefix old new line → (status : Status) → IsFaultStatus (number_of status) → Ends input before new status
+      by_line : (line : List ℕ) → IsReply g [] (opens text) line → GrowsByPrefix old new line
+          → (status : Status) → IsFaultStatus (number_of status) → Ends input before new status
       by_line line t cut status fault = cut_short (grammar_reply g) line (sure line t) old new written cut status fault
 
       before_text : (out : List ℕ) (n : ℕ) → IsSession input out n → (more : List ℕ) × (out ≡ grammar_reply g ++ more)
-      before_text = replies_come_first input (header ∷ grammar block ∷ []) mid mid_rest (grammar_reply g) mid_begins tt (grammar_told g block accepted)
+      before_text =
+          replies_come_first input (header ∷ grammar block ∷ []) mid mid_rest (grammar_reply g)
+          mid_begins tt (grammar_told g block accepted)
 
       by_status : (status : Status) → EndsAtText g text old new status → Ends input before new status
       by_status WriteFault h = by_line h.0 h.1 h.2 WriteFault (inr (inl refl))
       by_status OutOfMemory (inl h) =
           stopped (grammar_reply g) before_text new (h (before ++ grammar_reply g) written) OutOfMemory (inr (inr refl))
       by_status OutOfMemory (inr h) = by_line h.0 h.1 h.2 OutOfMemory (inr (inr refl))
-      by_status Fine h = absurd h
+      by_status Ended h = absurd h
       by_status BadGrammar h = absurd h
       by_status BadScript h = absurd h
       by_status ReadFault h = absurd h
 
 -- no command that begins a line stands where no line comes
-no_line_no_command : (from to : ℕ) (old new : Option (List ℕ)) (line bytes : List ℕ) → NextLine from to old new line false → old ≡ Some bytes → (command : Command) (more : List ℕ) → from < 2 ^ 48 → IsWithinLimits command → bytes ≡ text_of command ++ more → ⊥
+no_line_no_command : (from to : ℕ) (old new : Option (List ℕ)) (line bytes : List ℕ)
+    → NextLine from to old new line false → old ≡ Some bytes → (command : Command) (more : List ℕ)
+    → from < 2 ^ 48 → IsWithinLimits command → bytes ≡ text_of command ++ more → ⊥
 no_line_no_command from to old new line bytes h is command more early w e =
-    h bytes is early (line_of command) (block_of command ++ more) (each_differs 10 (line_of command) (line_lacks_lf command w), line_is_short command w)
+    h bytes is early (line_of command) (block_of command ++ more)
+    (each_differs 10 (line_of command) (line_lacks_lf command w), line_is_short command w)
     (e ∙ append_assoc (line_of command) (10 ∷ block_of command) more)
 
 -- a line that comes is the line of the command that begins there
-line_of_command : (from to : ℕ) (old new : Option (List ℕ)) (line bytes : List ℕ) → NextLine from to old new line true → old ≡ Some bytes → (command : Command) (more : List ℕ) → IsWithinLimits command → bytes ≡ text_of command ++ more → line ≡ line_of command
+line_of_command : (from to : ℕ) (old new : Option (List ℕ)) (line bytes : List ℕ)
+    → NextLine from to old new line true → old ≡ Some bytes → (command : Command) (more : List ℕ)
+    → IsWithinLimits command → bytes ≡ text_of command ++ more → line ≡ line_of command
 line_of_command from to old new line bytes h is command more w e =
     let t = h.1 bytes is in
-    (command_line command line t.0 more w (lacks_if_each_differs 10 line h.2.0) (sym (append_assoc line (10 ∷ []) t.0) ∙ sym t.2 ∙ e)).0
+    let same = sym (append_assoc line (10 ∷ []) t.0) ∙ sym t.2 ∙ e in
+    (command_line command line t.0 more w (lacks_if_each_differs 10 line h.2.0) same).0
 
 end_is_line : IsLine 256 (codes "end")
 end_is_line = (each_differs 10 (codes "end") (tested 10 (codes "end") refl), omega arith)
 
 -- nor does the line `end`
-no_line_no_end : (from to : ℕ) (old new : Option (List ℕ)) (line bytes : List ℕ) → NextLine from to old new line false → old ≡ Some bytes → (more : List ℕ) → from < 2 ^ 48 → bytes ≡ codes "end" ++ (10 ∷ more) → ⊥
+no_line_no_end : (from to : ℕ) (old new : Option (List ℕ)) (line bytes : List ℕ)
+    → NextLine from to old new line false → old ≡ Some bytes → (more : List ℕ) → from < 2 ^ 48
+    → bytes ≡ codes "end" ++ (10 ∷ more) → ⊥
 no_line_no_end from to old new line bytes h is more early e = h bytes is early (codes "end") more end_is_line e
 
 -- a line that is none of these
-module _ (from to : ℕ) (old new : Option (List ℕ)) (line bytes : List ℕ) (h : NextLine from to old new line true) (is : old ≡ Some bytes) where
-  no_question : ReadsHas line None → (command : Command) (more : List ℕ) → from < 2 ^ 48 → AreQuestions (command ∷ []) → IsWithinLimits command → bytes ≡ text_of command ++ more → ⊥
+module _ (from to : ℕ) (old new : Option (List ℕ)) (line bytes : List ℕ)
+    (h : NextLine from to old new line true) (is : old ≡ Some bytes) where
+  no_question : ReadsHas line None → (command : Command) (more : List ℕ) → from < 2 ^ 48
+      → AreQuestions (command ∷ []) → IsWithinLimits command → bytes ≡ text_of command ++ more → ⊥
   no_question other (has constituent) more early q w e =
-      other constituent (record { nameable = w.0; spelled = line_of_command from to old new line bytes h is (has constituent) more w e })
+      let spelled = line_of_command from to old new line bytes h is (has constituent) more w e in
+      other constituent (record { nameable = w.0; spelled = spelled })
   no_question other header more early q w e = absurd q
   no_question other (grammar block) more early q w e = absurd q
   no_question other (opens text) more early q w e = absurd q
@@ -180,7 +236,9 @@ module _ (from to : ℕ) (old new : Option (List ℕ)) (line bytes : List ℕ) (
 
   no_end : (line ≡ codes "end" → ⊥) → (more : List ℕ) → from < 2 ^ 48 → bytes ≡ codes "end" ++ (10 ∷ more) → ⊥
   no_end other more early e =
-      other ((cut_same 10 line rest_of.0 (codes "end") more (lacks_if_each_differs 10 line h.2.0) (tested 10 (codes "end") refl) (sym rest_of.2 ∙ e)).0)
+      let same = cut_same 10 line rest_of.0 (codes "end") more
+      (lacks_if_each_differs 10 line h.2.0) (tested 10 (codes "end") refl) (sym rest_of.2 ∙ e) in
+      other same.0
 
   is_end : line ≡ codes "end" → (more : List ℕ) × (bytes ≡ codes "end" ++ (10 ∷ more))
   is_end e = (rest_of.0, rest_of.2 ∙ ap (λ word. word ++ (10 ∷ rest_of.0)) e)
@@ -195,7 +253,8 @@ module _ (from to : ℕ) (old new : Option (List ℕ)) (line bytes : List ℕ) (
   }
 
 -- a command behind questions, in order, is a question
-pub last_question : (questions : List Command) (command : Command) → AreQuestions (questions ++ command ∷ []) → AreQuestions (command ∷ [])
+pub last_question : (questions : List Command) (command : Command)
+    → AreQuestions (questions ++ command ∷ []) → AreQuestions (command ∷ [])
 last_question [] command h = h
 last_question (has constituent ∷ questions) command h = last_question questions command h
 last_question (header ∷ questions) command h = absurd h
@@ -213,31 +272,43 @@ module _ {input before : List ℕ} {coming : Option (List ℕ)} {at : ℕ} {now 
 
   all_replies : AreAllReplies front told
   unfolding front told
-  all_replies = text_told opened.language.grammar r.block r.text r.tokens r.questions r.replies r.accepted (r.is_opened).are_tokens r.are_replies
+  all_replies =
+      text_told opened.language.grammar r.block r.text r.tokens r.questions r.replies
+      r.accepted (r.is_opened).are_tokens r.are_replies
 
   -- a fault
   pub running_stopped : (status : Status) → IsFaultStatus (number_of status) → Ends input before now status
   unfolding front told
-  running_stopped status fault = stopped_behind input before front at r.rest told r.are_questions r.begins all_replies now r.has_written status fault
+  running_stopped status fault =
+      stopped_behind input before front at r.rest told r.are_questions r.begins all_replies
+      now r.has_written status fault
 
   -- neither a question nor the end follows
-  running_broken : (place : ℕ) → place ≡ at → ((command : Command) (more : List ℕ) → at < 2 ^ 48 → AreQuestions (command ∷ []) → IsWithinLimits command → r.rest ≡ text_of command ++ more → ⊥) → ((more : List ℕ) → at < 2 ^ 48 → r.rest ≡ codes "end" ++ (10 ∷ more) → ⊥) → (new : Option (List ℕ)) (status : Status) → EndsWith now new (last_line (broken place)) BadScript status → Ends input before new status
+  running_broken : (place : ℕ) → place ≡ at
+      → ((command : Command) (more : List ℕ) → at < 2 ^ 48 → AreQuestions (command ∷ [])
+      → IsWithinLimits command → r.rest ≡ text_of command ++ more → ⊥)
+      → ((more : List ℕ) → at < 2 ^ 48 → r.rest ≡ codes "end" ++ (10 ∷ more) → ⊥)
+      → (new : Option (List ℕ)) (status : Status)
+      → EndsWith now new (last_line (broken place)) BadScript status → Ends input before new status
   unfolding front told
   running_broken place e no_more no_end new status says =
       last input before front at r.rest told r.are_questions r.begins all_replies (broken place) (
         e,
-        (λ go. no_more go.command go.more go.early (last_question r.questions go.command go.in_order) go.within_limits go.spelled),
+        (λ go. no_more go.command go.more go.early
+            (last_question r.questions go.command go.in_order) go.within_limits go.spelled),
         (λ end. no_end end.more end.early end.spelled),
       )
       now new r.has_written BadScript status refl says
 
   -- the end follows
-  running_ended : (more : List ℕ) → at < 2 ^ 48 → r.rest ≡ codes "end" ++ (10 ∷ more) → (new : Option (List ℕ)) (status : Status) → EndsWith now new (last_line ended) Fine status → Ends input before new status
+  running_ended : (more : List ℕ) → at < 2 ^ 48 → r.rest ≡ codes "end" ++ (10 ∷ more)
+      → (new : Option (List ℕ)) (status : Status) → EndsWith now new (last_line ended) Ended status
+      → Ends input before new status
   unfolding front told
   running_ended more early e new status says =
       last input before front at r.rest told r.are_questions r.begins all_replies ended
       (record { more = more; early = early; complete = r.are_questions; spelled = e })
-      now new r.has_written Fine status refl says
+      now new r.has_written Ended status refl says
 
   -- a line is read, or none comes
   module _ (to : ℕ) (next : Option (List ℕ)) (line : List ℕ) where
@@ -262,7 +333,7 @@ module _ {input before : List ℕ} {coming : Option (List ℕ)} {at : ℕ} {now 
 
       -- the line `end` ends it
       pub end_line_ends : line ≡ codes "end" → (new : Option (List ℕ)) (status : Status)
-          → EndsWith now new (last_line ended) Fine status → Ends input before new status
+          → EndsWith now new (last_line ended) Ended status → Ends input before new status
       end_line_ends e =
           let end = is_end at to coming next line r.rest taken r.comes e in
           running_ended end.0 taken.0 end.1
@@ -282,20 +353,30 @@ module _ {input before : List ℕ} {coming : Option (List ℕ)} {at : ℕ} {now 
     behind : (more : List ℕ) × (later ≡ Some more) × (r.rest ≡ text_of (has constituent) ++ more)
     behind = taken.taken r.rest r.comes
 
-    begins_more : Begins 0 input (header ∷ grammar r.block ∷ opens r.text ∷ (r.questions ++ has constituent ∷ [])) to behind.0
-    begins_more = Begins-append 0 input (header ∷ grammar r.block ∷ opens r.text ∷ r.questions) at r.rest r.begins (has constituent) behind.0 taken.early taken.within_limits behind.2 to taken.offset
+    begins_more : Begins 0 input
+        (header ∷ grammar r.block ∷ opens r.text ∷ (r.questions ++ has constituent ∷ [])) to behind.0
+    begins_more =
+        Begins-append 0 input (header ∷ grammar r.block ∷ opens r.text ∷ r.questions) at r.rest r.begins
+        (has constituent) behind.0 taken.early taken.within_limits behind.2 to taken.offset
 
     are_more : AreQuestions (r.questions ++ has constituent ∷ [])
     are_more = questions_more r.questions (has constituent) r.are_questions tt
 
-    replies_are : AreReplies opened.language.grammar (r.text ∷ []) (r.questions ++ has constituent ∷ []) (r.replies ++ line)
-    replies_are = replies_more opened.language.grammar (r.text ∷ []) r.questions r.replies (has constituent) line r.are_questions r.are_replies (r.text, r.tokens, ([], refl), (r.is_opened).are_tokens, answer)
+    replies_are : AreReplies opened.language.grammar (r.text ∷ [])
+        (r.questions ++ has constituent ∷ []) (r.replies ++ line)
+    replies_are =
+        replies_more opened.language.grammar (r.text ∷ []) r.questions r.replies (has constituent) line
+        r.are_questions r.are_replies (r.text, r.tokens, ([], refl), (r.is_opened).are_tokens, answer)
 
-    longer : (told_more : List ℕ) → told ++ told_more ≡ grammar_reply opened.language.grammar ++ (version_reply 0 (length r.tokens) ++ (r.replies ++ told_more))
+    longer : (told_more : List ℕ)
+        → told ++ told_more
+        ≡ grammar_reply opened.language.grammar
+        ++ (version_reply 0 (length r.tokens) ++ (r.replies ++ told_more))
     unfolding told
     longer told_more =
         append_assoc (grammar_reply opened.language.grammar) (version_reply 0 (length r.tokens) ++ r.replies) told_more
-        ∙ ap (λ bytes. grammar_reply opened.language.grammar ++ bytes) (append_assoc (version_reply 0 (length r.tokens)) r.replies told_more)
+        ∙ ap (λ bytes. grammar_reply opened.language.grammar ++ bytes)
+        (append_assoc (version_reply 0 (length r.tokens)) r.replies told_more)
 
     pub running_answered : (new : Option (List ℕ)) → Grows now new line → Running input before later to new opened
     unfolding told
@@ -312,13 +393,18 @@ module _ {input before : List ℕ} {coming : Option (List ℕ)} {at : ℕ} {now 
       accepted = r.accepted;
       is_opened = r.is_opened;
       are_replies = replies_are;
-      has_written = grows (before ++ told) r.has_written ∙ ap Some (append_assoc before told line ∙ ap (λ bytes. before ++ bytes) (longer line));
+      has_written = grows (before ++ told) r.has_written
+          ∙ ap Some (append_assoc before told line ∙ ap (λ bytes. before ++ bytes) (longer line));
     }
 
-    pub running_cut : (new : Option (List ℕ)) → GrowsByPrefix now new line → (status : Status) → IsFaultStatus (number_of status) → Ends input before new status
+    pub running_cut : (new : Option (List ℕ)) → GrowsByPrefix now new line → (status : Status)
+        → IsFaultStatus (number_of status) → Ends input before new status
     unfolding told
     running_cut new cut status fault =
-        let P : List ℕ → Type 0 = AreAllReplies (header ∷ grammar r.block ∷ opens r.text ∷ (r.questions ++ has constituent ∷ [])) in
-        cut_behind input before (header ∷ grammar r.block ∷ opens r.text ∷ (r.questions ++ has constituent ∷ [])) to behind.0 told line are_more begins_more
-        (subst P (sym (longer line)) (text_told opened.language.grammar r.block r.text r.tokens (r.questions ++ has constituent ∷ []) (r.replies ++ line) r.accepted (r.is_opened).are_tokens replies_are))
+        let questions : List Command = r.questions ++ has constituent ∷ [] in
+        let commands : List Command = header ∷ grammar r.block ∷ opens r.text ∷ questions in
+        let P : List ℕ → Type 0 = AreAllReplies commands in
+        cut_behind input before commands to behind.0 told line are_more begins_more
+        (subst P (sym (longer line)) (text_told opened.language.grammar r.block r.text r.tokens questions
+        (r.replies ++ line) r.accepted (r.is_opened).are_tokens replies_are))
         now new r.has_written cut status fault

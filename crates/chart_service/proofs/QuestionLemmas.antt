@@ -1,6 +1,9 @@
 -- What the bytes behind a question's first word name, cut at their spaces from left to right.
-use Rattle.std.proofs.Common.{◌≡◌, ℕ, zero, suc, ◌^◌, ◌<◌, true, false, nat_eq, subst, List, [], ◌∷◌, ◌++◌, length, drop, codes, decimal, Contains, sym, ◌∙◌, ap, arith}
-use Rattle.spec_session.specs.Script.{AreOfWord, Constituent, entry_whole, category_whole, category_span, constituent_text}
+use Rattle.std.proofs.Common.{◌≡◌, ℕ, zero, suc, ◌^◌, ◌<◌, true, false, nat_eq, subst, List, []}
+use Rattle.std.proofs.Common.{◌∷◌, ◌++◌, length, drop, codes, decimal, Contains, sym, ◌∙◌, ap}
+use Rattle.std.proofs.Common.{arith}
+use Rattle.spec_session.specs.Script.{AreOfWord, Constituent, entry_whole, category_whole}
+use Rattle.spec_session.specs.Script.{category_span, constituent_text}
 use Rattle.spec_session.proofs.ScriptLemmas.{Lacks, each_differs, cut_same, digits_lack, word_lacks_space, has_space}
 use Rattle.cyk_io.specs.Lines.{HasNoLf}
 use Rattle.chart_service.specs.Forms.{IsNameOf, IsHas}

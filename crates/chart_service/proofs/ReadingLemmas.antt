@@ -1,25 +1,35 @@
 -- Lines and blocks in the bytes that come: a line has one first LF, and what follows a command's line is its block.
-use Rattle.std.proofs.Common.{◌≡◌, ℕ, suc, ◌+◌, ◌^◌, ◌<◌, ◌≤◌, List, [], ◌∷◌, ◌++◌, length, drop, get_or, decimal, codes, IsAscii, Vec, Global, MatchOption, option_map, Option, Some, None, Result, Ok, Err, IfOk, Bool, true, false, nat_eq, refl, sym, ◌∙◌, ap, subst, arith, append_assoc, length-append}
+use Rattle.std.proofs.Common.{◌≡◌, ℕ, suc, ◌+◌, ◌^◌, ◌<◌, ◌≤◌, List, [], ◌∷◌, ◌++◌, length, drop}
+use Rattle.std.proofs.Common.{get_or, decimal, codes, IsAscii, Vec, Global, MatchOption, option_map}
+use Rattle.std.proofs.Common.{Option, Some, None, Result, IfOk, Bool, true, false, nat_eq, refl}
+use Rattle.std.proofs.Common.{sym, ◌∙◌, ap, subst, arith, append_assoc, length-append}
 use lib.Pointwise.{pointwise, bytes_decides}
 use Rattle.std.specs.Bool.{then_some}
 use Rattle.std.specs.Option.{is_some}
 use Rattle.std.proofs.lemmas.Fmt.{decimal_injective}
 use Rattle.std.proofs.lemmas.List.{nil_from_length}
+use Rattle.std.proofs.lemmas.Result.{IfOk-weaker}
 use Rattle.cyk_io.specs.Streams.{Takes}
 use Rattle.cyk_io.specs.Lines.{HasNoLf, IsLine, LineReads}
 use Rattle.cyk_io.specs.Blocks.{BlockReads}
 use Rattle.cyk_io.specs.declared.block.ReadBlock.TheVariants.{Kept, Skipped}
 use Rattle.cyk_io.specs.declared.line.ReadLine.TheVariants.{LongLine, Ended}
 use Rattle.spec_session.specs.Script.{Command, header, grammar, opens, has, line_of, text_of, IsWithinLimits}
-use Rattle.spec_session.proofs.ScriptLemmas.{tested, each_differs, lacks_if_each_differs, lacks_joined, cut_same, same_rest, same_front, same_back, digits_lack, line_lacks_lf, line_is_short, command_line}
+use Rattle.spec_session.proofs.ScriptLemmas.{tested, each_differs, lacks_if_each_differs}
+use Rattle.spec_session.proofs.ScriptLemmas.{lacks_joined, cut_same, same_rest, same_front}
+use Rattle.spec_session.proofs.ScriptLemmas.{same_back, digits_lack, line_lacks_lf, line_is_short}
+use Rattle.spec_session.proofs.ScriptLemmas.{command_line}
 use Rattle.chart_service.specs.declared.status.Status.{Status}
 use Rattle.chart_service.specs.Forms.{ReadsCount}
 use Rattle.chart_service.specs.declared.reading.Block.{Block}
 use Rattle.chart_service.specs.declared.reading.Block.TheVariants.{TooLong}
-use Rattle.chart_service.specs.Reading.{NextLine, NextBlock, PassesBlock, IsBlock, Finds, NextCount, TakesCommand, NoneComes, IsHeader, IsGrammar, NextHeader, NextGrammar, NextText}
+use Rattle.chart_service.specs.Reading.{NextLine, NextBlock, PassesBlock, IsBlock, Finds, NextCount}
+use Rattle.chart_service.specs.Reading.{TakesCommand, NoneComes, IsHeader, IsGrammar, NextHeader}
+use Rattle.chart_service.specs.Reading.{NextGrammar, NextText}
 
 -- a line does not end within bytes that have no LF
-no_line_within : (front rest line more : List ℕ) → HasNoLf front → length line < length front → front ++ rest ≡ line ++ (10 ∷ more) → ⊥
+no_line_within : (front rest line more : List ℕ) → HasNoLf front → length line < length front
+    → front ++ rest ≡ line ++ (10 ∷ more) → ⊥
 no_line_within [] rest line more h lt e = omega arith
 no_line_within (x ∷ front) rest [] more h lt e = h 0 0 (omega arith) (ap (λ bytes. get_or bytes 0 0) e)
 no_line_within (x ∷ front) rest (y ∷ line) more h lt e =
@@ -27,14 +37,18 @@ no_line_within (x ∷ front) rest (y ∷ line) more h lt e =
 
 module _ (from to : ℕ) (old new : Option (List ℕ)) (line : List ℕ) where
   -- behind one byte more than a line may have, no line was begun
-  pub no_long_line : (at : ℕ) → LineReads 256 from to old new line (LongLine at) → (told : List ℕ) → old ≡ Some told → from < 2 ^ 48 → (wanted more : List ℕ) → IsLine 256 wanted → told ≡ wanted ++ (10 ∷ more) → ⊥
+  pub no_long_line : (at : ℕ) → LineReads 256 from to old new line (LongLine at) → (told : List ℕ)
+      → old ≡ Some told → from < 2 ^ 48 → (wanted more : List ℕ) → IsLine 256 wanted
+      → told ≡ wanted ++ (10 ∷ more) → ⊥
   no_long_line at h told is early wanted more w e =
       let t = h.1 told is in
       let size : length (line ++ h.0 ∷ []) ≡ length line + 1 = length-append line (h.0 ∷ []) in
       no_line_within (line ++ h.0 ∷ []) t.0 wanted more h.2 (omega (arith, w.1, h.3)) (sym t.2 ∙ e)
 
   -- nor before the end of the input, without an LF
-  pub no_ended_line : (at : ℕ) → LineReads 256 from to old new line (Ended at) → (told : List ℕ) → old ≡ Some told → from < 2 ^ 48 → (wanted more : List ℕ) → IsLine 256 wanted → told ≡ wanted ++ (10 ∷ more) → ⊥
+  pub no_ended_line : (at : ℕ) → LineReads 256 from to old new line (Ended at) → (told : List ℕ)
+      → old ≡ Some told → from < 2 ^ 48 → (wanted more : List ℕ) → IsLine 256 wanted
+      → told ≡ wanted ++ (10 ∷ more) → ⊥
   no_ended_line at h told is early wanted more w e =
       let t = h.0 told is in
       let nothing : t.0 ≡ [] = h.1 t.0 t.1 in
@@ -44,17 +58,21 @@ module _ (from to : ℕ) (old new : Option (List ℕ)) (line : List ℕ) where
 
 -- bytes that end in an LF are a block and an LF
 module _ (count from to : ℕ) (old new : Option (List ℕ)) where
-  pub block_taken : (bytes block : List ℕ) → BlockReads (count + 1) (count + 1) from to old new bytes Kept → bytes ≡ block ++ 10 ∷ [] → NextBlock count from to old new (Some block)
+  pub block_taken : (bytes block : List ℕ)
+      → BlockReads (count + 1) (count + 1) from to old new bytes Kept → bytes ≡ block ++ 10 ∷ []
+      → NextBlock count from to old new (Some block)
   block_taken bytes block h e =
       let size : length bytes ≡ length block + 1 = ap length e ∙ length-append block (10 ∷ []) in
       let P : List ℕ → Type 0 = Takes old new in
       (subst P e h.0, omega (arith, h.1), omega (arith, h.3))
 
   -- others are none
-  pub no_block : (bytes : List ℕ) → BlockReads (count + 1) (count + 1) from to old new bytes Kept → ((block : List ℕ) → bytes ≡ block ++ 10 ∷ [] → ⊥) → NextBlock count from to old new None
+  pub no_block : (bytes : List ℕ) → BlockReads (count + 1) (count + 1) from to old new bytes Kept
+      → ((block : List ℕ) → bytes ≡ block ++ 10 ∷ [] → ⊥) → NextBlock count from to old new None
   no_block bytes h other told is block more size e =
       let t = h.0 told is in
-      let long : length bytes ≡ length (block ++ 10 ∷ []) = h.1 ∙ sym (length-append block (10 ∷ []) ∙ ap (λ n. n + 1) size) in
+      let long : length bytes ≡ length (block ++ 10 ∷ []) =
+      h.1 ∙ sym (length-append block (10 ∷ []) ∙ ap (λ n. n + 1) size) in
       let whole : bytes ++ t.0 ≡ (block ++ 10 ∷ []) ++ more = sym t.2 ∙ e ∙ sym (append_assoc block (10 ∷ []) more) in
       other block (same_front bytes t.0 (block ++ 10 ∷ []) more long whole)
 
@@ -62,13 +80,9 @@ module _ (count from to : ℕ) (old new : Option (List ℕ)) where
 pub line_within : (command : Command) → IsWithinLimits command → IsLine 256 (line_of command)
 line_within command w = (each_differs 10 (line_of command) (line_lacks_lf command w), line_is_short command w)
 
--- a result that is Ok keeps more
-pub if_ok_more : {X E : Type 0} (P Q : X → Type 0) (r : Result X E) → ((x : X) → P x → Q x) → IfOk r P → IfOk r Q
-if_ok_more P Q (Ok x) more h = more x h
-if_ok_more P Q (Err e) more h = tt
-
 -- bytes that are taken in turn
-pub takes_both : (old mid new : Option (List ℕ)) (first second : List ℕ) → Takes old mid first → Takes mid new second → Takes old new (first ++ second)
+pub takes_both : (old mid new : Option (List ℕ)) (first second : List ℕ) → Takes old mid first
+    → Takes mid new second → Takes old new (first ++ second)
 takes_both old mid new first second a b told is =
     let t = a told is in
     let u = b t.0 t.1 in
@@ -247,15 +261,18 @@ module _ (beginning : List ℕ) (most from mid_at to : ℕ) (old mid new : Optio
 
 -- the commands by their lines
 module _ (from : ℕ) (old : Option (List ℕ)) where
-  pub no_header_line : (to : ℕ) (new : Option (List ℕ)) (line : List ℕ) → NextLine from to old new line false → NoneComes IsHeader from old
-  no_header_line to new line h told is early header more one w e = h told is early (line_of header) more (line_within header w) (e ∙ append_assoc (line_of header) (10 ∷ []) more)
+  pub no_header_line : (to : ℕ) (new : Option (List ℕ)) (line : List ℕ)
+      → NextLine from to old new line false → NoneComes IsHeader from old
+  no_header_line to new line h told is early header more one w e =
+      h told is early (line_of header) more (line_within header w) (e ∙ append_assoc (line_of header) (10 ∷ []) more)
   no_header_line to new line h told is early (grammar block) more one w e = absurd one
   no_header_line to new line h told is early (opens text) more one w e = absurd one
   no_header_line to new line h told is early (has constituent) more one w e = absurd one
 
   module _ (to : ℕ) (new : Option (List ℕ)) where
     -- the line `script 1`, or another
-    pub header_line : (line : List ℕ) → NextLine from to old new line true → line ≡ codes "script 1" → TakesCommand from to old new header
+    pub header_line : (line : List ℕ) → NextLine from to old new line true → line ≡ codes "script 1"
+        → TakesCommand from to old new header
     header_line line h e = let P : List ℕ → Type 0 = λ bytes. Takes old new (bytes ++ 10 ∷ []) in record {
       early = h.0;
       within_limits = tt;
@@ -263,25 +280,31 @@ module _ (from : ℕ) (old : Option (List ℕ)) where
       offset = omega (arith, h.3, ap length e);
     }
 
-    pub other_line : (line : List ℕ) → NextLine from to old new line true → (line ≡ codes "script 1" → ⊥) → NoneComes IsHeader from old
+    pub other_line : (line : List ℕ) → NextLine from to old new line true
+        → (line ≡ codes "script 1" → ⊥) → NoneComes IsHeader from old
     other_line line h other told is early header more one w e =
         let t = h.1 told is in
-        other ((command_line header line t.0 more w (lacks_if_each_differs 10 line h.2.0) (sym (append_assoc line (10 ∷ []) t.0) ∙ sym t.2 ∙ e)).0)
+        let whole = sym (append_assoc line (10 ∷ []) t.0) ∙ sym t.2 ∙ e in
+        other (command_line header line t.0 more w (lacks_if_each_differs 10 line h.2.0) whole).0
     other_line line h other told is early (grammar block) more one w e = absurd one
     other_line line h other told is early (opens text) more one w e = absurd one
     other_line line h other told is early (has constituent) more one w e = absurd one
 
     -- a grammar
-    grammar_taken : (block : List ℕ) → NextCounted (codes "grammar ") 999999999 from to old new (Some block) → TakesCommand from to old new (grammar block)
+    grammar_taken : (block : List ℕ)
+        → NextCounted (codes "grammar ") 999999999 from to old new (Some block)
+        → TakesCommand from to old new (grammar block)
     grammar_taken block h = record { early = h.0; within_limits = omega (arith, h.1); taken = h.2; offset = h.3 }
 
     no_grammar : NextCounted (codes "grammar ") 999999999 from to old new None → NoneComes IsGrammar from old
     no_grammar h told is early header more one w e = absurd one
-    no_grammar h told is early (grammar block) more one w e = h told is early block more (omega (arith, w)) (line_within (grammar block) w) e
+    no_grammar h told is early (grammar block) more one w e =
+        h told is early block more (omega (arith, w)) (line_within (grammar block) w) e
     no_grammar h told is early (opens text) more one w e = absurd one
     no_grammar h told is early (has constituent) more one w e = absurd one
 
-    next_grammar : (r : Option (List ℕ)) → NextCounted (codes "grammar ") 999999999 from to old new r → NextGrammar from to old new r
+    next_grammar : (r : Option (List ℕ)) → NextCounted (codes "grammar ") 999999999 from to old new r
+        → NextGrammar from to old new r
     next_grammar (Some block) h = grammar_taken block h
     next_grammar None h = no_grammar h
 
@@ -300,12 +323,13 @@ module _ (from : ℕ) (old : Option (List ℕ)) where
       grammar_behind count taken r h =
           let IsBehind : Option (List ℕ) → Type 0 = NextBlock count mid_at to mid new in
           let IsNext : Option (List ℕ) → Type 0 = NextGrammar from to old new in
-          if_ok_more (Finds 65536 IsBehind) (Finds 65536 IsNext) r
+          IfOk-weaker r (Finds 65536 IsBehind) (Finds 65536 IsNext)
           (finds_more 65536 IsBehind IsNext (λ next is. next_grammar next
           (counted (codes "grammar ") 999999999 from mid_at to old mid new count (omega arith) taken next is))) h
 
     -- a text
-    next_text : (text : List ℕ) → NextCounted (codes "open ") 4096 from to old new (Some text) → IsAscii text → NextText from to old new (Some text)
+    next_text : (text : List ℕ) → NextCounted (codes "open ") 4096 from to old new (Some text)
+        → IsAscii text → NextText from to old new (Some text)
     next_text text h ascii = record { early = h.0; within_limits = (h.1, ascii); taken = h.2; offset = h.3 }
 
     no_text : NextCounted (codes "open ") 4096 from to old new None → NextText from to old new None
@@ -314,27 +338,40 @@ module _ (from : ℕ) (old : Option (List ℕ)) where
     no_text h told is early (opens text) more one w e = h told is early text more w.0 (line_within (opens text) w) e
     no_text h told is early (has constituent) more one w e = absurd one
 
-    no_ascii_text : (text : List ℕ) → NextCounted (codes "open ") 4096 from to old new (Some text) → (IsAscii text → ⊥) → NextText from to old new None
+    no_ascii_text : (text : List ℕ) → NextCounted (codes "open ") 4096 from to old new (Some text)
+        → (IsAscii text → ⊥) → NextText from to old new None
     no_ascii_text text h other told is early header more one w e = absurd one
     no_ascii_text text h other told is early (grammar block) more one w e = absurd one
     no_ascii_text text h other told is early (opens wanted) more one w e =
         let t = h.2 told is in
-        let lacks = lacks_joined 10 (codes "open ") (decimal (length text)) (tested 10 (codes "open ") refl) (digits_lack (length text) 10 (omega (arith, h.1)) (omega arith)) in
-        let front : (codes "open " ++ decimal (length text)) ++ (10 ∷ ((text ++ 10 ∷ []) ++ t.0)) ≡ text_of (opens wanted) ++ more = sym (append_assoc (codes "open " ++ decimal (length text)) (10 ∷ (text ++ 10 ∷ [])) t.0) ∙ sym t.2 ∙ e in
-        let parts = command_line (opens wanted) (codes "open " ++ decimal (length text)) ((text ++ 10 ∷ []) ++ t.0) more w lacks front in
-        let digits : decimal (length text) ≡ decimal (length wanted) = same_rest (codes "open ") (decimal (length text)) (decimal (length wanted)) parts.0 in
-        let size : length text ≡ length wanted = decimal_injective (length text) (length wanted) (omega (arith, h.1)) (omega (arith, w.0)) digits in
-        let same : text ≡ wanted = same_front text ((10 ∷ []) ++ t.0) wanted ((10 ∷ []) ++ more) size (sym (append_assoc text (10 ∷ []) t.0) ∙ parts.1 ∙ append_assoc wanted (10 ∷ []) more) in
+        let line : List ℕ = codes "open " ++ decimal (length text) in
+        let lacks = lacks_joined 10 (codes "open ") (decimal (length text))
+        (tested 10 (codes "open ") refl) (digits_lack (length text) 10 (omega (arith, h.1)) (omega arith)) in
+        let front : line ++ (10 ∷ ((text ++ 10 ∷ []) ++ t.0)) ≡ text_of (opens wanted) ++ more =
+        sym (append_assoc line (10 ∷ (text ++ 10 ∷ [])) t.0) ∙ sym t.2 ∙ e in
+        let parts = command_line (opens wanted) line ((text ++ 10 ∷ []) ++ t.0) more w lacks front in
+        let digits : decimal (length text) ≡ decimal (length wanted) =
+        same_rest (codes "open ") (decimal (length text)) (decimal (length wanted)) parts.0 in
+        let size : length text ≡ length wanted =
+        decimal_injective (length text) (length wanted) (omega (arith, h.1)) (omega (arith, w.0)) digits in
+        let same : text ≡ wanted = same_front text ((10 ∷ []) ++ t.0) wanted ((10 ∷ []) ++ more) size
+        (sym (append_assoc text (10 ∷ []) t.0) ∙ parts.1 ∙ append_assoc wanted (10 ∷ []) more) in
         other (subst IsAscii (sym same) w.1)
     no_ascii_text text h other told is early (has constituent) more one w e = absurd one
 
     -- the line, by the code's test
-    pub by_test : (line text : List ℕ) (found : Bool) → NextLine from to old new line true → text ≡ line → found ≡ pointwise nat_eq text (codes "script 1") → NextHeader from to old new found
+    pub by_test : (line text : List ℕ) (found : Bool) → NextLine from to old new line true → text ≡ line
+        → found ≡ pointwise nat_eq text (codes "script 1") → NextHeader from to old new found
     by_test line text true h e f = header_line line h (sym e ∙ (bytes_decides text (codes "script 1")).0 (sym f))
-    by_test line text false h e f = other_line line h (λ same. let now : pointwise nat_eq text (codes "script 1") ≡ true = (bytes_decides text (codes "script 1")).1 (e ∙ same) in let never : false ≡ true = f ∙ now in cc)
+    by_test line text false h e f =
+        let decides = bytes_decides text (codes "script 1") in
+        other_line line h (λ same. let never : false ≡ true = f ∙ decides.1 (e ∙ same) in cc)
 
     -- the text, by the code's test
-    by_ascii : (text : List ℕ) → NextCounted (codes "open ") 4096 from to old new (Some text) → (r : Option (Vec ℕ Global)) → MatchOption r (IsAscii text → ⊥) (λ same. (same.items ≡ text) × IsAscii same.items) → NextText from to old new (option_map (λ t. t.items) r)
+    by_ascii : (text : List ℕ) → NextCounted (codes "open ") 4096 from to old new (Some text)
+        → (r : Option (Vec ℕ Global))
+        → MatchOption r (IsAscii text → ⊥) (λ same. (same.items ≡ text) × IsAscii same.items)
+        → NextText from to old new (option_map (λ t. t.items) r)
     by_ascii text h None other = no_ascii_text text h other
     by_ascii text h (Some same) is =
         let P : List ℕ → Type 0 = λ bytes. NextCounted (codes "open ") 4096 from to old new (Some bytes) in

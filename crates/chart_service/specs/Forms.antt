@@ -1,6 +1,7 @@
 -- Serves the proofs alone: what a line of a script is found to be.
 use Rattle.std.specs.Prelude.{◌≡◌, ℕ, ◌^◌, ◌<◌, ◌≤◌, List, ◌∷◌, ◌++◌, length, slice_index, true}
-use Rattle.std.specs.Prelude.{codes, decimal, Option, Some, None, Contains}
+use Rattle.std.specs.Prelude.{codes, decimal, Option, Some, None, MatchOption, Contains}
+use Rattle.std.specs.Borrow.{Bor}
 use Rattle.std.specs.List.{list_all}
 use Rattle.std.specs.Char.{is_ascii_digit}
 use Rattle.spec_session.specs.Script.{Constituent as Named, entry_whole, category_whole}
@@ -22,9 +23,10 @@ ReadsNumber word None = (n : ℕ) → n < 10 ^ 9 → word ≡ decimal n → ⊥
 ReadsNumber word (Some n) = (n < 10 ^ 9) × (word ≡ decimal n)
 
 -- the line is the beginning and the rest, or does not begin so
-abbrev pub ReadsBehind : List ℕ → List ℕ → Option (List ℕ) → Type 0
-ReadsBehind line beginning None = (rest : List ℕ) → line ≡ beginning ++ rest → ⊥
-ReadsBehind line beginning (Some rest) = line ≡ beginning ++ rest
+abbrev pub ReadsBehind : List ℕ → List ℕ → Option (Bor (List ℕ)) → Type 0
+ReadsBehind line beginning rest =
+    MatchOption rest ((other : List ℕ) → line ≡ beginning ++ other → ⊥)
+    (λ bytes. line ≡ beginning ++ bytes.now)
 
 -- the line is this beginning and a number that is not above the bound, or no such line
 abbrev pub ReadsCount : List ℕ → List ℕ → ℕ → Option ℕ → Type 0

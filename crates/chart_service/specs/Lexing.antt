@@ -6,6 +6,8 @@ use Rattle.spec_lexing.specs.declared.token.Token.{Token}
 use Rattle.spec_lexing.specs.LongestMatch.{IsLongestMatch, IsUnmatched}
 use Rattle.spec_lexing.specs.Tokens.{AreTokensFrom}
 use Rattle.spec_lexing.specs.Kinds.{LexKind, Matches, MatchesDef, token_kind, lex_kinds}
+use Rattle.chart_service.specs.declared.lexing.Matched.{Matched}
+use Rattle.chart_service.specs.declared.lexing.Matched.TheVariants.{White, Kind}
 use Rattle.chart_service.specs.declared.lexing.LongestMatch.{LongestMatch}
 use Rattle.chart_service.specs.declared.lexing.Step.{Step}
 
@@ -27,14 +29,19 @@ abbrev pub IsKindEnd : KindDef → List ℕ → ℕ → Option ℕ → Type 0
 IsKindEnd kind text start end =
     MatchOption end (IsNowhere kind text start) (IsLongestOfKind kind text start)
 
--- the match is the longest at start, and its kind bears this number
+-- the kind of the token that the match gives, and None for white space
+abbrev pub kind_of : Matched → Option ℕ
+kind_of White = None
+kind_of (Kind number) = Some number
+
+-- the match is the longest at start, and is of white space or of the kind of this number
 pub record IsLongest (kinds : List KindDef) (text : List ℕ) (start : ℕ)
     (found : LongestMatch) : Type 0 where
   pub order : ℕ
   pub kind : LexKind
   pub is_longest : IsLongestMatch Matches (lex_kinds kinds) text order start found.end
   pub stands : slice_get (lex_kinds kinds) order ≡ Some kind
-  pub number : token_kind kind ≡ found.kind
+  pub number : token_kind kind ≡ kind_of found.matched
 
 -- this is the longest match at start, or nothing matches there
 abbrev pub IsBest : List KindDef → List ℕ → ℕ → Option LongestMatch → Type 0

@@ -26,7 +26,7 @@ use Rattle.chart_service.specs.declared.opening.LanguageFault.TheVariants.{Text,
 use Rattle.chart_service.specs.declared.language.Language.{Language}
 use Rattle.chart_service.specs.declared.opening.Opened.{Opened}
 use Rattle.chart_service.specs.declared.status.Status.{Status}
-use Rattle.chart_service.specs.declared.status.Status.TheVariants.{Ok as Fine, BadGrammar}
+use Rattle.chart_service.specs.declared.status.Status.TheVariants.{Ended, BadGrammar}
 use Rattle.chart_service.specs.declared.status.Status.TheVariants.{BadScript, ReadFault, WriteFault}
 use Rattle.chart_service.specs.declared.status.Status.TheVariants.{OutOfMemory}
 
@@ -87,7 +87,7 @@ EndsAtGrammar block old new WriteFault =
     (line : List ℕ) × IsGrammarLine block line × GrowsByPrefix old new line
 EndsAtGrammar block old new OutOfMemory =
     Stays old new ⊎ ((line : List ℕ) × IsGrammarLine block line × GrowsByPrefix old new line)
-EndsAtGrammar block old new Fine = ⊥
+EndsAtGrammar block old new Ended = ⊥
 EndsAtGrammar block old new BadScript = ⊥
 EndsAtGrammar block old new ReadFault = ⊥
 
@@ -104,7 +104,7 @@ EndsAtText g text old new WriteFault =
     (line : List ℕ) × IsReply g [] (opens text) line × GrowsByPrefix old new line
 EndsAtText g text old new OutOfMemory =
     Stays old new ⊎ ((line : List ℕ) × IsReply g [] (opens text) line × GrowsByPrefix old new line)
-EndsAtText g text old new Fine = ⊥
+EndsAtText g text old new Ended = ⊥
 EndsAtText g text old new BadGrammar = ⊥
 EndsAtText g text old new BadScript = ⊥
 EndsAtText g text old new ReadFault = ⊥

@@ -1,11 +1,21 @@
 -- Serves the proofs alone: what is found where the next command of a script is read.
 use Rattle.std.specs.Prelude.{◌≡◌, ℕ, ◌+◌, ◌^◌, ◌<◌, ◌≤◌, List, [], ◌∷◌, ◌++◌, length, decimal}
-use Rattle.std.specs.Prelude.{Bool, true, false, Option, None, Some}
+use Rattle.std.specs.Prelude.{Bool, true, false, Option, None, Some, Result, IfErr, IsErrOf}
+use Rattle.cyk_io.specs.Causes.{HasCause}
 use Rattle.cyk_io.specs.Streams.{Takes}
 use Rattle.cyk_io.specs.Lines.{IsLine}
 use Rattle.spec_session.specs.Script.{Command, header, grammar, opens, has, text_of, IsWithinLimits}
 use Rattle.chart_service.specs.declared.reading.Block.{Block}
 use Rattle.chart_service.specs.declared.reading.Block.TheVariants.{Kept, TooLong}
+use Rattle.chart_service.specs.declared.status.Status.{Status}
+use Rattle.chart_service.specs.declared.status.Status.TheVariants.{ReadFault}
+use Rattle.chart_service.specs.Statuses.{IsReadStop}
+
+-- an error is the status of a failed read or of want of memory, and that of a failed read only
+-- where the source's count of faults has risen
+pub record StopsAtRead {X : Type 0} (result : Result X Status) (before after : ℕ) : Type 0 where
+  pub err : IfErr result IsReadStop
+  pub cause : HasCause before after (IsErrOf result ReadFault)
 
 -- a line was taken, or none of at most 256 bytes begins at this offset, below 2 ^ 48
 abbrev pub NextLine : ℕ → ℕ → Option (List ℕ) → Option (List ℕ) → List ℕ → Bool → Type 0

@@ -1,13 +1,13 @@
 -- Serves the proofs alone: the number of each status.
 use Rattle.std.specs.Prelude.{ℕ}
 use Rattle.chart_service.specs.declared.status.Status.{Status}
-use Rattle.chart_service.specs.declared.status.Status.TheVariants.{Ok as Fine, BadGrammar}
+use Rattle.chart_service.specs.declared.status.Status.TheVariants.{Ended, BadGrammar}
 use Rattle.chart_service.specs.declared.status.Status.TheVariants.{BadScript, ReadFault, WriteFault}
 use Rattle.chart_service.specs.declared.status.Status.TheVariants.{OutOfMemory}
 
 -- the exit status
 abbrev pub number_of : Status → ℕ
-number_of Fine = 0
+number_of Ended = 0
 number_of BadGrammar = 2
 number_of BadScript = 3
 number_of ReadFault = 4
@@ -16,7 +16,7 @@ number_of OutOfMemory = 6
 
 -- a status that a failed read may end with
 abbrev pub IsReadStop : Status → Type 0
-IsReadStop Fine = ⊥
+IsReadStop Ended = ⊥
 IsReadStop BadGrammar = ⊥
 IsReadStop BadScript = ⊥
 IsReadStop ReadFault = Unit {0}
@@ -25,7 +25,7 @@ IsReadStop OutOfMemory = Unit {0}
 
 -- a status that a failed write may end with
 abbrev pub IsWriteStop : Status → Type 0
-IsWriteStop Fine = ⊥
+IsWriteStop Ended = ⊥
 IsWriteStop BadGrammar = ⊥
 IsWriteStop BadScript = ⊥
 IsWriteStop ReadFault = ⊥

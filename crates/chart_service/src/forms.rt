@@ -74,7 +74,7 @@ pub(crate) fn number(word: &[u8]) -> Option<u32>
 
 /// The bytes behind the beginning, where the line begins so.
 fn behind<'a>(line: &'a [u8], beginning: &[u8]) -> Option<&'a [u8]>
-    ensures { ReadsBehind line.now beginning.now (option_map (λ rest. rest.now) result) }
+    ensures { ReadsBehind line.now beginning.now result }
 {
     line.strip_prefix(beginning)
 }
@@ -159,8 +159,5 @@ pub(crate) fn question_of(line: &[u8]) -> Option<Question<'_>>
     if line == b"end".as_slice() {
         return Some(Question::End);
     }
-    match has_question(line) {
-        Some(constituent) => Some(Question::Has(constituent)),
-        None => None,
-    }
+    has_question(line).map(Question::Has)
 }

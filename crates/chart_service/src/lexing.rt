@@ -10,10 +10,19 @@ ghost use Rattle.chart_service.specs.Lexing.{IsKindEnd, IsBest, IsStep};
 use spec_lexing::{KindDef, Token};
 use std::alloc::{AllocError, Global};
 
-/// A longest match: the number of its kind, None for white space, and where it ends.
+/// What a longest match is of.
+#[derive(Clone, Copy)]
+enum Matched {
+    /// One byte of white space.
+    White,
+    /// The kind of this number.
+    Kind(u16),
+}
+
+/// A longest match: what it is of, and where it ends.
 #[derive(Clone, Copy)]
 struct LongestMatch {
-    kind: Option<u16>,
+    matched: Matched,
     end: usize,
 }
 
@@ -40,7 +49,7 @@ fn kind_end(kind: &KindDef, text: &[u8], start: usize) -> Option<usize>
     }
 }
 
-/// Where the word ends that stands at start. None if it does not, or has no byte.
+/// The end of the word if it stands at `start`; None if it does not, or is empty.
 fn word_end(word: &[u8], text: &[u8], start: usize) -> Option<usize>
     requires { start ≤ length text.now }
     ensures { IsKindEnd (Word word.now) text.now start result }
@@ -62,7 +71,7 @@ fn white_match(text: &[u8], start: usize) -> Option<LongestMatch>
 {
     if is_white(text[start]) {
         Some(LongestMatch {
-            kind: None,
+            matched: Matched::White,
             end: start + 1,
         })
     } else {
@@ -88,7 +97,7 @@ fn with_kind(
         return best;
     };
     let next = LongestMatch {
-        kind: Some(number as u16),
+        matched: Matched::Kind(number as u16),
         end,
     };
     match best {
@@ -128,13 +137,13 @@ fn step_at(kinds: &[KindDef], text: &[u8], start: usize) -> Step
             end,
         };
     };
-    let token = match found.kind {
-        Some(kind) => Some(Token {
+    let token = match found.matched {
+        Matched::Kind(kind) => Some(Token {
             kind: Some(kind),
             first: start,
             end: found.end,
         }),
-        None => None,
+        Matched::White => None,
     };
     Step {
         token,

@@ -1,4 +1,4 @@
-//! The options of a run.
+//! The options of a run. No option has an effect yet.
 
 /// The options of a run, as the words of the command line give them.
 #[derive(Clone, Copy, Debug, PartialEq, Eq)]

@@ -1,12 +1,9 @@
 //! Reading the commands of a script from a source, one line and block at a time.
 ghost use Rattle.std.specs.Prelude.{◌≡◌, ◌+◌, ◌^◌, ◌<◌, ◌≤◌, ◌++◌, ◌∷◌, [], ℕ, List, length};
-ghost use Rattle.std.specs.Prelude.{IsTrue, IsErr, IsErrOf, IfOk, IfErr, IsAscii, MatchOption};
-ghost use Rattle.std.specs.Prelude.{option_map};
-ghost use Rattle.cyk_io.specs.Causes.{HasCause};
+ghost use Rattle.std.specs.Prelude.{IsTrue, IfOk, IsAscii, MatchOption, option_map};
 ghost use Rattle.cyk_io.specs.Streams.{IsAtEnd, coming};
-ghost use Rattle.chart_service.specs.Statuses.{IsReadStop};
-ghost use Rattle.chart_service.specs.Reading.{NextLine, NextBlock, NextCount, NextHeader};
-ghost use Rattle.chart_service.specs.Reading.{NextGrammar, NextText, PassesBlock, Finds};
+ghost use Rattle.chart_service.specs.Reading.{StopsAtRead, NextLine, NextBlock, PassesBlock};
+ghost use Rattle.chart_service.specs.Reading.{NextCount, NextHeader, NextGrammar, NextText, Finds};
 
 use crate::forms::count_behind;
 use crate::status::Status;
@@ -44,13 +41,11 @@ pub(crate) fn next_line<S: Source>(
     ahead: &mut Ahead,
     line: &mut Line<MAX_LINE>,
 ) -> Result<bool, Status>
-    requires room { ahead.old.offset < 2 ^ 62 }
+    requires early { ahead.old.offset < 2 ^ 62 }
     requires end { IsTrue ahead.old.ended → IsAtEnd (S.left source.old) }
     ensures ok { IfOk result (NextLine ahead.old.offset ahead.new.offset
         (coming ahead.old (S.left source.old)) (coming ahead.new (S.left source.new)) line.new) }
-    ensures err { IfErr result IsReadStop }
-    ensures cause { HasCause (S.faults source.old) (S.faults source.new)
-        (IsErrOf result Status.ReadFault) }
+    ensures stop { StopsAtRead result (S.faults source.old) (S.faults source.new) }
     ensures end { IsTrue ahead.new.ended → IsAtEnd (S.left source.new) }
     ensures range { ahead.new.offset ≤ ahead.old.offset + 257 }
 {
@@ -71,13 +66,11 @@ pub(crate) fn read_header<S: Source>(
     ahead: &mut Ahead,
     line: &mut Line<MAX_LINE>,
 ) -> Result<bool, Status>
-    requires room { ahead.old.offset < 2 ^ 62 }
+    requires early { ahead.old.offset < 2 ^ 62 }
     requires end { IsTrue ahead.old.ended → IsAtEnd (S.left source.old) }
     ensures ok { IfOk result (NextHeader ahead.old.offset ahead.new.offset
         (coming ahead.old (S.left source.old)) (coming ahead.new (S.left source.new))) }
-    ensures err { IfErr result IsReadStop }
-    ensures cause { HasCause (S.faults source.old) (S.faults source.new)
-        (IsErrOf result Status.ReadFault) }
+    ensures stop { StopsAtRead result (S.faults source.old) (S.faults source.new) }
     ensures end { IsTrue ahead.new.ended → IsAtEnd (S.left source.new) }
     ensures range { ahead.new.offset ≤ ahead.old.offset + 257 }
 {
@@ -106,14 +99,12 @@ fn keep_block<S: Source>(
     ahead: &mut Ahead,
     count: u32,
 ) -> Result<Option<Vec<u8>>, Status>
-    requires room { ahead.old.offset < 2 ^ 62 }
+    requires early { ahead.old.offset < 2 ^ 62 }
     requires end { IsTrue ahead.old.ended → IsAtEnd (S.left source.old) }
     ensures ok { IfOk result (λ block. NextBlock count ahead.old.offset ahead.new.offset
         (coming ahead.old (S.left source.old)) (coming ahead.new (S.left source.new))
         (option_map (λ b. b.items) block)) }
-    ensures err { IfErr result IsReadStop }
-    ensures cause { HasCause (S.faults source.old) (S.faults source.new)
-        (IsErrOf result Status.ReadFault) }
+    ensures stop { StopsAtRead result (S.faults source.old) (S.faults source.new) }
     ensures end { IsTrue ahead.new.ended → IsAtEnd (S.left source.new) }
 {
     let whole = u64::from(count) + 1;
@@ -134,13 +125,11 @@ fn pass_block<S: Source>(
     count: u32,
 ) -> Result<bool, Status>
     requires some { 0 < count }
-    requires room { ahead.old.offset < 2 ^ 61 }
+    requires early { ahead.old.offset < 2 ^ 61 }
     requires end { IsTrue ahead.old.ended → IsAtEnd (S.left source.old) }
     ensures ok { IfOk result (PassesBlock count ahead.old.offset ahead.new.offset
         (coming ahead.old (S.left source.old)) (coming ahead.new (S.left source.new))) }
-    ensures err { IfErr result IsReadStop }
-    ensures cause { HasCause (S.faults source.old) (S.faults source.new)
-        (IsErrOf result Status.ReadFault) }
+    ensures stop { StopsAtRead result (S.faults source.old) (S.faults source.new) }
     ensures end { IsTrue ahead.new.ended → IsAtEnd (S.left source.new) }
 {
     let mut bytes = Vec::new(alloc);
@@ -163,13 +152,11 @@ fn read_count<S: Source>(
     most: u32,
 ) -> Result<Option<u32>, Status>
     requires most { most < 10 ^ 9 }
-    requires room { ahead.old.offset < 2 ^ 62 }
+    requires early { ahead.old.offset < 2 ^ 62 }
     requires end { IsTrue ahead.old.ended → IsAtEnd (S.left source.old) }
     ensures ok { IfOk result (NextCount beginning.now most ahead.old.offset ahead.new.offset
         (coming ahead.old (S.left source.old)) (coming ahead.new (S.left source.new))) }
-    ensures err { IfErr result IsReadStop }
-    ensures cause { HasCause (S.faults source.old) (S.faults source.new)
-        (IsErrOf result Status.ReadFault) }
+    ensures stop { StopsAtRead result (S.faults source.old) (S.faults source.new) }
     ensures end { IsTrue ahead.new.ended → IsAtEnd (S.left source.new) }
     ensures range { ahead.new.offset ≤ ahead.old.offset + 257 }
 {
@@ -187,23 +174,19 @@ fn read_block<S: Source>(
     ahead: &mut Ahead,
     count: u32,
 ) -> Result<Option<Block>, Status>
-    requires room { ahead.old.offset < 2 ^ 61 }
+    requires early { ahead.old.offset < 2 ^ 61 }
     requires end { IsTrue ahead.old.ended → IsAtEnd (S.left source.old) }
     ensures ok { IfOk result (Finds 65536 (NextBlock count ahead.old.offset ahead.new.offset
         (coming ahead.old (S.left source.old)) (coming ahead.new (S.left source.new)))) }
-    ensures err { IfErr result IsReadStop }
-    ensures cause { HasCause (S.faults source.old) (S.faults source.new)
-        (IsErrOf result Status.ReadFault) }
+    ensures stop { StopsAtRead result (S.faults source.old) (S.faults source.new) }
     ensures end { IsTrue ahead.new.ended → IsAtEnd (S.left source.new) }
 {
     if count > MAX_GRAMMAR {
         let passed = pass_block(alloc, source, ahead, count)?;
         return Ok(passed.then_some(Block::TooLong(count)));
     }
-    match keep_block(alloc, source, ahead, count)? {
-        Some(bytes) => Ok(Some(Block::Kept(bytes))),
-        None => Ok(None),
-    }
+    let kept = keep_block(alloc, source, ahead, count)?;
+    Ok(kept.map(Block::Kept))
 }
 
 /// Reads the command `grammar` with its block. One of more than 65,536 bytes is passed over.
@@ -213,13 +196,11 @@ pub(crate) fn read_grammar<S: Source>(
     ahead: &mut Ahead,
     line: &mut Line<MAX_LINE>,
 ) -> Result<Option<Block>, Status>
-    requires room { ahead.old.offset < 2 ^ 60 }
+    requires early { ahead.old.offset < 2 ^ 60 }
     requires end { IsTrue ahead.old.ended → IsAtEnd (S.left source.old) }
     ensures ok { IfOk result (Finds 65536 (NextGrammar ahead.old.offset ahead.new.offset
         (coming ahead.old (S.left source.old)) (coming ahead.new (S.left source.new)))) }
-    ensures err { IfErr result IsReadStop }
-    ensures cause { HasCause (S.faults source.old) (S.faults source.new)
-        (IsErrOf result Status.ReadFault) }
+    ensures stop { StopsAtRead result (S.faults source.old) (S.faults source.new) }
     ensures end { IsTrue ahead.new.ended → IsAtEnd (S.left source.new) }
 {
     match read_count(source, ahead, line, b"grammar ".as_slice(), MAX_BLOCK)? {
@@ -247,14 +228,12 @@ pub(crate) fn read_text<S: Source>(
     ahead: &mut Ahead,
     line: &mut Line<MAX_LINE>,
 ) -> Result<Option<Vec<u8>>, Status>
-    requires room { ahead.old.offset < 2 ^ 60 }
+    requires early { ahead.old.offset < 2 ^ 60 }
     requires end { IsTrue ahead.old.ended → IsAtEnd (S.left source.old) }
     ensures ok { IfOk result (λ text. NextText ahead.old.offset ahead.new.offset
         (coming ahead.old (S.left source.old)) (coming ahead.new (S.left source.new))
         (option_map (λ t. t.items) text)) }
-    ensures err { IfErr result IsReadStop }
-    ensures cause { HasCause (S.faults source.old) (S.faults source.new)
-        (IsErrOf result Status.ReadFault) }
+    ensures stop { StopsAtRead result (S.faults source.old) (S.faults source.new) }
     ensures end { IsTrue ahead.new.ended → IsAtEnd (S.left source.new) }
 {
     let Some(count) = read_count(source, ahead, line, b"open ".as_slice(), MAX_TEXT)? else {

@@ -68,7 +68,7 @@ fn turn<S: Source, K: Sink>(
     line: &mut Line<MAX_LINE>,
     opened: &Opened,
 ) -> Option<Status>
-    requires room { ahead.old.offset < 2 ^ 61 }
+    requires early { ahead.old.offset < 2 ^ 61 }
     requires end { IsTrue ahead.old.ended → IsAtEnd (S.left source.old) }
     ensures ok { (input before : List ℕ)
         → Running input before (coming ahead.old (S.left source.old)) ahead.old.offset
@@ -91,7 +91,7 @@ fn turn<S: Source, K: Sink>(
     }
     match question_of(line.as_bytes()) {
         None => Some(refuse_script(alloc, sink, start)),
-        Some(Question::End) => Some(finish(sink, b"end\n".as_slice(), Status::Ok)),
+        Some(Question::End) => Some(finish(sink, b"end\n".as_slice(), Status::Ended)),
         Some(Question::Has(constituent)) => {
             match say_answer(alloc, sink, answer_of(opened, &constituent)) {
                 Ok(()) => None,
@@ -110,7 +110,7 @@ fn answer_all<S: Source, K: Sink>(
     line: &mut Line<MAX_LINE>,
     opened: &Opened,
 ) -> Status
-    requires room { ahead.old.offset < 2 ^ 50 }
+    requires early { ahead.old.offset < 2 ^ 50 }
     requires end { IsTrue ahead.old.ended → IsAtEnd (S.left source.old) }
     ensures ok { (input before : List ℕ)
         → Running input before (coming ahead.old (S.left source.old)) ahead.old.offset

@@ -5,11 +5,17 @@ ghost use Rattle.chart_service.specs.Statuses.{number_of};
 /// How a session ends.
 #[derive(Clone, Copy, Debug, PartialEq, Eq)]
 pub(crate) enum Status {
-    Ok,
+    /// The script was read through its line `end`.
+    Ended,
+    /// The grammar is refused.
     BadGrammar,
+    /// The script is broken.
     BadScript,
+    /// A read of the source failed.
     ReadFault,
+    /// A write to the sink failed.
     WriteFault,
+    /// There was no memory.
     OutOfMemory,
 }
 
@@ -19,7 +25,7 @@ impl Status {
         ensures { result ≡ number_of self }
     {
         match self {
-            Status::Ok => 0,
+            Status::Ended => 0,
             Status::BadGrammar => 2,
             Status::BadScript => 3,
             Status::ReadFault => 4,

@@ -1,5 +1,6 @@
 -- Laws of blocks: what was taken so far and the rest make up a block, and told bytes have one answer.
-use Rattle.std.proofs.Common.{◌≡◌, ℕ, ◌+◌, ◌-◌, ◌<◌, ◌≤◌, List, [], ◌++◌, Option, Some, Bool, true, false, ◌⊎◌, inl, inr, take, drop, length, refl, sym, ◌∙◌, ap, append-nil, length-append, arith}
+use Rattle.std.proofs.Common.{◌≡◌, ℕ, ◌+◌, ◌-◌, ◌<◌, ◌≤◌, List, [], ◌++◌, Option, Some, Bool, true, false, inl, inr, take, drop, length, refl, sym, ◌∙◌, ap, append-nil, length-append, arith}
+use Rattle.std.proofs.lemmas.Bool.{cases_lt}
 use Rattle.std.proofs.lemmas.List.{length-take, take-append-drop}
 use Rattle.cyk_io.specs.Blocks.{BlockReads, EachBlockHasAnAnswer, EachBlockHasOneAnswer}
 use Rattle.cyk_io.specs.KeptBytes.{kept_more}
@@ -68,21 +69,17 @@ module _ (count keep from : ℕ) (told : List ℕ) where
 pub each_block_has_one_answer : EachBlockHasOneAnswer
 each_block_has_one_answer count keep from told = one_block count keep from told
 
--- a number is at most another, or above it
-at_most_or_above : (m n : ℕ) → (m ≤ n) ⊎ (n < m)
-at_most_or_above m n = grind arith
-
 pub each_block_has_an_answer : EachBlockHasAnAnswer
-each_block_has_an_answer count keep from told = elim (at_most_or_above count (length told)) [
-  | inl enough ↦
+each_block_has_an_answer count keep from told = elim (cases_lt (length told) count) [
+  | inl fewer ↦
+      let takes = Takes-front told told [] (sym (append-nil told)) in
+      (Ended (from + length told), from + length told, Some [], [], (told, takes, IsAtEnd-nil, fewer, refl, refl))
+  | inr enough ↦
       let block : List ℕ = take count told in
       let takes = Takes-front told block (drop count told) (sym (take-append-drop count told)) in
       let whole : length block ≡ count = omega (arith, length-take count told) in
-      elim (at_most_or_above count keep) [
-        | inl fits ↦ (Kept, from + count, Some (drop count told), block, (takes, whole, fits, refl))
-        | inr long ↦ (Skipped, from + count, Some (drop count told), [], ((block, takes, whole), long, refl, refl))
+      elim (cases_lt keep count) [
+        | inl long ↦ (Skipped, from + count, Some (drop count told), [], ((block, takes, whole), long, refl, refl))
+        | inr fits ↦ (Kept, from + count, Some (drop count told), block, (takes, whole, fits, refl))
       ]
-  | inr fewer ↦
-      let takes = Takes-front told told [] (sym (append-nil told)) in
-      (Ended (from + length told), from + length told, Some [], [], (told, takes, IsAtEnd-nil, fewer, refl, refl))
 ]

@@ -1,5 +1,6 @@
 -- Laws of lines: told bytes begin in one way with a line, with more than a line may have, or with no LF at all.
-use Rattle.std.proofs.Common.{◌≡◌, ◌≢◌, ℕ, zero, suc, ◌+◌, ◌<◌, ◌≤◌, ◌⊎◌, inl, inr, List, [], ◌∷◌, ◌++◌, Option, Some, length, refl, sym, ◌∙◌, ap, append_assoc, append-nil, length-append, arith}
+use Rattle.std.proofs.Common.{◌≡◌, ◌≢◌, ℕ, zero, suc, ◌+◌, ◌<◌, ◌≤◌, inl, inr, List, [], ◌∷◌, ◌++◌, Option, Some, length, refl, sym, ◌∙◌, ap, append_assoc, append-nil, length-append, arith}
+use Rattle.std.proofs.lemmas.Bool.{cases_eq, cases_order}
 use Rattle.std.proofs.lemmas.List.Elements.{All-head, All-tail, All-cons}
 use Rattle.cyk_io.specs.Lines.{HasNoLf, LineReads, EachLineHasAnAnswer, EachLineHasOneAnswer}
 use Rattle.cyk_io.specs.Streams.{Takes}
@@ -46,14 +47,11 @@ same_lengths told line other new new_other takes takes_other no_lf no_lf_other =
     let behind = behind_lf told line new takes in
     let behind_other = behind_lf told other new_other takes_other in
     let same : line ++ 10 ∷ behind.0 ≡ other ++ 10 ∷ behind_other.0 = sym behind.1 ∙ behind_other.1 in
-    elim (three_ways (length line) (length other)) [
-      | inl less ↦ absurd (no_lf_within line other behind.0 (10 ∷ behind_other.0) no_lf_other less same)
-      | inr (inl more) ↦ absurd (no_lf_within other line behind_other.0 (10 ∷ behind.0) no_lf more (sym same))
-      | inr (inr equal) ↦ equal
+    elim (cases_order (length line) (length other)) [
+      | inl equal ↦ equal
+      | inr (inl less) ↦ absurd (no_lf_within line other behind.0 (10 ∷ behind_other.0) no_lf_other less same)
+      | inr (inr more) ↦ absurd (no_lf_within other line behind_other.0 (10 ∷ behind.0) no_lf more (sym same))
     ]
-  where
-    three_ways : (m n : ℕ) → (m < n) ⊎ ((n < m) ⊎ (m ≡ n))
-    three_ways m n = grind arith
 
 module _ (most from : ℕ) (told : List ℕ) where
   -- told bytes do not begin with a line and its LF and with one byte more than a line may have
@@ -153,18 +151,14 @@ Begins-cons most x told other (too_long line last rest is no_lf full) =
 Begins-cons most x told other (with_no_lf no_lf within) =
     with_no_lf (HasNoLf-cons x told other no_lf) (omega arith)
 
--- a byte is an LF or not
-lf_or_other : (x : ℕ) → (x ≡ 10) ⊎ (x ≢ 10)
-lf_or_other x = grind arith
-
 -- told bytes begin in one of these ways
 begins : (most : ℕ) (told : List ℕ) → Begins most told
 begins most [] = with_no_lf HasNoLf-nil (omega arith)
-begins zero (x ∷ xs) = elim (lf_or_other x) [
+begins zero (x ∷ xs) = elim (cases_eq x 10) [
   | inl lf ↦ with_line [] xs (ap (λ byte. byte ∷ xs) lf) HasNoLf-nil (omega arith)
   | inr other ↦ too_long [] x xs refl (HasNoLf-cons x [] other HasNoLf-nil) refl
 ]
-begins (suc most) (x ∷ xs) = elim (lf_or_other x) [
+begins (suc most) (x ∷ xs) = elim (cases_eq x 10) [
   | inl lf ↦ with_line [] xs (ap (λ byte. byte ∷ xs) lf) HasNoLf-nil (omega arith)
   | inr other ↦ Begins-cons most x xs other (begins most xs)
 ]

@@ -2,7 +2,6 @@
 -- `serve`, and else the usage line.
 use Rattle.std.specs.Prelude.{◌≡◌, ℕ, ◌⊎◌, List, [], ◌∷◌, ◌++◌, Option, String, codes, string_bytes}
 use Rattle.std.specs.declared.alloc.Global.{Global}
-use Rattle.chart_service.specs.Serving.{IsStatus}
 use Rattle.chart_service.specs.declared.options.Options.{Options}
 use Rattle.cyk_io.specs.Streams.{Grows, GrowsByPrefix}
 
@@ -27,12 +26,6 @@ abbrev pub WritesUsage : Option (List ℕ) → Option (List ℕ) → ℕ → Typ
 WritesUsage old new status =
     ((status ≡ 1) × Grows old new usage_line)
     ⊎ (((status ≡ 5) ⊎ (status ≡ 6)) × GrowsByPrefix old new usage_line)
-
--- the status of the program: that of a session where the words are served, and else 1, or 5 or 6 at
--- a fault
-pub record IsStatusOf (words : List (String Global)) (status : ℕ) : Type 0 where
-  pub served : IsServe words → IsStatus status
-  pub refused : (IsServe words → ⊥) → (status ≡ 1) ⊎ (status ≡ 5) ⊎ (status ≡ 6)
 
 -- the options of a run whose words give none
 abbrev pub default_options : Options

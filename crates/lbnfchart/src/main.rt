@@ -2,8 +2,8 @@
 #![tactic(auto)]
 
 ghost use Rattle.std.specs.Prelude.{◌≡◌, ◌<◌};
-ghost use Rattle.chart_service.specs.Serving.{WritesSession};
-ghost use Rattle.lbnfchart.specs.TopCall.{IsServe, IsStatusOf, WritesUsage};
+ghost use Rattle.chart_service.specs.Serving.{IsStatus, WritesSession};
+ghost use Rattle.lbnfchart.specs.TopCall.{IsServe, WritesUsage};
 
 mod defaults;
 #[cfg(test)]
@@ -35,7 +35,7 @@ fn run<S: Source, K: Sink, L: Ledger>(
         → WritesUsage (K.written sink.old) (K.written sink.new) result }
     ensures ok { IsServe words.now
         → WritesSession (S.left source.old) (K.written sink.old) (K.written sink.new) result }
-    ensures status { IsStatusOf words.now result }
+    ensures status { IsServe words.now → IsStatus result }
 {
     let mut joins = Steps::<L>::of(blank);
     lbnf_main(alloc, words, source, sink, &mut joins)

@@ -1,8 +1,8 @@
 //! The top call: what the program does with its words, over any source and sink.
 ghost use Rattle.std.specs.Prelude.{◌≡◌};
-ghost use Rattle.chart_service.specs.Serving.{WritesSession};
+ghost use Rattle.chart_service.specs.Serving.{IsStatus, WritesSession};
 ghost use Rattle.cyk_io.specs.Causes.{HasRisen};
-ghost use Rattle.lbnfchart.specs.TopCall.{IsServe, IsStatusOf, WritesUsage};
+ghost use Rattle.lbnfchart.specs.TopCall.{IsServe, WritesUsage};
 
 use crate::defaults::default_options;
 use crate::words::is_serve;
@@ -29,7 +29,7 @@ fn write_usage<K: Sink>(sink: &mut K) -> u8
 /// Runs what the words behind the program's name ask for, and answers the exit status: that of the
 /// session where they are the one word `serve`, and else 1, with the usage line on the sink and the
 /// source not read. 4 and 5 are faults of the source and of the sink, 6 is want of memory. `joins`
-/// counts the joins of charts.
+/// is for the joins of charts; no join is counted.
 pub fn lbnf_main<S: Source, K: Sink, L: Ledger>(
     alloc: Global,
     words: &[String],
@@ -42,7 +42,7 @@ pub fn lbnf_main<S: Source, K: Sink, L: Ledger>(
     ensures kept { (IsServe words.now → ⊥) → source.new ≡ source.old }
     ensures ok { IsServe words.now
         → WritesSession (S.left source.old) (K.written sink.old) (K.written sink.new) result }
-    ensures status { IsStatusOf words.now result }
+    ensures status { IsServe words.now → IsStatus result }
     ensures read { result ≡ 4 → HasRisen (S.faults source.old) (S.faults source.new) }
     ensures write { result ≡ 5 → HasRisen (K.faults sink.old) (K.faults sink.new) }
     ensures cost { joins.new ≡ joins.old }

@@ -9,13 +9,17 @@ use Rattle.chart_service.proofs.answering.is_derived.Goals as goal
 pub returns-then-first-end : goal.returns-then-first-end
 returns-then-first-end c text tokens o =
     let language = c.args.opened.now.language in
-    let number = c.symbol_of-symbol.ensures.number ∙ ap (λ (g : Expansion). number_of g (plain (Category c.args.category))) language.same in
+    let number = c.symbol_of-symbol.ensures.number
+    ∙ ap (λ (g : Expansion). number_of g (plain (Category c.args.category))) language.same in
     entry_derives language.grammar c.args.opened.now.chart text tokens o c.args.category c.requires.own
-    c.symbol_of-symbol.result number c.has.result c.args.first c.args.end c.if-first-end.true c.requires.within c.has.ensures
+    c.symbol_of-symbol.result number c.has.result c.args.first c.args.end c.if-first-end.true
+    c.requires.within c.has.ensures
 
 pub returns-else-first-end : goal.returns-else-first-end
 returns-else-first-end c text tokens o =
     let language = c.args.opened.now.language in
-    let number = c.symbol_of-symbol.ensures.number ∙ ap (λ (g : Expansion). number_of g (plain (Category c.args.category))) language.same in
+    let number = c.symbol_of-symbol.ensures.number
+    ∙ ap (λ (g : Expansion). number_of g (plain (Category c.args.category))) language.same in
     empty_derives language.grammar c.args.opened.now.chart text tokens o c.args.category c.requires.own
-    c.symbol_of-symbol.result number c.nullable.result c.args.first c.args.end c.requires.order c.if-first-end.false (rw language.same at c.nullable.ensures)
+    c.symbol_of-symbol.result number c.nullable.result c.args.first c.args.end c.requires.order
+    c.if-first-end.false (rw language.same at c.nullable.ensures)

@@ -4,7 +4,8 @@ use Rattle.chart_service.proofs.forms.has_question.Goals as goal
 
 pub returns-in_err-behind : goal.returns-in_err-behind
 returns-in_err-behind c =
-    rw c.from_residual.ensures (no_beginning c.args.line.now c.as_slice.result.now c.as_slice.ensures c.in_err-behind.ensures)
+    rw c.from_residual.ensures
+    (no_beginning c.args.line.now c.as_slice.result.now c.as_slice.ensures c.in_err-behind.ensures)
 
 pub constituent_of-requires : goal.constituent_of-requires
 constituent_of-requires c =

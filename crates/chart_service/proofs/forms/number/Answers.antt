@@ -4,7 +4,8 @@ use Rattle.chart_service.proofs.FormsLemmas.{unformed, form_utf8, unparsed, pars
 use Rattle.chart_service.proofs.forms.number.Goals as goal
 
 pub returns-then-not-has_number_form : goal.returns-then-not-has_number_form
-returns-then-not-has_number_form c = unformed c.args.word.now (λ form. let never : false ≡ true = c.if-not-has_number_form.ensures.1 form in cc)
+returns-then-not-has_number_form c =
+    unformed c.args.word.now (λ form. let never : false ≡ true = c.if-not-has_number_form.ensures.1 form in cc)
 
 pub returns-in_default : goal.returns-in_default
 returns-in_default c n small spelled =
@@ -13,13 +14,17 @@ returns-in_default c n small spelled =
 pub returns-in-Ok-parse : goal.returns-in-Ok-parse
 returns-in-Ok-parse c = (
   c.if-number-lt-TEN_DIGITS.true,
-  parsed_is c.args.word.now c.in-Ok.text.now c.in-Ok.ensures.cases.0 (c.if-not-has_number_form.ensures.0 refl) c.in-Ok-parse.number c.in-Ok-parse.ensures.value.0,
+  parsed_is c.args.word.now c.in-Ok.text.now c.in-Ok.ensures.cases.0
+      (c.if-not-has_number_form.ensures.0 refl) c.in-Ok-parse.number c.in-Ok-parse.ensures.value.0,
 )
 
 pub returns-in_default-parse : goal.returns-in_default-parse
 returns-in_default-parse c =
-    parsed_only c.args.word.now c.in-Ok.text.now c.in-Ok.ensures.cases.0 (c.if-not-has_number_form.ensures.0 refl) c.in-Ok-parse.number c.in-Ok-parse.ensures.value.0 c.if-number-lt-TEN_DIGITS.false
+    parsed_only c.args.word.now c.in-Ok.text.now c.in-Ok.ensures.cases.0
+    (c.if-not-has_number_form.ensures.0 refl) c.in-Ok-parse.number c.in-Ok-parse.ensures.value.0
+    c.if-number-lt-TEN_DIGITS.false
 
 pub returns-in_default-parse-2 : goal.returns-in_default-parse-2
 returns-in_default-parse-2 c =
-    unparsed c.args.word.now c.in-Ok.text.now c.in-Ok.ensures.cases.0 (c.if-not-has_number_form.ensures.0 refl) c.in_default-parse.ensures.value.0
+    unparsed c.args.word.now c.in-Ok.text.now c.in-Ok.ensures.cases.0
+    (c.if-not-has_number_form.ensures.0 refl) c.in_default-parse.ensures.value.0

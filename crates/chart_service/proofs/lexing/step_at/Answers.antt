@@ -7,11 +7,11 @@ returns-in_default c =
     stray_step c.args.kinds.now c.args.text.now c.args.start
     c.requires.ascii c.requires.start c.in_default.ensures
 
-pub returns-in-Some-kind : goal.returns-in-Some-kind
-returns-in-Some-kind c =
+pub returns-in-Kind : goal.returns-in-Kind
+returns-in-Kind c =
     token_step c.args.kinds.now c.args.text.now c.args.start
-    c.in-Some.found c.in-Some-kind.kind c.in-Some.ensures c.in-Some-kind.is
+    c.in-Some.found c.in-Kind.kind c.in-Some.ensures c.in-Kind.is
 
-pub returns-in-None : goal.returns-in-None
-returns-in-None c =
-    white_step c.args.kinds.now c.args.text.now c.args.start c.in-Some.found c.in-Some.ensures c.in-None.is
+pub returns-in-White : goal.returns-in-White
+returns-in-White c =
+    white_step c.args.kinds.now c.args.text.now c.args.start c.in-Some.found c.in-Some.ensures c.in-White.is

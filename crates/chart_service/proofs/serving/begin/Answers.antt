@@ -5,7 +5,7 @@ use Rattle.cyk_io.specs.Streams.{coming}
 use Rattle.chart_service.proofs.ProgressLemmas.{read_stop}
 use Rattle.chart_service.proofs.BeginningLemmas.{with_header, no_header, no_grammar, with_grammar}
 use Rattle.chart_service.proofs.BeginningLemmas.{grammar_ends, with_accepted, text_stopped, no_text}
-use Rattle.chart_service.proofs.BeginningLemmas.{text_opened, taken_room, grammar_room, on_ok}
+use Rattle.chart_service.proofs.BeginningLemmas.{text_opened, taken_early, grammar_early, on_ok}
 use Rattle.chart_service.proofs.serving.begin.Goals as goal
 
 pub returns-then-not-found-clause-ok : goal.returns-then-not-found-clause-ok
@@ -35,14 +35,14 @@ returns-in-Err-clause-ok g c input before comes written =
     grammar_ends taken (g.K.Sink.written c.accept.new.sink) c.in-Err.status
     (c.in-Err.ensures.ok taken.block taken.is_block)
 
-pub read_text-requires-clause-room : goal.read_text-requires-clause-room
-read_text-requires-clause-room g c =
+pub read_text-requires-clause-early : goal.read_text-requires-clause-early
+read_text-requires-clause-early g c =
     let next : Option (List ℕ) =
     coming c.read_header.new.ahead (g.S.Source.left c.read_header.new.source) in
     let later : Option (List ℕ) =
     coming c.read_grammar.new.ahead (g.S.Source.left c.read_grammar.new.source) in
     let finds = rw c.in-Some.is at c.in_ok-block.ensures.ok in
-    let near = grammar_room c.read_header.new.ahead.offset c.read_grammar.new.ahead.offset
+    let near = grammar_early c.read_header.new.ahead.offset c.read_grammar.new.ahead.offset
     next later c.in-Some.block finds in
     omega (arith, near)
 
@@ -64,7 +64,7 @@ returns-in-Ok-Some-clause-ok g c input before comes written =
 pub returns-in-Ok-Some-clause-range : goal.returns-in-Ok-Some-clause-range
 returns-in-Ok-Some-clause-range g c =
     let near : c.read_text.new.ahead.offset < 2 ^ 50 =
-    taken_room _ _ _ _ _ (rw c.in-Ok-Some.field-0-is at c.in-Ok-Some.ensures.ok) in
+    taken_early _ _ _ _ _ (rw c.in-Ok-Some.field-0-is at c.in-Ok-Some.ensures.ok) in
     on_ok _ c.open_text.result near
 
 pub returns-in-Ok-None-clause-ok : goal.returns-in-Ok-None-clause-ok
@@ -94,4 +94,4 @@ returns-clause-ok g c input before comes written =
     let accepted =
     with_accepted taken (g.K.Sink.written c.accept.new.sink) c.in-Ok.language c.in-Ok.ensures.ok in
     text_stopped accepted
-    c.in-Err-read_text.status (read_stop c.in-Err-read_text.status c.in-Err-read_text.ensures.err)
+    c.in-Err-read_text.status (read_stop c.in-Err-read_text.status c.in-Err-read_text.ensures.stop.err)

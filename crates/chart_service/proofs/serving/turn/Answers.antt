@@ -16,7 +16,7 @@ returns-in-Ok-false-clause-ok g c input before r =
 
 pub returns-in-Err-clause-ok : goal.returns-in-Err-clause-ok
 returns-in-Err-clause-ok g c input before r =
-    running_stopped r c.in-Err.status (read_stop c.in-Err.status c.in-Err.ensures.err)
+    running_stopped r c.in-Err.status (read_stop c.in-Err.status c.in-Err.ensures.stop.err)
 
 pub returns-in-None-clause-ok : goal.returns-in-None-clause-ok
 returns-in-None-clause-ok g c input before r =
