@@ -1,11 +1,11 @@
 //! The fault of a definition that cannot go on.
-ghost use Rattle.std.specs.Prelude.{◌≡◌, ◌∷◌, [], codes, None, bytes_eq, IfOk};
+ghost use Rattle.std.specs.Prelude.{◌≡◌, ℕ, [], codes, None, bytes_eq, IfOk};
 ghost use Rattle.std.specs.List.{list_any};
 ghost use Rattle.std.specs.Option.{option_copied};
 ghost use Rattle.spec_lbnf.specs.declared.token.FileToken.TheVariants.{Identifier};
 ghost use Rattle.spec_lbnf.specs.Faults.{bare, unbuilt_words, word_fault, piece_fault, unsupported};
 ghost use Rattle.spec_lbnf.specs.FileDefinitions.{place_of, stuck_fault};
-ghost use Rattle.lbnf_text.specs.Faulting.{identifier, second_word_fault, IsFault, IsStart};
+ghost use Rattle.lbnf_text.specs.Faulting.{identifier, second_fault, third_fault, IsFault, IsStart};
 
 use crate::fault::TextFault;
 use crate::parser::{first_of, is_sign, starts_upper};
@@ -122,8 +122,9 @@ fn first_fault(alloc: Global, number: u32, token: &FileToken, at: u32) -> TextFa
 }
 
 /// The fault of a word behind a first word.
-fn second_word(alloc: Global, number: u32, first: &Name, word: &Name, at: u32) -> TextFault
-    ensures { IsFault (second_word_fault number first.now word.now at) result }
+fn second_word(alloc: Global, first: &Name, word: &Name, at: u32) -> TextFault
+    ensures { (number : ℕ)
+        → IsFault (second_fault number first.now (Identifier word.now) at) result }
 {
     if first.as_slice() != b"internal".as_slice() {
         return TextFault::Syntax { at };
@@ -135,9 +136,9 @@ fn second_word(alloc: Global, number: u32, first: &Name, word: &Name, at: u32) -
 }
 
 /// The fault of a token that is no word behind a first word.
-fn second_sign(alloc: Global, number: u32, first: &Name, token: &FileToken, at: u32) -> TextFault
+fn second_sign(alloc: Global, first: &Name, token: &FileToken, at: u32) -> TextFault
     requires { identifier token.now ≡ None }
-    ensures { IsFault (piece_fault number (Identifier first.now ∷ []) token.now at) result }
+    ensures { (number : ℕ) → IsFault (second_fault number first.now token.now at) result }
 {
     if !is_sign(Sign::OpenParen, token) {
         return TextFault::Syntax { at };
@@ -149,30 +150,22 @@ fn second_sign(alloc: Global, number: u32, first: &Name, token: &FileToken, at: 
 }
 
 /// The fault of a token behind a first word.
-fn second_fault(alloc: Global, number: u32, first: &Name, token: &FileToken, at: u32) -> TextFault
-    ensures { IsFault (piece_fault number (Identifier first.now ∷ []) token.now at) result }
+fn second_fault(alloc: Global, first: &Name, token: &FileToken, at: u32) -> TextFault
+    ensures { (number : ℕ) → IsFault (second_fault number first.now token.now at) result }
 {
     match token {
-        FileToken::Identifier(word) => second_word(alloc, number, first, word, at),
-        FileToken::Number(_) => second_sign(alloc, number, first, token, at),
-        FileToken::Text(_) => second_sign(alloc, number, first, token, at),
-        FileToken::Character(_) => second_sign(alloc, number, first, token, at),
-        FileToken::Sign(_) => second_sign(alloc, number, first, token, at),
+        FileToken::Identifier(word) => second_word(alloc, first, word, at),
+        FileToken::Number(_) => second_sign(alloc, first, token, at),
+        FileToken::Text(_) => second_sign(alloc, first, token, at),
+        FileToken::Character(_) => second_sign(alloc, first, token, at),
+        FileToken::Sign(_) => second_sign(alloc, first, token, at),
     }
 }
 
 /// The fault of a token behind two words.
-fn third_fault(
-    alloc: Global,
-    number: u32,
-    first: &Name,
-    second: &Name,
-    token: &FileToken,
-    at: u32,
-) -> TextFault
-    ensures { IsFault
-        (piece_fault number (Identifier first.now ∷ Identifier second.now ∷ []) token.now at)
-        result }
+fn third_fault(alloc: Global, first: &Name, second: &Name, token: &FileToken, at: u32) -> TextFault
+    ensures { (number : ℕ)
+        → IsFault (third_fault number first.now second.now token.now at) result }
 {
     if !is_sign(Sign::OpenParen, token) {
         return TextFault::Syntax { at };
@@ -190,10 +183,8 @@ fn token_fault(alloc: Global, number: u32, front: &[PlacedToken], token: &Placed
     let at = token.place;
     match start_of(front) {
         Start::Nothing => first_fault(alloc, number, &token.token, at),
-        Start::Word(word) => second_fault(alloc, number, word, &token.token, at),
-        Start::TwoWords(word, other) => {
-            third_fault(alloc, number, word, other, &token.token, at)
-        }
+        Start::Word(word) => second_fault(alloc, word, &token.token, at),
+        Start::TwoWords(word, other) => third_fault(alloc, word, other, &token.token, at),
         Start::Other => TextFault::Syntax { at },
     }
 }
