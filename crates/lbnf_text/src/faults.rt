@@ -1,5 +1,5 @@
 //! The fault of a definition that cannot go on.
-ghost use Rattle.std.specs.Prelude.{◌≡◌, ℕ, [], codes, None, bytes_eq, IfOk};
+ghost use Rattle.std.specs.Prelude.{◌≡◌, ℕ, [], None, bytes_eq};
 ghost use Rattle.std.specs.List.{list_any};
 ghost use Rattle.std.specs.Option.{option_copied};
 ghost use Rattle.spec_lbnf.specs.declared.token.FileToken.TheVariants.{Identifier};
@@ -9,10 +9,9 @@ ghost use Rattle.lbnf_text.specs.Faulting.{identifier, second_fault, third_fault
 
 use crate::fault::TextFault;
 use crate::parser::{first_of, is_sign, starts_upper};
-use crate::texts::copy_name;
 use spec_lbnf::{FileToken, PlacedToken, Sign};
 use spec_text::Name;
-use std::alloc::{AllocError, Global};
+use std::alloc::Global;
 
 /// What a definition has begun with, as far as its fault asks.
 #[derive(Clone, Copy)]
@@ -68,30 +67,15 @@ fn is_unbuilt(word: &[u8]) -> bool
     word == b"token".as_slice() || word == b"position".as_slice() || word == b"comment".as_slice()
 }
 
-/// That the word is not supported.
-fn unsupported(alloc: Global, word: &Name, at: u32) -> TextFault
+/// That the word, which is copied, is not supported.
+fn unsupported(alloc: Global, word: &str, at: u32) -> TextFault
     ensures { IsFault (unsupported word.now at) result }
 {
-    match copy_name(alloc, word) {
-        Ok(word) => TextFault::Unsupported { word, at },
-        Err(_) => TextFault::Memory,
-    }
-}
-
-/// The name `(`.
-fn open_paren(alloc: Global) -> Result<Name, AllocError>
-    ensures { IfOk result (λ word. word ≡ codes "(") }
-{
-    let bytes = Vec::from_slice(alloc, b"(".as_slice())?;
-    Ok(Name::of(bytes))
-}
-
-/// That an open parenthesis is not supported.
-fn unsupported_paren(alloc: Global, at: u32) -> TextFault
-    ensures { IsFault (unsupported (codes "(") at) result }
-{
-    match open_paren(alloc) {
-        Ok(word) => TextFault::Unsupported { word, at },
+    match Vec::from_slice(alloc, word.as_bytes()) {
+        Ok(bytes) => {
+            let word = Name::of(bytes);
+            TextFault::Unsupported { word, at }
+        }
         Err(_) => TextFault::Memory,
     }
 }
@@ -103,7 +87,7 @@ fn word_fault(alloc: Global, number: u32, word: &Name, at: u32) -> TextFault
     if is_unbuilt(word.as_slice()) {
         TextFault::Unbuilt { def: number }
     } else {
-        unsupported(alloc, word, at)
+        unsupported(alloc, word.as_str(), at)
     }
 }
 
@@ -132,7 +116,7 @@ fn second_word(alloc: Global, first: &Name, word: &Name, at: u32) -> TextFault
     if starts_upper(word.as_slice()) {
         return TextFault::Syntax { at };
     }
-    unsupported(alloc, word, at)
+    unsupported(alloc, word.as_str(), at)
 }
 
 /// The fault of a token that is no word behind a first word.
@@ -146,7 +130,7 @@ fn second_sign(alloc: Global, first: &Name, token: &FileToken, at: u32) -> TextF
     if !starts_upper(first.as_slice()) {
         return TextFault::Syntax { at };
     }
-    unsupported_paren(alloc, at)
+    unsupported(alloc, "(", at)
 }
 
 /// The fault of a token behind a first word.
@@ -173,7 +157,7 @@ fn third_fault(alloc: Global, first: &Name, second: &Name, token: &FileToken, at
     if first.as_slice() != b"internal".as_slice() {
         return TextFault::Syntax { at };
     }
-    unsupported_paren(alloc, at)
+    unsupported(alloc, "(", at)
 }
 
 /// The fault of a token at which a definition that has begun with these cannot go on.
