@@ -4,7 +4,7 @@ ghost use Rattle.std.specs.Prelude.{Some, None, IfOk, IfSome, MatchOption, encod
 ghost use Rattle.std.specs.Char.{IsScalar};
 ghost use Rattle.std.specs.List.{prefix_len};
 ghost use Rattle.std.specs.Option.{option_map};
-ghost use Rattle.spec_lbnf.specs.FileBytes.{is_white, is_name_byte};
+ghost use Rattle.spec_lbnf.specs.FileBytes.{is_name_byte};
 ghost use Rattle.spec_lbnf.specs.FileTokens.{Begins, is_letter, is_digit, escaped, longer_by};
 ghost use Rattle.spec_lbnf.specs.FileTokens.{Skips, IsScan};
 ghost use Rattle.spec_lbnf.specs.Scanning.{behind_line, behind_closing, behind_white, behind_space};
@@ -14,7 +14,7 @@ ghost use Rattle.spec_lbnf.specs.Scanning.{token_at};
 ghost use Rattle.lbnf_text.specs.LiteralParts.{IsPartOf, IsScalarPart, LeavesFewer};
 
 use spec_lbnf::{FileToken, PlacedToken, Sign};
-use spec_text::Name;
+use spec_text::{Name, is_white};
 use std::alloc::{AllocError, Global};
 
 /// The most bytes of an identifier.
@@ -64,12 +64,6 @@ fn behind_closing(text: &str) -> Option<&str>
 {
     let (_block, rest) = text.split_once(CLOSING)?;
     Some(rest)
-}
-
-fn is_white(byte: u8) -> bool
-    ensures { result ≡ is_white byte }
-{
-    byte == b' ' || (9 <= byte && byte <= 13)
 }
 
 /// What is behind the white byte at the front.

@@ -10,7 +10,7 @@ use Rattle.spec_lbnf.specs.declared.token.FileToken.{FileToken}
 use Rattle.spec_lbnf.specs.declared.token.FileToken.TheVariants.{Identifier, Number, Text, Character}
 use Rattle.spec_lbnf.specs.declared.token.FileToken.TheVariants.{Sign as SignToken}
 use Rattle.spec_lbnf.specs.declared.token.PlacedToken.{PlacedToken}
-use Rattle.spec_lbnf.specs.FileBytes.{is_white}
+use Rattle.spec_text.specs.Bytes.{is_white}
 use Rattle.spec_lbnf.specs.FileTokens.{is_letter, is_digit, Begins, BeginsWith, sign_bytes, Separates, Skips, nothing, goes_on, IsStuck, AreTokensTo, IsScan}
 use Rattle.spec_lbnf.specs.FileLaws.{RiseTo}
 use Rattle.spec_lbnf.specs.Scanning.{has_front, behind_space, identifier_at, number_token_at, byte_sign, longest_of, sign_token_at, token_at, tokens_by, tokens_from, scan_of}

@@ -4,6 +4,7 @@ use Rattle.std.specs.Prelude.{true, false, ◌||◌, ◌&&◌, nat_le, All, Cont
 use Rattle.std.specs.Prelude.{Option, Some, None, nat_eq, not, IfSome}
 use Rattle.std.specs.Char.{IsScalar, encode_utf8}
 use Rattle.std.specs.Str.Parse.{digits_value}
+use Rattle.spec_text.specs.Bytes.{is_white}
 use Rattle.spec_lbnf.specs.declared.token.Sign.{Sign}
 use Rattle.spec_lbnf.specs.declared.token.Sign.TheVariants.{Dot, Semicolon, Gives, Colon}
 use Rattle.spec_lbnf.specs.declared.token.Sign.TheVariants.{OpenBracket, CloseBracket}
@@ -15,7 +16,7 @@ use Rattle.spec_lbnf.specs.declared.token.FileToken.TheVariants.{Identifier, Num
 use Rattle.spec_lbnf.specs.declared.token.FileToken.TheVariants.{Character}
 use Rattle.spec_lbnf.specs.declared.token.FileToken.TheVariants.{Sign as SignToken}
 use Rattle.spec_lbnf.specs.declared.token.PlacedToken.{PlacedToken}
-use Rattle.spec_lbnf.specs.FileBytes.{is_white, is_upper, is_name_byte, Stops}
+use Rattle.spec_lbnf.specs.FileBytes.{is_upper, is_name_byte, Stops}
 
 -- the byte is a letter
 abbrev pub is_letter : ℕ → Bool

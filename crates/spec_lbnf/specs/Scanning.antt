@@ -7,6 +7,7 @@ use Rattle.std.specs.Char.{encode_utf8}
 use Rattle.std.specs.List.{prefix_len, list_any}
 use Rattle.std.specs.Str.{all_scalars}
 use Rattle.std.specs.Str.Parse.{digits_value}
+use Rattle.spec_text.specs.Bytes.{is_white}
 use Rattle.spec_lbnf.specs.declared.token.Sign.{Sign}
 use Rattle.spec_lbnf.specs.declared.token.Sign.TheVariants.{Dot, Semicolon, Gives, Colon}
 use Rattle.spec_lbnf.specs.declared.token.Sign.TheVariants.{OpenBracket, CloseBracket}
@@ -18,7 +19,7 @@ use Rattle.spec_lbnf.specs.declared.token.FileToken.TheVariants.{Identifier, Num
 use Rattle.spec_lbnf.specs.declared.token.FileToken.TheVariants.{Character}
 use Rattle.spec_lbnf.specs.declared.token.FileToken.TheVariants.{Sign as SignToken}
 use Rattle.spec_lbnf.specs.declared.token.PlacedToken.{PlacedToken}
-use Rattle.spec_lbnf.specs.FileBytes.{is_white, is_name_byte}
+use Rattle.spec_lbnf.specs.FileBytes.{is_name_byte}
 use Rattle.spec_lbnf.specs.FileTokens.{is_letter, is_digit, escaped, longer_by}
 
 -- the value, if the test passes
