@@ -5,15 +5,15 @@ use Rattle.spec_lbnf.specs.declared.token.PlacedToken.{PlacedToken}
 use Rattle.spec_lbnf.specs.FileTokens.{IsScan}
 use Rattle.spec_lbnf.specs.FileLaws.{RiseTo}
 use Rattle.spec_lbnf.specs.Faults.{IsFirstFault, FileFault}
-use Rattle.spec_lbnf.proofs.ScanLemmas.{places_rise}
+use Rattle.spec_lbnf.proofs.ScanLemmas.{offsets_rise}
 use Rattle.lbnf_text.specs.declared.fault.TextFault.{TextFault}
 use Rattle.lbnf_text.specs.Faulting.{Reads}
 use Rattle.lbnf_text.specs.Reading.{IsSmallText, ReadsFile, file_fault_of}
 
--- places that rise are no more than the last of them
-few_places : (from : ℕ) (tokens : List PlacedToken) (stop : ℕ) → RiseTo from tokens stop → from + length tokens ≤ stop
-few_places from [] stop rise = omega (arith, rise)
-few_places from (token ∷ tokens) stop rise = omega (arith, rise.0, few_places (token.place + 1) tokens stop rise.1)
+-- offsets that rise are no more than the last of them
+few_offsets : (from : ℕ) (tokens : List PlacedToken) (stop : ℕ) → RiseTo from tokens stop → from + length tokens ≤ stop
+few_offsets from [] stop rise = omega (arith, rise)
+few_offsets from (token ∷ tokens) stop rise = omega (arith, rise.0, few_offsets (token.offset + 1) tokens stop rise.1)
 
 -- where no value is told, this holds; and of a value that is told, what follows
 told_or : {X : Type 0} (value : Option X) (Untold : Type 0) (P Q : X → Type 0) → Untold → IfSome value P
@@ -32,10 +32,10 @@ told_fault view bytes read answer small told first =
 module _ (text : List ℕ) (tokens : List PlacedToken) (stop : ℕ) (scan : IsScan text tokens stop) where
   -- the tokens stop within the text
   pub stop_within : stop ≤ length text
-  stop_within = (places_rise (length text) tokens text 0 stop (omega arith) scan).1
+  stop_within = (offsets_rise (length text) tokens text 0 stop (omega arith) scan).1
 
   -- a text has no more tokens than bytes
   pub few_tokens : length tokens ≤ length text
   few_tokens =
-      let rise = places_rise (length text) tokens text 0 stop (omega arith) scan in
-      omega (arith, few_places 0 tokens stop rise.0, rise.1)
+      let rise = offsets_rise (length text) tokens text 0 stop (omega arith) scan in
+      omega (arith, few_offsets 0 tokens stop rise.0, rise.1)

@@ -4,7 +4,7 @@ ghost use Rattle.std.specs.List.{list_any};
 ghost use Rattle.std.specs.Option.{option_copied};
 ghost use Rattle.spec_lbnf.specs.declared.token.FileToken.TheVariants.{Identifier};
 ghost use Rattle.spec_lbnf.specs.Faults.{bare, unbuilt_words, word_fault, piece_fault, unsupported};
-ghost use Rattle.spec_lbnf.specs.FileDefinitions.{place_of, stuck_fault};
+ghost use Rattle.spec_lbnf.specs.FileDefinitions.{offset_of, stuck_fault};
 ghost use Rattle.lbnf_text.specs.Faulting.{identifier, second_fault, third_fault, IsFault, IsStart};
 
 use crate::fault::TextFault;
@@ -162,9 +162,10 @@ fn third_fault(alloc: Global, first: &Name, second: &Name, token: &FileToken, at
 
 /// The fault of a token at which a definition that has begun with these cannot go on.
 fn token_fault(alloc: Global, number: u32, front: &[PlacedToken], token: &PlacedToken) -> TextFault
-    ensures { IsFault (piece_fault number (bare front.now) token.now.token token.now.place) result }
+    ensures { IsFault
+        (piece_fault number (bare front.now) token.now.token token.now.offset) result }
 {
-    let at = token.place;
+    let at = token.offset;
     match start_of(front) {
         Start::Nothing => first_fault(alloc, number, &token.token, at),
         Start::Word(word) => second_fault(alloc, word, &token.token, at),
@@ -173,7 +174,7 @@ fn token_fault(alloc: Global, number: u32, front: &[PlacedToken], token: &Placed
     }
 }
 
-/// The fault of a piece that cannot go on with its last tokens, these; the stop is the place of
+/// The fault of a piece that cannot go on with its last tokens, these; the stop is the offset of
 /// what stands behind the piece.
 pub fn stuck_fault(
     alloc: Global,
@@ -191,12 +192,12 @@ pub fn stuck_fault(
     token_fault(alloc, number, &piece[..read], token)
 }
 
-/// Where the first of the tokens begins, or else this place.
-pub fn place_of(tokens: &[PlacedToken], stop: u32) -> u32
-    ensures { result ≡ place_of tokens.now stop }
+/// Where the first of the tokens begins, or else this offset.
+pub fn offset_of(tokens: &[PlacedToken], stop: u32) -> u32
+    ensures { result ≡ offset_of tokens.now stop }
 {
     match first_of(tokens) {
-        Some((token, _)) => token.place,
+        Some((token, _)) => token.offset,
         None => stop,
     }
 }

@@ -29,7 +29,7 @@ const OPENING: &str = "{-";
 /// What closes a block comment.
 const CLOSING: &str = "-}";
 
-/// The tokens of a file, and the place up to which they reach: the end of the file, or the first
+/// The tokens of a file, and the offset up to which they reach: the end of the file, or the first
 /// byte at which no token begins.
 #[derive(Debug, Drop)]
 pub(crate) struct Scan {
@@ -341,14 +341,14 @@ pub(crate) fn scan_file(alloc: Global, text: &str) -> Result<Scan, AllocError>
     let mut rest = text;
     loop {
         let here = skip_spaces(rest);
-        let place = (text.len() - here.len()) as u32;
+        let offset = (text.len() - here.len()) as u32;
         let Some((token, behind)) = token(alloc, here)? else {
             return Ok(Scan {
                 tokens,
-                stop: place,
+                stop: offset,
             });
         };
-        tokens.push(PlacedToken { token, place })?;
+        tokens.push(PlacedToken { token, offset })?;
         rest = behind;
     }
 }
@@ -381,15 +381,15 @@ mod tests {
     }
 
     fn are_tokens(tokens: &[PlacedToken], expected: &[(u32, Seen<'_>)]) -> bool {
-        for (token, (place, seen)) in tokens.iter().zip(expected) {
-            if token.place != *place || !is_token(&token.token, seen) {
+        for (token, (offset, seen)) in tokens.iter().zip(expected) {
+            if token.offset != *offset || !is_token(&token.token, seen) {
                 return false;
             }
         }
         tokens.len() == expected.len()
     }
 
-    /// Whether the scan of the text has these tokens at their places, and this stop.
+    /// Whether the scan of the text has these tokens at their offsets, and this stop.
     fn is_scan(
         alloc: Global,
         text: &str,

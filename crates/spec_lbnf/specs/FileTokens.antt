@@ -165,15 +165,15 @@ pub record IsStuck (bytes : List ℕ) : Type 0 where
   pub no_token : (token : FileToken) (rest : List ℕ) → BeginsWith token bytes rest → ⊥
   pub no_space : (rest : List ℕ) → Separates bytes rest → ⊥
 
--- the tokens of these bytes, the last of a text of so many, are these, up to the place at which no
--- token begins and the bytes may be at their end
+-- the tokens of these bytes, the last of a text of so many, are these, up to the offset at which
+-- no token begins and the bytes may be at their end
 abbrev pub AreTokensTo : ℕ → List ℕ → List PlacedToken → ℕ → Type 0
 AreTokensTo size bytes [] stop =
     (rest : List ℕ) × Skips bytes rest × IsStuck rest × (size ≡ stop + length rest)
 AreTokensTo size bytes (token ∷ tokens) stop =
-    (here rest : List ℕ) × Skips bytes here × (size ≡ token.place + length here)
+    (here rest : List ℕ) × Skips bytes here × (size ≡ token.offset + length here)
     × BeginsWith token.token here rest × AreTokensTo size rest tokens stop
 
--- the tokens of the file are these, up to the place where it ends or no token begins
+-- the tokens of the file are these, up to the offset where it ends or no token begins
 abbrev pub IsScan : List ℕ → List PlacedToken → ℕ → Type 0
 IsScan bytes tokens stop = AreTokensTo (length bytes) bytes tokens stop
