@@ -2,16 +2,18 @@
 use Rattle.std.proofs.Common.{inl, inr, ◌≡◌, ℕ, suc, zero, ◌+◌, ◌-◌, ◌<◌, ◌≤◌, ◌⊎◌, List, [], ◌∷◌, ◌++◌, length, take, drop, get_or, Option, Some, None, true, false, nat_eq, slice_get, slice_index, slice_range, refl, sym, ◌∙◌, ap, subst, arith, length-take, length-drop, add-zero}
 use Rattle.std.specs.List.{starts_with}
 use Rattle.std.specs.Str.{IsAscii}
+use Rattle.std.proofs.lemmas.Bool.{both_ways}
 use Rattle.std.proofs.lemmas.Bool.Decides.{Decides-eqb, nat_tests}
 use Rattle.std.proofs.lemmas.List.{take_rest, take_at, take_all, take-append-drop, drop_more, take_more}
 use Rattle.std.proofs.lemmas.Option.{slice_get_within}
 use Rattle.std.proofs.lemmas.Slice.Eq.{starts_is}
+use Rattle.spec_text.specs.Bytes.{is_white}
 use Rattle.spec_text.specs.Scalars.{scalar_len}
 use Rattle.spec_lexing.specs.Tokens.{skips, keeps, strays}
 use Rattle.spec_lexing.specs.declared.kind_def.KindDef.{KindDef}
 use Rattle.spec_lexing.specs.declared.kind_def.KindDef.TheVariants.{Word}
 use Rattle.spec_lexing.specs.LongestMatch.{IsLongestMatch, IsUnmatched, MatchesAt}
-use Rattle.spec_lexing.specs.Kinds.{LexKind, white, symbol, IsWhite, Matches, MatchesDef, numbered_from, lex_kinds}
+use Rattle.spec_lexing.specs.Kinds.{LexKind, white, symbol, Matches, MatchesDef, numbered_from, lex_kinds}
 use Rattle.chart_service.specs.declared.lexing.Matched.TheVariants.{White, Kind}
 use Rattle.chart_service.specs.declared.lexing.LongestMatch.{LongestMatch}
 use Rattle.chart_service.specs.Lexing.{kind_of, IsLongestOfKind, IsNowhere, IsLongest, IsBest, IsStep}
@@ -100,15 +102,15 @@ only_white text (suc place) start end m = cc
 
 -- a match of white space is the byte at its start, and that is white
 white_match : (text : List ℕ) (start end : ℕ) → start < end → end ≤ length text →
-    Matches white (slice_range text start end) → (end ≡ start + 1) × IsWhite (slice_index text start)
+    Matches white (slice_range text start end) → (end ≡ start + 1) × (is_white (slice_index text start) ≡ true)
 white_match text start end some within m =
     let one : (end ≡ start + 1) × (slice_index text start ≡ m.0) =
     one_byte text start end m.0 some within m.1 in
-    (one.0, subst IsWhite (sym one.1) m.2)
+    (one.0, subst (λ byte. is_white byte ≡ true) (sym one.1) m.2)
 
 -- before each kind of the grammar, a white byte is the longest match at its place
 pub white_is_longest : (text : List ℕ) (start : ℕ) → start < length text →
-    IsWhite (slice_index text start) →
+    is_white (slice_index text start) ≡ true →
     IsLongest [] text start (record { matched = White; end = start + 1 })
 white_is_longest text start before is = record {
   order = 0;
@@ -118,8 +120,8 @@ white_is_longest text start before is = record {
     within = omega arith;
     matches = (white, refl, (slice_index text start, range_one text start before, is));
     longest = λ other later after inside m.
-        let is_white : Matches white (slice_range text start later) = only_white text other start later m in
-        omega (arith, (white_match text start later (omega arith) inside is_white).0);
+        let as_white : Matches white (slice_range text start later) = only_white text other start later m in
+        omega (arith, (white_match text start later (omega arith) inside as_white).0);
     least = λ other below m. absurd (omega arith);
   };
   stands = refl;
@@ -127,10 +129,10 @@ white_is_longest text start before is = record {
 }
 
 -- before each kind of the grammar, nothing matches where no white byte stands
-pub not_white_is_unmatched : (text : List ℕ) (start : ℕ) → (IsWhite (slice_index text start) → ⊥) →
+pub not_white_is_unmatched : (text : List ℕ) (start : ℕ) → is_white (slice_index text start) ≡ false →
     IsUnmatched Matches (lex_kinds []) text start
-not_white_is_unmatched text start not place end some within m =
-    not (white_match text start end some within (only_white text place start end m)).1
+not_white_is_unmatched text start other place end some within m =
+    both_ways (is_white (slice_index text start)) other (white_match text start end some within (only_white text place start end m)).1
 
 -- the place of an element in a list that has one element more behind it
 module _ {A : Type 0} where

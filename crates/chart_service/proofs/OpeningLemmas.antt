@@ -1,7 +1,7 @@
 -- Accepting a grammar or refusing it, and opening a text.
 use Rattle.std.proofs.Common.{◌≡◌, ℕ, inl, inr, List, [], length, Option, Some, None, Ok, Err, ◌<◌}
 use Rattle.std.proofs.Common.{◌≤◌, arith, sym, ◌∙◌, ap, subst, option_map}
-use Rattle.std.specs.Option.{IfSome}
+use Rattle.std.specs.Option.{MatchOption}
 use Rattle.std.proofs.lemmas.List.{length-map}
 use Rattle.std.proofs.lemmas.Option.{same_Some, none-some}
 use Rattle.spec_lbnf.proofs.NameLemmas.{distinct_names}
@@ -15,7 +15,7 @@ use Rattle.spec_session.specs.Script.{opens}
 use Rattle.spec_session.specs.Replies.{IsReply, IsRefused, IsRefusedFor, AreAccepted, faulty, unfit}
 use Rattle.spec_session.specs.Replies.{too_many_symbols, fault_reason, unfit_reason, symbols_reason}
 use Rattle.spec_session.specs.Replies.{version_reply}
-use Rattle.lbnf_text.specs.Reading.{file_fault_of}
+use Rattle.lbnf_text.specs.Reading.{IsSmallText, file_fault_of}
 use Rattle.lbnf_text.specs.declared.fault.TextFault.TheVariants.{TooLarge}
 use Rattle.lbnf_grammar.specs.Grammars.{unfitness_of}
 use Rattle.binary_form.specs.BinaryForm.{MakesBinary}
@@ -65,19 +65,19 @@ pub too_long : (block : List ℕ) (count : ℕ) → count ≡ length block → 6
 too_long block count is many = is_large (omega (arith, is, many)) (ap too_large is)
 
 -- a reason that is told of a value is that of the value
-told : {A : Type 0} (reason_for : A → List ℕ) (Holds : A → Type 0) (value : Option A) (reason : List ℕ)
-    → IfSome value Holds → option_map reason_for value ≡ Some reason → (x : A) × Holds x × (reason ≡ reason_for x)
-told reason_for Holds (Some x) reason holds is = (x, holds, sym (same_Some (reason_for x) reason is))
-told reason_for Holds None reason holds is = absurd (none-some reason is)
+told : {A : Type 0} (reason_for : A → List ℕ) (Untold : Type 0) (Holds : A → Type 0) (value : Option A) (reason : List ℕ)
+    → MatchOption value Untold Holds → option_map reason_for value ≡ Some reason → (x : A) × Holds x × (reason ≡ reason_for x)
+told reason_for Untold Holds (Some x) reason holds is = (x, holds, sym (same_Some (reason_for x) reason is))
+told reason_for Untold Holds None reason holds is = absurd (none-some reason is)
 
 -- the reason that is told is one for which the block is refused
 reason_is : (block : List ℕ) (fault : LanguageFault) (reason : List ℕ) → ReadsLanguage block (Err fault)
     → reason_of fault ≡ Some reason → IsRefusedFor block reason
 reason_is block (Text fault) reason h is =
-    let first = told fault_reason (IsFirstFault block) (file_fault_of fault) reason h is in
+    let first = told fault_reason (IsSmallText block) (IsFirstFault block) (file_fault_of fault) reason h is in
     faulty first.0 first.1 first.2
 reason_is block (Grammar fault) reason h is =
-    let why = told unfit_reason (IsUnfit h.0) (unfitness_of fault) reason h.2 is in
+    let why = told unfit_reason (Unit {0}) (IsUnfit h.0) (unfitness_of fault) reason h.2 is in
     unfit h.0 why.0 h.1 why.1 why.2
 reason_is block (Binary BinaryMemory) reason h is = absurd (none-some reason is)
 reason_is block (Binary (TooManySymbols count)) reason h is =

@@ -1,13 +1,12 @@
 //! Lexing: the tokens of a whole ASCII text, each by longest match from where the last one ended.
-ghost use Rattle.std.specs.Prelude.{◌≡◌, ℕ, [], ◌+◌, ◌^◌, ◌<◌, ◌≤◌, ◌↔◌, List, take, length, IfOk};
-ghost use Rattle.std.specs.Prelude.{IsTrue, MatchOption};
+ghost use Rattle.std.specs.Prelude.{◌≡◌, [], ◌+◌, ◌^◌, ◌<◌, ◌≤◌, take, length, IfOk};
 ghost use Rattle.std.specs.Str.{IsAscii};
 ghost use Rattle.spec_lexing.specs.declared.kind_def.KindDef.TheVariants.{Word};
-ghost use Rattle.spec_lexing.specs.Kinds.{IsWhite};
 ghost use Rattle.spec_lexing.specs.Tokens.{AreTokensOf, kinds_of};
 ghost use Rattle.chart_service.specs.Lexing.{IsKindEnd, IsBest, IsStep};
 
 use spec_lexing::{KindDef, Token};
+use spec_text::is_white;
 use std::alloc::{AllocError, Global};
 
 /// What a longest match is of.
@@ -31,12 +30,6 @@ struct LongestMatch {
 struct Step {
     token: Option<Token>,
     end: usize,
-}
-
-fn is_white(byte: u8) -> bool
-    ensures { IsTrue result ↔ IsWhite byte }
-{
-    byte == b' ' || (b'\t'..=b'\r').contains(&byte)
 }
 
 /// Where the kind's longest match at start ends. None if it matches no byte there.

@@ -7,7 +7,7 @@ use Rattle.std.proofs.lemmas.List.{drop_at, drop_all}
 use Rattle.std.proofs.lemmas.List.Sums.{prefix_len_is}
 use Rattle.std.proofs.lemmas.Str.{IsCharBoundary-after_ascii}
 use Rattle.std.specs.Str.{IsCharBoundary}
-use Rattle.spec_lbnf.specs.FileBytes.{is_white}
+use Rattle.spec_text.specs.Bytes.{is_white}
 use Rattle.spec_lbnf.specs.FileTokens.{EndsFirst}
 use Rattle.spec_lbnf.specs.Scanning.{is_in_line, behind_line, behind_closing}
 use Rattle.spec_lbnf.proofs.SpaceLemmas.{closing_read, closing_again}

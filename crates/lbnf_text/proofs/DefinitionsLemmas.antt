@@ -7,7 +7,7 @@ use Rattle.spec_lbnf.specs.declared.definition.Def.{Def}
 use Rattle.spec_lbnf.specs.declared.token.PlacedToken.{PlacedToken}
 use Rattle.spec_lbnf.specs.GrammarFile.{is_semicolon}
 use Rattle.spec_lbnf.specs.Faults.{FileFault}
-use Rattle.spec_lbnf.specs.FileDefinitions.{piece_at, behind_piece, place_of, piece_def, and_defs, defs_at, defs_of}
+use Rattle.spec_lbnf.specs.FileDefinitions.{piece_at, behind_piece, offset_of, piece_def, and_defs, defs_at, defs_of}
 
 -- the token ends a piece
 abbrev pub ends_piece : PlacedToken → Bool
@@ -87,7 +87,7 @@ skip_semicolon tokens stop defs first behind read ends = by read.turns read.enou
 abbrev pub NextDefs : (tokens : List PlacedToken) (stop : ℕ) (defs : List Def) (size : ℕ) (piece after : List PlacedToken) → Type 0
 NextDefs tokens stop defs size piece after =
     (less : ℕ) × (size ≤ suc less)
-    × (defs_of tokens stop ≡ with_defs defs (and_defs (piece_def (length defs) piece (place_of after stop)) (defs_at less (suc (length defs)) after stop)))
+    × (defs_of tokens stop ≡ with_defs defs (and_defs (piece_def (length defs) piece (offset_of after stop)) (defs_at less (suc (length defs)) after stop)))
 
 -- a piece that is not empty is read next
 next_piece : (tokens : List PlacedToken) (stop : ℕ) (defs : List Def) (first : PlacedToken) (behind : List PlacedToken)
@@ -120,11 +120,11 @@ module _ (tokens : List PlacedToken) (stop : ℕ) (defs : List Def) (first : Pla
   next_defs = rw (is_piece, is_after) (next_piece tokens stop defs first behind read more)
 
   -- where the piece has a fault, it is the first
-  pub no_defs : (fault : FileFault) → piece_def (length defs) piece (place_of after stop) ≡ Err fault → defs_of tokens stop ≡ Err fault
+  pub no_defs : (fault : FileFault) → piece_def (length defs) piece (offset_of after stop) ≡ Err fault → defs_of tokens stop ≡ Err fault
   no_defs fault none = next_defs.2 ∙ rw none refl
 
   -- the definition of the piece is read
-  pub more_defs : (def : Def) → piece_def (length defs) piece (place_of after stop) ≡ Ok def → AreReadDefs tokens stop (defs ++ def ∷ []) after
+  pub more_defs : (def : Def) → piece_def (length defs) piece (offset_of after stop) ≡ Ok def → AreReadDefs tokens stop (defs ++ def ∷ []) after
   more_defs def some =
       let next = next_defs in
       let one : length (defs ++ def ∷ []) ≡ suc (length defs) = omega (arith, length-append defs (def ∷ [])) in

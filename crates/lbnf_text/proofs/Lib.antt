@@ -1,5 +1,4 @@
 pub mod ParsingLemmas
-pub mod WordLemmas
 pub mod DefinitionsLemmas
 pub mod CommentLemmas
 pub mod PartLemmas

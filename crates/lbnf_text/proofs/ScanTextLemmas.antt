@@ -30,7 +30,7 @@ module _ (size : ℕ) where
   pub token_then : (bytes here behind : List ℕ) (token : FileToken) (tokens : List PlacedToken) (stop : ℕ)
       → length bytes ≤ size → Skips bytes here → Some (token, behind) ≡ token_at here
       → AreTokensTo size behind tokens stop
-      → AreTokensTo size bytes (record { token = token; place = size - length here } ∷ tokens) stop
+      → AreTokensTo size bytes (record { token = token; offset = size - length here } ∷ tokens) stop
   token_then bytes here behind token tokens stop fits skips e more =
       let shorter = skip_shorter bytes here skips in
       (here, behind, skips, omega arith, token_read here token behind (sym e), more)

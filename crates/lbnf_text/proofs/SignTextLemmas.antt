@@ -30,14 +30,10 @@ high_no_sign byte high =
       apart 95 (omega arith),
     ) refl
 
--- a text may be cut behind an ASCII byte at its front
-pub behind_ascii : (text : List ℕ) → IsUtf8 text → 0 < length text → get_or text 0 0 < 128 → IsCharBoundary text 1
-behind_ascii text utf8 some low = IsCharBoundary-after_ascii text 0 utf8 some low
-
 -- a text may be cut behind a sign of one byte
 pub behind_sign : (text : List ℕ) (sign : Sign) → IsUtf8 text → 0 < length text
     → byte_sign (get_or text 0 0) ≡ Some sign → IsCharBoundary text 1
 behind_sign text sign utf8 some is = elim (cases_lt (get_or text 0 0) 128) [
-  | inl low ↦ behind_ascii text utf8 some low
+  | inl low ↦ IsCharBoundary-after_ascii text 0 utf8 some low
   | inr high ↦ absurd (none-some sign (sym (high_no_sign (get_or text 0 0) high) ∙ is))
 ]

@@ -5,7 +5,7 @@ ghost use Rattle.spec_lbnf.specs.FileDefinitions.{piece_at, behind_piece, piece_
 ghost use Rattle.lbnf_text.specs.Faulting.{Reads};
 
 use crate::fault::TextFault;
-use crate::faults::{place_of, stuck_fault};
+use crate::faults::{offset_of, stuck_fault};
 use crate::parser::{Parser, Stop, first_of, is_sign};
 use spec_lbnf::{Def, FileToken, PlacedToken, Sign};
 use std::alloc::Global;
@@ -37,7 +37,7 @@ fn cut(tokens: &[PlacedToken]) -> (&[PlacedToken], &[PlacedToken])
     tokens.split_at(piece_len(tokens))
 }
 
-/// The definition that all of the tokens of a piece are, or their fault. The stop is the place of
+/// The definition that all of the tokens of a piece are, or their fault. The stop is the offset of
 /// what stands behind the piece.
 #[tactic(auto, unfolding(spec_lbnf::specs::FileDefinitions::piece_def))]
 fn piece_def(alloc: Global, number: u32, piece: &[PlacedToken], stop: u32) -> Result<Def, TextFault>
@@ -49,13 +49,13 @@ fn piece_def(alloc: Global, number: u32, piece: &[PlacedToken], stop: u32) -> Re
         Err(Stop::Memory) => Err(TextFault::Memory),
         Err(Stop::Stuck) => Err(stuck_fault(alloc, number, piece, parser.rest(), stop)),
         Err(Stop::Long) => {
-            let at = place_of(parser.rest(), stop);
+            let at = offset_of(parser.rest(), stop);
             Err(TextFault::Syntax { at })
         }
     }
 }
 
-/// The definitions that the tokens are, or their first fault. The stop is the place behind the
+/// The definitions that the tokens are, or their first fault. The stop is the offset behind the
 /// last token.
 pub fn definitions(alloc: Global, tokens: &[PlacedToken], stop: u32) -> Result<Vec<Def>, TextFault>
     requires { length tokens.now ≤ 65536 }
@@ -70,7 +70,7 @@ pub fn definitions(alloc: Global, tokens: &[PlacedToken], stop: u32) -> Result<V
         }
         let (piece, behind) = cut(rest);
         let number = list.len() as u32;
-        let def = piece_def(alloc, number, piece, place_of(behind, stop))?;
+        let def = piece_def(alloc, number, piece, offset_of(behind, stop))?;
         list.push(def).map_err(|_| TextFault::Memory)?;
         rest = behind;
     }

@@ -5,7 +5,7 @@ use thiserror::Error;
 /// Why a grammar file gives no definitions.
 #[derive(Debug, Drop, Error)]
 pub enum TextFault {
-    /// Memory ran out. It may come at any file.
+    /// Memory ran out. It may come at any file of at most 65,536 bytes that is UTF-8.
     #[error("out of memory")]
     Memory,
     /// The file has so many bytes, more than 65,536.

@@ -1,18 +1,17 @@
 //! The fault of a definition that cannot go on.
-ghost use Rattle.std.specs.Prelude.{◌≡◌, ◌∷◌, [], codes, None, bytes_eq, IfOk};
+ghost use Rattle.std.specs.Prelude.{◌≡◌, ℕ, [], None, bytes_eq};
 ghost use Rattle.std.specs.List.{list_any};
 ghost use Rattle.std.specs.Option.{option_copied};
 ghost use Rattle.spec_lbnf.specs.declared.token.FileToken.TheVariants.{Identifier};
 ghost use Rattle.spec_lbnf.specs.Faults.{bare, unbuilt_words, word_fault, piece_fault, unsupported};
-ghost use Rattle.spec_lbnf.specs.FileDefinitions.{place_of, stuck_fault};
-ghost use Rattle.lbnf_text.specs.Faulting.{identifier, second_word_fault, IsFault, IsStart};
+ghost use Rattle.spec_lbnf.specs.FileDefinitions.{offset_of, stuck_fault};
+ghost use Rattle.lbnf_text.specs.Faulting.{identifier, second_fault, third_fault, IsFault, IsStart};
 
 use crate::fault::TextFault;
 use crate::parser::{first_of, is_sign, starts_upper};
-use crate::texts::copy_name;
 use spec_lbnf::{FileToken, PlacedToken, Sign};
 use spec_text::Name;
-use std::alloc::{AllocError, Global};
+use std::alloc::Global;
 
 /// What a definition has begun with, as far as its fault asks.
 #[derive(Clone, Copy)]
@@ -68,30 +67,15 @@ fn is_unbuilt(word: &[u8]) -> bool
     word == b"token".as_slice() || word == b"position".as_slice() || word == b"comment".as_slice()
 }
 
-/// That the word is not supported.
-fn unsupported(alloc: Global, word: &Name, at: u32) -> TextFault
+/// That the word, which is copied, is not supported.
+fn unsupported(alloc: Global, word: &str, at: u32) -> TextFault
     ensures { IsFault (unsupported word.now at) result }
 {
-    match copy_name(alloc, word) {
-        Ok(word) => TextFault::Unsupported { word, at },
-        Err(_) => TextFault::Memory,
-    }
-}
-
-/// The name `(`.
-fn open_paren(alloc: Global) -> Result<Name, AllocError>
-    ensures { IfOk result (λ word. word ≡ codes "(") }
-{
-    let bytes = Vec::from_slice(alloc, b"(".as_slice())?;
-    Ok(Name::of(bytes))
-}
-
-/// That an open parenthesis is not supported.
-fn unsupported_paren(alloc: Global, at: u32) -> TextFault
-    ensures { IsFault (unsupported (codes "(") at) result }
-{
-    match open_paren(alloc) {
-        Ok(word) => TextFault::Unsupported { word, at },
+    match Vec::from_slice(alloc, word.as_bytes()) {
+        Ok(bytes) => {
+            let word = Name::of(bytes);
+            TextFault::Unsupported { word, at }
+        }
         Err(_) => TextFault::Memory,
     }
 }
@@ -103,7 +87,7 @@ fn word_fault(alloc: Global, number: u32, word: &Name, at: u32) -> TextFault
     if is_unbuilt(word.as_slice()) {
         TextFault::Unbuilt { def: number }
     } else {
-        unsupported(alloc, word, at)
+        unsupported(alloc, word.as_str(), at)
     }
 }
 
@@ -122,8 +106,9 @@ fn first_fault(alloc: Global, number: u32, token: &FileToken, at: u32) -> TextFa
 }
 
 /// The fault of a word behind a first word.
-fn second_word(alloc: Global, number: u32, first: &Name, word: &Name, at: u32) -> TextFault
-    ensures { IsFault (second_word_fault number first.now word.now at) result }
+fn second_word(alloc: Global, first: &Name, word: &Name, at: u32) -> TextFault
+    ensures { (number : ℕ)
+        → IsFault (second_fault number first.now (Identifier word.now) at) result }
 {
     if first.as_slice() != b"internal".as_slice() {
         return TextFault::Syntax { at };
@@ -131,13 +116,13 @@ fn second_word(alloc: Global, number: u32, first: &Name, word: &Name, at: u32) -
     if starts_upper(word.as_slice()) {
         return TextFault::Syntax { at };
     }
-    unsupported(alloc, word, at)
+    unsupported(alloc, word.as_str(), at)
 }
 
 /// The fault of a token that is no word behind a first word.
-fn second_sign(alloc: Global, number: u32, first: &Name, token: &FileToken, at: u32) -> TextFault
+fn second_sign(alloc: Global, first: &Name, token: &FileToken, at: u32) -> TextFault
     requires { identifier token.now ≡ None }
-    ensures { IsFault (piece_fault number (Identifier first.now ∷ []) token.now at) result }
+    ensures { (number : ℕ) → IsFault (second_fault number first.now token.now at) result }
 {
     if !is_sign(Sign::OpenParen, token) {
         return TextFault::Syntax { at };
@@ -145,34 +130,26 @@ fn second_sign(alloc: Global, number: u32, first: &Name, token: &FileToken, at: 
     if !starts_upper(first.as_slice()) {
         return TextFault::Syntax { at };
     }
-    unsupported_paren(alloc, at)
+    unsupported(alloc, "(", at)
 }
 
 /// The fault of a token behind a first word.
-fn second_fault(alloc: Global, number: u32, first: &Name, token: &FileToken, at: u32) -> TextFault
-    ensures { IsFault (piece_fault number (Identifier first.now ∷ []) token.now at) result }
+fn second_fault(alloc: Global, first: &Name, token: &FileToken, at: u32) -> TextFault
+    ensures { (number : ℕ) → IsFault (second_fault number first.now token.now at) result }
 {
     match token {
-        FileToken::Identifier(word) => second_word(alloc, number, first, word, at),
-        FileToken::Number(_) => second_sign(alloc, number, first, token, at),
-        FileToken::Text(_) => second_sign(alloc, number, first, token, at),
-        FileToken::Character(_) => second_sign(alloc, number, first, token, at),
-        FileToken::Sign(_) => second_sign(alloc, number, first, token, at),
+        FileToken::Identifier(word) => second_word(alloc, first, word, at),
+        FileToken::Number(_) => second_sign(alloc, first, token, at),
+        FileToken::Text(_) => second_sign(alloc, first, token, at),
+        FileToken::Character(_) => second_sign(alloc, first, token, at),
+        FileToken::Sign(_) => second_sign(alloc, first, token, at),
     }
 }
 
 /// The fault of a token behind two words.
-fn third_fault(
-    alloc: Global,
-    number: u32,
-    first: &Name,
-    second: &Name,
-    token: &FileToken,
-    at: u32,
-) -> TextFault
-    ensures { IsFault
-        (piece_fault number (Identifier first.now ∷ Identifier second.now ∷ []) token.now at)
-        result }
+fn third_fault(alloc: Global, first: &Name, second: &Name, token: &FileToken, at: u32) -> TextFault
+    ensures { (number : ℕ)
+        → IsFault (third_fault number first.now second.now token.now at) result }
 {
     if !is_sign(Sign::OpenParen, token) {
         return TextFault::Syntax { at };
@@ -180,25 +157,24 @@ fn third_fault(
     if first.as_slice() != b"internal".as_slice() {
         return TextFault::Syntax { at };
     }
-    unsupported_paren(alloc, at)
+    unsupported(alloc, "(", at)
 }
 
 /// The fault of a token at which a definition that has begun with these cannot go on.
 fn token_fault(alloc: Global, number: u32, front: &[PlacedToken], token: &PlacedToken) -> TextFault
-    ensures { IsFault (piece_fault number (bare front.now) token.now.token token.now.place) result }
+    ensures { IsFault
+        (piece_fault number (bare front.now) token.now.token token.now.offset) result }
 {
-    let at = token.place;
+    let at = token.offset;
     match start_of(front) {
         Start::Nothing => first_fault(alloc, number, &token.token, at),
-        Start::Word(word) => second_fault(alloc, number, word, &token.token, at),
-        Start::TwoWords(word, other) => {
-            third_fault(alloc, number, word, other, &token.token, at)
-        }
+        Start::Word(word) => second_fault(alloc, word, &token.token, at),
+        Start::TwoWords(word, other) => third_fault(alloc, word, other, &token.token, at),
         Start::Other => TextFault::Syntax { at },
     }
 }
 
-/// The fault of a piece that cannot go on with its last tokens, these; the stop is the place of
+/// The fault of a piece that cannot go on with its last tokens, these; the stop is the offset of
 /// what stands behind the piece.
 pub fn stuck_fault(
     alloc: Global,
@@ -216,12 +192,12 @@ pub fn stuck_fault(
     token_fault(alloc, number, &piece[..read], token)
 }
 
-/// Where the first of the tokens begins, or else this place.
-pub fn place_of(tokens: &[PlacedToken], stop: u32) -> u32
-    ensures { result ≡ place_of tokens.now stop }
+/// Where the first of the tokens begins, or else this offset.
+pub fn offset_of(tokens: &[PlacedToken], stop: u32) -> u32
+    ensures { result ≡ offset_of tokens.now stop }
 {
     match first_of(tokens) {
-        Some((token, _)) => token.place,
+        Some((token, _)) => token.offset,
         None => stop,
     }
 }

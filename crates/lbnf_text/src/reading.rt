@@ -45,8 +45,9 @@ fn read_bytes(alloc: Global, bytes: &[u8]) -> Result<Vec<Def>, TextFault>
 /// The definitions that the bytes of a grammar file spell, or its first fault: labelled BNF after
 /// the BNF Converter's manual, in a profile of our own, of which all forms but definitions of
 /// tokens and of comments are built. A file has at most 65,536 bytes. Its size is looked at first,
-/// then its encoding, and then the least place at which it cannot go on. It takes work and memory
-/// in proportion to the file: each byte is looked at a few times, and names and words are copied.
+/// then its encoding, both without memory, and then the least offset at which it cannot go on. It
+/// takes work and memory in proportion to the file: each byte is looked at a few times, and names
+/// and words are copied.
 pub fn read_defs(alloc: Global, bytes: &[u8]) -> Result<Defs, TextFault>
     ensures { ReadsDefs bytes.now result }
 {

@@ -4,7 +4,7 @@ ghost use Rattle.std.specs.Prelude.{Some, None, IfOk, IfSome, MatchOption, encod
 ghost use Rattle.std.specs.Char.{IsScalar};
 ghost use Rattle.std.specs.List.{prefix_len};
 ghost use Rattle.std.specs.Option.{option_map};
-ghost use Rattle.spec_lbnf.specs.FileBytes.{is_white, is_name_byte};
+ghost use Rattle.spec_lbnf.specs.FileBytes.{is_name_byte};
 ghost use Rattle.spec_lbnf.specs.FileTokens.{Begins, is_letter, is_digit, escaped, longer_by};
 ghost use Rattle.spec_lbnf.specs.FileTokens.{Skips, IsScan};
 ghost use Rattle.spec_lbnf.specs.Scanning.{behind_line, behind_closing, behind_white, behind_space};
@@ -14,7 +14,7 @@ ghost use Rattle.spec_lbnf.specs.Scanning.{token_at};
 ghost use Rattle.lbnf_text.specs.LiteralParts.{IsPartOf, IsScalarPart, LeavesFewer};
 
 use spec_lbnf::{FileToken, PlacedToken, Sign};
-use spec_text::Name;
+use spec_text::{Name, is_white};
 use std::alloc::{AllocError, Global};
 
 /// The most bytes of an identifier.
@@ -29,7 +29,7 @@ const OPENING: &str = "{-";
 /// What closes a block comment.
 const CLOSING: &str = "-}";
 
-/// The tokens of a file, and the place up to which they reach: the end of the file, or the first
+/// The tokens of a file, and the offset up to which they reach: the end of the file, or the first
 /// byte at which no token begins.
 #[derive(Debug, Drop)]
 pub(crate) struct Scan {
@@ -64,12 +64,6 @@ fn behind_closing(text: &str) -> Option<&str>
 {
     let (_block, rest) = text.split_once(CLOSING)?;
     Some(rest)
-}
-
-fn is_white(byte: u8) -> bool
-    ensures { result ≡ is_white byte }
-{
-    byte == b' ' || (9 <= byte && byte <= 13)
 }
 
 /// What is behind the white byte at the front.
@@ -347,14 +341,14 @@ pub(crate) fn scan_file(alloc: Global, text: &str) -> Result<Scan, AllocError>
     let mut rest = text;
     loop {
         let here = skip_spaces(rest);
-        let place = (text.len() - here.len()) as u32;
+        let offset = (text.len() - here.len()) as u32;
         let Some((token, behind)) = token(alloc, here)? else {
             return Ok(Scan {
                 tokens,
-                stop: place,
+                stop: offset,
             });
         };
-        tokens.push(PlacedToken { token, place })?;
+        tokens.push(PlacedToken { token, offset })?;
         rest = behind;
     }
 }
@@ -387,15 +381,15 @@ mod tests {
     }
 
     fn are_tokens(tokens: &[PlacedToken], expected: &[(u32, Seen<'_>)]) -> bool {
-        for (token, (place, seen)) in tokens.iter().zip(expected) {
-            if token.place != *place || !is_token(&token.token, seen) {
+        for (token, (offset, seen)) in tokens.iter().zip(expected) {
+            if token.offset != *offset || !is_token(&token.token, seen) {
                 return false;
             }
         }
         tokens.len() == expected.len()
     }
 
-    /// Whether the scan of the text has these tokens at their places, and this stop.
+    /// Whether the scan of the text has these tokens at their offsets, and this stop.
     fn is_scan(
         alloc: Global,
         text: &str,

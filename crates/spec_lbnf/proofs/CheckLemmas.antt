@@ -1,6 +1,7 @@
 -- Definitions are fit, or unfit for one reason.
 use Rattle.std.proofs.Common.{◌≡◌, ℕ, ◌<◌, ◌⊎◌, List, [], ◌∷◌, ◌++◌, length, All, Contains, Some, slice_get, refl, sym, ap, subst, ◌∙◌, inl, inr, arith}
 use Rattle.std.specs.List.{AllByRecursion}
+use Rattle.std.proofs.lemmas.Bool.{cases_order}
 use Rattle.std.proofs.lemmas.List.Elements.{All-contains, Contains-append_right, Contains-get_or, recursion_from_All}
 use Rattle.std.proofs.lemmas.Option.{slice_get_within, get_or_from_slice_get, same_Some}
 use Rattle.spec_grammar.specs.declared.rule.Label.TheVariants.{Wild}
@@ -14,7 +15,7 @@ use Rattle.spec_lbnf.specs.Checks.{categories_in, IsBadWild, IsBadCoercion, IsOn
 use Rattle.spec_lbnf.specs.Checks.{HasFewRules, HasOwnNames, AtLabels, AtCount, AtOwnName, AtUnknown, AtCycle, unknown_fault}
 use Rattle.spec_lbnf.specs.Checks.{Unfitness, bad_coercion, bad_list, repeated_token, cyclic_category}
 use Rattle.spec_lbnf.specs.Laws.{FitOrUnfit, OneUnfitness}
-use Rattle.spec_lbnf.proofs.CycleLemmas.{three_ways, acyclic_or_cyclic, one_cyclic}
+use Rattle.spec_lbnf.proofs.CycleLemmas.{acyclic_or_cyclic, one_cyclic}
 
 -- what holds of all definitions holds of the one at a place
 each_def : (P : Def → Type 0) (defs : List Def) (number : ℕ) (def : Def) → All P defs
@@ -69,9 +70,9 @@ module _ (defs : List Def) where
 
   -- at most one definition names the first unknown category
   one_number : (a b : List ℕ) (i j : ℕ) → IsFirstUnknown defs a i → IsFirstUnknown defs b j → i ≡ j
-  one_number a b i j first second = elim (three_ways i j) [
-    | inl before ↦ absurd (names_unknown a i first (second.earlier i first.def before first.is_def))
-    | inr (inl same) ↦ same
+  one_number a b i j first second = elim (cases_order i j) [
+    | inl same ↦ same
+    | inr (inl before) ↦ absurd (names_unknown a i first (second.earlier i first.def before first.is_def))
     | inr (inr behind) ↦ absurd (names_unknown b j second (first.earlier j second.def behind second.is_def))
   ]
 
@@ -86,9 +87,9 @@ module _ (defs : List Def) where
   -- the first bad definitions of two sorts are one, where each sort is not well labelled
   one_bad : (A B : Def → Type 0) → ((def : Def) → A def → IsWellLabelled def → ⊥) → ((def : Def) → B def → IsWellLabelled def → ⊥)
       → (i j : ℕ) → IsFirstBad A defs i → IsFirstBad B defs j → i ≡ j
-  one_bad A B ill ill' i j first second = elim (three_ways i j) [
-    | inl before ↦ absurd (ill first.def first.bad (second.earlier i first.def before first.is_def))
-    | inr (inl same) ↦ same
+  one_bad A B ill ill' i j first second = elim (cases_order i j) [
+    | inl same ↦ same
+    | inr (inl before) ↦ absurd (ill first.def first.bad (second.earlier i first.def before first.is_def))
     | inr (inr behind) ↦ absurd (ill' second.def second.bad (first.earlier j second.def behind second.is_def))
   ]
 

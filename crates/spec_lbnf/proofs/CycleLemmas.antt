@@ -1,11 +1,8 @@
 -- A grammar is without a cycle, or has one first cyclic category.
-use Rattle.std.proofs.Common.{◌≡◌, ℕ, ◌<◌, ◌⊎◌, Some, slice_get, sym, ap, ◌∙◌, inl, inr, arith}
+use Rattle.std.proofs.Common.{◌≡◌, Some, slice_get, sym, ap, ◌∙◌, inl, inr}
+use Rattle.std.proofs.lemmas.Bool.{cases_order}
 use Rattle.std.proofs.lemmas.Option.{same_Some}
 use Rattle.spec_lbnf.specs.Laws.{AcyclicOrCyclic, OneCyclic}
-
--- a number is below another, the same, or above it
-pub three_ways : (m n : ℕ) → (m < n) ⊎ ((m ≡ n) ⊎ (n < m))
-three_ways m n = grind arith
 
 -- no grammar both is without a cycle and has a first cyclic category
 pub acyclic_or_cyclic : AcyclicOrCyclic
@@ -13,11 +10,11 @@ acyclic_or_cyclic g name acyclic first = acyclic first.category first.cyclic
 
 -- at most one text is that of the first cyclic category
 pub one_cyclic : OneCyclic
-one_cyclic g a b first other = elim (three_ways first.category other.category) [
-  | inl before ↦ absurd (other.earlier first.category before first.cyclic)
-  | inr (inl same) ↦
+one_cyclic g a b first other = elim (cases_order first.category other.category) [
+  | inl same ↦
       let there : slice_get g.categories first.category ≡ Some b =
       ap (slice_get g.categories) same ∙ other.is_category in
       same_Some a b (sym first.is_category ∙ there)
+  | inr (inl before) ↦ absurd (other.earlier first.category before first.cyclic)
   | inr (inr behind) ↦ absurd (first.earlier other.category behind other.cyclic)
 ]

@@ -12,7 +12,7 @@ use Rattle.spec_lbnf.specs.declared.token.PlacedToken.{PlacedToken}
 use Rattle.spec_lbnf.specs.GrammarFile.{category_tokens, SpellsDef, is_semicolon, pieces_of, AreSpelledBy, SpellsDefs}
 use Rattle.spec_lbnf.specs.Faults.{FileFault, syntax, bare, CanGoOn, HasLongCategory, last_piece, piece_fault, token_fault, at_token, at_bytes, at_end, IsFirstLong, FaultsAt, at_long, behind as goes_no_further}
 use Rattle.spec_lbnf.specs.FileReading.{Read, got, stuck, long, def_at}
-use Rattle.spec_lbnf.specs.FileDefinitions.{piece_at, behind_piece, place_of, def_or_fault, piece_def, and_defs, defs_at, defs_of}
+use Rattle.spec_lbnf.specs.FileDefinitions.{piece_at, behind_piece, offset_of, def_or_fault, piece_def, and_defs, defs_at, defs_of}
 use Rattle.spec_lbnf.proofs.BoundaryLemmas.{IsClosed, IsOpenFront, LacksLong, closed_both, lacks_both, long_of_one, one_closed, nothing_closed}
 use Rattle.spec_lbnf.proofs.ReaderLemmas.{IsNothing, GoesOn, IsGot, IsStuckAt, IsLongAt, Tells, HaveShortNames, short_behind, short_before, bare-append}
 use Rattle.spec_lbnf.proofs.CategoryLemmas.{category_no_close}
@@ -210,14 +210,14 @@ module _ (bytes : List ℕ) (all : List PlacedToken) (stop : ℕ) where
 
     -- the piece cannot go on with a token of it
     stuck_within : (token : PlacedToken) (rest : List PlacedToken) (is : IsStuckAt IsNothing DefOf piece (token ∷ rest))
-        → HasFault (piece_fault number (bare is.front) token.token token.place)
+        → HasFault (piece_fault number (bare is.front) token.token token.offset)
     stuck_within token rest is = record {
       front = earlier ++ is.front;
       rest = token ∷ rest ++ after;
       split = split;
       viable = viable_front is.front is.goes_on;
       faults = goes_no_further (lacks_front is.front is.closed)
-          (at_token token (rest ++ after) split stuck_here (fault_within is.front own_within token.token token.place));
+          (at_token token (rest ++ after) split stuck_here (fault_within is.front own_within token.token token.offset));
     }
       where
         split : all ≡ (earlier ++ is.front) ++ (token ∷ rest ++ after)
@@ -246,7 +246,7 @@ module _ (bytes : List ℕ) (all : List PlacedToken) (stop : ℕ) where
             is.blocked (token.token ∷ begun.0) one.0 [] (begun.0, refl) (one.1, refl)
 
     -- the piece ends too early
-    stuck_behind : IsStuckAt IsNothing DefOf piece [] → Fits false (bare after) → HasFault (syntax (place_of after stop))
+    stuck_behind : IsStuckAt IsNothing DefOf piece [] → Fits false (bare after) → HasFault (syntax (offset_of after stop))
     stuck_behind is fits = by after whole fits
       where
         front_is : is.front ≡ piece
@@ -274,7 +274,7 @@ module _ (bytes : List ℕ) (all : List PlacedToken) (stop : ℕ) where
             no_def one.0 one.1
 
         by : (after : List PlacedToken) → all ≡ earlier ++ (piece ++ after) → Fits false (bare after)
-            → HasFault (syntax (place_of after stop))
+            → HasFault (syntax (offset_of after stop))
         by [] whole fits = record {
           front = earlier ++ piece;
           rest = [];
@@ -298,18 +298,18 @@ module _ (bytes : List ℕ) (all : List PlacedToken) (stop : ℕ) where
               (at_token semicolon rest (whole ∙ sym (append_assoc earlier piece (semicolon ∷ rest)))
               (λ can. none_spelled can.1 (semicolon.token ∷ can.0) fits
               (subst (SpellsDefs can.1) (append_assoc (bare (earlier ++ piece)) (semicolon.token ∷ []) can.0) can.2))
-              (rw (semicolon_is semicolon.token fits) (sym (semicolon_fault (length (pieces_of (bare (earlier ++ piece)))) (last_piece (bare (earlier ++ piece))) semicolon.place))));
+              (rw (semicolon_is semicolon.token fits) (sym (semicolon_fault (length (pieces_of (bare (earlier ++ piece)))) (last_piece (bare (earlier ++ piece))) semicolon.offset))));
         }
 
     -- the piece has a category that is too long
-    too_long : (rest : List PlacedToken) → IsLongAt IsNothing DefOf piece rest → HasFault (syntax (place_of rest (place_of after stop)))
+    too_long : (rest : List PlacedToken) → IsLongAt IsNothing DefOf piece rest → HasFault (syntax (offset_of rest (offset_of after stop)))
     too_long rest is = by is.begins.own is.begins.whole is.begins.spelled is.goes_on
       where
         before_closed : IsClosed (bare (earlier ++ is.front))
         before_closed = rw (bare-append earlier is.front) (closed_both (bare earlier) (bare is.front) done.closed is.closed)
 
         by : (own : List PlacedToken) → rest ≡ own ++ is.begins.behind → bare own ≡ category_tokens is.begins.cat
-            → GoesOn IsNothing DefOf (bare is.front ++ bare own) → HasFault (syntax (place_of rest (place_of after stop)))
+            → GoesOn IsNothing DefOf (bare is.front ++ bare own) → HasFault (syntax (offset_of rest (offset_of after stop)))
         by [] e spelled goes =
             absurd (category_some is.begins.cat [] (append-nil (category_tokens is.begins.cat) ∙ sym spelled))
         by (token ∷ own) e spelled goes = record {
@@ -318,7 +318,7 @@ module _ (bytes : List ℕ) (all : List PlacedToken) (stop : ℕ) where
           split = cut_parts all earlier piece after (is.front ++ token ∷ own) is.begins.behind whole
               (is.whole ∙ ap (λ ts. is.front ++ ts) e ∙ sym (append_assoc is.front (token ∷ own) is.begins.behind));
           viable = viable_front (is.front ++ token ∷ own) (rw (bare-append is.front (token ∷ own)) goes);
-          faults = at_long token.place first_long (ap (λ ts. syntax (place_of ts (place_of after stop))) e);
+          faults = at_long token.offset first_long (ap (λ ts. syntax (offset_of ts (offset_of after stop))) e);
         }
           where
             split_long : earlier ++ (is.front ++ token ∷ own) ≡ (earlier ++ is.front) ++ token ∷ own
@@ -327,13 +327,13 @@ module _ (bytes : List ℕ) (all : List PlacedToken) (stop : ℕ) where
             in_bare : bare (earlier ++ (is.front ++ token ∷ own)) ≡ bare (earlier ++ is.front) ++ category_tokens is.begins.cat
             in_bare = ap bare split_long ∙ bare-append (earlier ++ is.front) (token ∷ own) ∙ ap (λ ts. bare (earlier ++ is.front) ++ ts) spelled
 
-            first_long : IsFirstLong (earlier ++ (is.front ++ token ∷ own)) token.place
+            first_long : IsFirstLong (earlier ++ (is.front ++ token ∷ own)) token.offset
             first_long = record {
               before = earlier ++ is.front;
               first = token;
               behind = own;
               split = split_long;
-              is_place = refl;
+              is_offset = refl;
               long = record {
                 cat = is.begins.cat;
                 is_cat = is.begins.is_cat;
@@ -374,7 +374,7 @@ module _ (bytes : List ℕ) (all : List PlacedToken) (stop : ℕ) where
     -- what is read of a piece, and of the tokens behind it
     read_piece : (x : Read Def) → Tells IsNothing DefOf piece x → Fits false (bare after) → (behind : Result (List Def) FileFault)
         → ((def : Def) → IsDone false (earlier ++ piece) (defs ++ def ∷ []) → Outcome (defs ++ def ∷ []) behind)
-        → Outcome defs (and_defs (def_or_fault number piece (place_of after stop) x) behind)
+        → Outcome defs (and_defs (def_or_fault number piece (offset_of after stop) x) behind)
     read_piece (got def rest) is fits (Ok more) behind_is =
         let behind = behind_is def (got_whole def rest is) in
         (subst (λ list. SpellsDefs list (bare all)) (append_assoc defs (def ∷ []) more) behind.0, behind.1)
@@ -453,7 +453,7 @@ module _ (bytes : List ℕ) (all : List PlacedToken) (stop : ℕ) (ends : (stop 
       → Outcome bytes all stop defs
       (cond b (defs_at turns number tokens stop)
       (and_defs
-      (piece_def number (cond b [] (token ∷ piece_at tokens)) (place_of (cond b (token ∷ tokens) (behind_piece tokens)) stop))
+      (piece_def number (cond b [] (token ∷ piece_at tokens)) (offset_of (cond b (token ∷ tokens) (behind_piece tokens)) stop))
       (defs_at turns (suc number) (cond b (token ∷ tokens) (behind_piece tokens)) stop)))
   unfolding piece_def
   tell_first turns tell number open_for_more earlier token tokens defs done fits whole is_number few short true e =

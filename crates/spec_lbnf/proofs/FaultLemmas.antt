@@ -56,14 +56,14 @@ same_next (y ∷ xs) ys (v ∷ us) vs x u e len =
     let tail : xs ++ x ∷ ys ≡ us ++ u ∷ vs = cc e in
     same_next xs ys us vs x u tail (omega (arith, len))
 
--- there are as many tokens without their places
+-- there are as many tokens without their offsets
 bare_len : (tokens : List PlacedToken) → length (bare tokens) ≡ length tokens
 bare_len tokens = length-map tokens (λ (t : PlacedToken). t.token)
 
 -- the first category that is too long in a front is the first in the whole
 same_long : (front gap : List PlacedToken) (p q : ℕ) → IsFirstLong front p → IsFirstLong (front ++ gap) q → p ≡ q
 same_long front gap p q first second =
-    first.is_place ∙ ap (λ (t : PlacedToken). t.place) next ∙ sym second.is_place
+    first.is_offset ∙ ap (λ (t : PlacedToken). t.offset) next ∙ sym second.is_offset
   where
     in_whole : HasLongCategory (bare (front ++ gap)) (bare first.before)
     in_whole = rw (bare-append front gap) (long_before (bare front) (bare gap) (bare first.before) first.long)
@@ -126,7 +126,7 @@ module _ (bytes : List ℕ) (all : List PlacedToken) (stop : ℕ) where
   same_stop front a b (at_token s u whole_s stuck_s is_a) (at_token t v whole_t stuck_t is_b) =
       let e : s ∷ u ≡ t ∷ v = append_cancel_left front (s ∷ u) (t ∷ v) (sym whole_s ∙ whole_t) in
       let same : s ≡ t = cc e in
-      is_a ∙ ap (λ (x : PlacedToken). token_fault (bare front) x.token x.place) same ∙ sym is_b
+      is_a ∙ ap (λ (x : PlacedToken). token_fault (bare front) x.token x.offset) same ∙ sym is_b
   same_stop front a b (at_token s u whole_s stuck_s is_a) (at_bytes whole_t early is_b) = absurd (nothing_behind front u s whole_s whole_t)
   same_stop front a b (at_token s u whole_s stuck_s is_a) (at_end whole_t end is_b none) = absurd (nothing_behind front u s whole_s whole_t)
   same_stop front a b (at_bytes whole_s early is_a) (at_token t v whole_t stuck_t is_b) = absurd (nothing_behind front v t whole_t whole_s)
@@ -204,7 +204,7 @@ scan_within : (size : ℕ) (bytes : List ℕ) (tokens : List PlacedToken) (stop 
 scan_within size bytes [] stop scan = omega (arith, scan.3)
 scan_within size bytes (token ∷ tokens) stop scan = scan_within size scan.1 tokens stop scan.5
 
--- a place within the file is before its end or at it
+-- an offset within the file is before its end or at it
 before_or_at : (stop size : ℕ) → stop ≤ size → (stop < size) ⊎ (stop ≡ size)
 before_or_at stop size le = elim (cases_lt stop size) [
   | inl lt ↦ inl lt

@@ -110,7 +110,7 @@ TokenOf value_of value tokens rest =
 abbrev pub AtEnd : {A : Type 0} → A → Spelling A
 AtEnd a value tokens rest = (value ≡ a) × (tokens ≡ []) × (rest ≡ [])
 
--- tokens without places, of two lists
+-- tokens without offsets, of two lists
 pub bare-append : (xs ys : List PlacedToken) → bare (xs ++ ys) ≡ bare xs ++ bare ys
 bare-append [] ys = refl
 bare-append (x ∷ xs) ys = ap (λ zs. x.token ∷ zs) (bare-append xs ys)
@@ -221,7 +221,7 @@ in_parts : (tokens used rest front behind : List PlacedToken) → tokens ≡ use
     → tokens ≡ (used ++ front) ++ behind
 in_parts tokens used rest front behind e f = e ∙ ap (λ zs. used ++ zs) f ∙ sym (append_assoc used front behind)
 
--- two parts without places, and others behind them
+-- two parts without offsets, and others behind them
 bare_parts : (used front : List PlacedToken) (others : List FileToken)
     → bare (used ++ front) ++ others ≡ bare used ++ (bare front ++ others)
 bare_parts used front others =

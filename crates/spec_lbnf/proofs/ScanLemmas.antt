@@ -1,5 +1,5 @@
 -- Scans: a token that stands before a rest is read, and what is read stands there; so a file has one
--- scan, whose places rise.
+-- scan, whose offsets rise.
 use Rattle.std.proofs.Common.{◌≡◌, ℕ, zero, suc, ◌+◌, ◌-◌, ◌<◌, ◌≤◌, List, [], ◌∷◌, ◌++◌, length, drop, codes, Bool, true, false, eqb, Option, Some, None, option_and_then, refl, sym, ap, subst, ◌∙◌, inl, inr, arith, length-append}
 use Rattle.std.proofs.lemmas.Bool.{cases_Bool, both_ways, eqb-true, ne_eqb, and_left, cond-false}
 use Rattle.std.proofs.lemmas.Bool.Decides.{nat_tests}
@@ -10,7 +10,7 @@ use Rattle.spec_lbnf.specs.declared.token.FileToken.{FileToken}
 use Rattle.spec_lbnf.specs.declared.token.FileToken.TheVariants.{Identifier, Number, Text, Character}
 use Rattle.spec_lbnf.specs.declared.token.FileToken.TheVariants.{Sign as SignToken}
 use Rattle.spec_lbnf.specs.declared.token.PlacedToken.{PlacedToken}
-use Rattle.spec_lbnf.specs.FileBytes.{is_white}
+use Rattle.spec_text.specs.Bytes.{is_white}
 use Rattle.spec_lbnf.specs.FileTokens.{is_letter, is_digit, Begins, BeginsWith, sign_bytes, Separates, Skips, nothing, goes_on, IsStuck, AreTokensTo, IsScan}
 use Rattle.spec_lbnf.specs.FileLaws.{RiseTo}
 use Rattle.spec_lbnf.specs.Scanning.{has_front, behind_space, identifier_at, number_token_at, byte_sign, longest_of, sign_token_at, token_at, tokens_by, tokens_from, scan_of}
@@ -244,13 +244,13 @@ skip_shorter bytes here (nothing _ _ e) = omega (arith, ap length e)
 skip_shorter bytes here (goes_on _ behind _ space skips) =
     omega (arith, space_some bytes behind space, skip_shorter behind here skips)
 
--- equal tokens at equal places before equal tokens are equal
+-- equal tokens at equal offsets before equal tokens are equal
 same_tokens : (token other : PlacedToken) (tokens others : List PlacedToken) → token.token ≡ other.token
-    → token.place ≡ other.place → tokens ≡ others → token ∷ tokens ≡ other ∷ others
-same_tokens token other tokens others t p e = λ i. record { token = t i; place = p i } ∷ e i
+    → token.offset ≡ other.offset → tokens ≡ others → token ∷ tokens ≡ other ∷ others
+same_tokens token other tokens others t p e = λ i. record { token = t i; offset = p i } ∷ e i
 
 module _ (size : ℕ) where
-  -- bytes have at most one list of tokens, up to one place
+  -- bytes have at most one list of tokens, up to one offset
   pub one_list : (a b : List PlacedToken) (bytes : List ℕ) (s t : ℕ) → AreTokensTo size bytes a s
       → AreTokensTo size bytes b t → (a ≡ b) × (s ≡ t)
   one_list [] [] bytes s t (rest, skips, stuck, e) (rest', skips', stuck', e') =
@@ -270,16 +270,16 @@ module _ (size : ℕ) where
       let rest = one_list a b behind s t more (subst (λ l. AreTokensTo size l b t) (sym parts.1) more') in
       (same_tokens token other a b parts.0 (omega (arith, ap length same)) rest.0, rest.1)
 
-  -- the places of tokens rise from where the bytes begin
-  pub places_rise : (tokens : List PlacedToken) (bytes : List ℕ) (from stop : ℕ) → from + length bytes ≤ size
+  -- the offsets of tokens rise from where the bytes begin
+  pub offsets_rise : (tokens : List PlacedToken) (bytes : List ℕ) (from stop : ℕ) → from + length bytes ≤ size
       → AreTokensTo size bytes tokens stop → RiseTo from tokens stop × (stop ≤ size)
-  places_rise [] bytes from stop l (rest, skips, stuck, e) =
+  offsets_rise [] bytes from stop l (rest, skips, stuck, e) =
       let fewer = skip_shorter bytes rest skips in
       (omega arith, omega arith)
-  places_rise (token ∷ tokens) bytes from stop l (here, rest, skips, e, begins, more) =
+  offsets_rise (token ∷ tokens) bytes from stop l (here, rest, skips, e, begins, more) =
       let fewer = skip_shorter bytes here skips in
       let some = token_some token.token here rest begins in
-      let behind = places_rise tokens rest (token.place + 1) stop (omega arith) more in
+      let behind = offsets_rise tokens rest (token.offset + 1) stop (omega arith) more in
       ((omega arith, behind.0), behind.1)
 
   -- the tokens behind what separates tokens are those from its beginning on

@@ -27,7 +27,7 @@ pub data FileFault : Type 0 where
   unsupported : (word : List ℕ) → (at : ℕ) → FileFault
   unbuilt : (number : ℕ) → FileFault
 
--- the tokens without their places
+-- the tokens without their offsets
 abbrev pub bare : List PlacedToken → List FileToken
 bare tokens = map (λ (token : PlacedToken). token.token) tokens
 
@@ -69,7 +69,7 @@ last_piece (token ∷ tokens) =
 abbrev pub unbuilt_words : List (List ℕ)
 unbuilt_words = codes "token" ∷ codes "position" ∷ codes "comment" ∷ []
 
--- the fault of a word that cannot begin a definition, at this place behind so many definitions
+-- the fault of a word that cannot begin a definition, at this offset behind so many definitions
 abbrev pub word_fault : ℕ → List ℕ → ℕ → FileFault
 word_fault number word at =
     cond (list_any (bytes_eq word) unbuilt_words) (unbuilt number) (unsupported word at)
@@ -102,7 +102,7 @@ pub data StopsBehind (bytes : List ℕ) (tokens : List PlacedToken) (stop : ℕ)
   at_token : (token : PlacedToken) (behind : List PlacedToken) →
       tokens ≡ front ++ token ∷ behind →
       (CanGoOn (bare front ++ token.token ∷ []) → ⊥) →
-      fault ≡ token_fault (bare front) token.token token.place →
+      fault ≡ token_fault (bare front) token.token token.offset →
       StopsBehind bytes tokens stop front fault
   -- the tokens end before the file, at bytes that begin no token
   at_bytes : tokens ≡ front → stop < length bytes → fault ≡ syntax stop →
@@ -112,13 +112,13 @@ pub data StopsBehind (bytes : List ℕ) (tokens : List PlacedToken) (stop : ℕ)
       ((defs : List Def) → SpellsDefs defs (bare tokens) → ⊥) →
       StopsBehind bytes tokens stop front fault
 
--- the first whole category of more than 128 bytes among the tokens begins at this place
-pub record IsFirstLong (tokens : List PlacedToken) (place : ℕ) : Type 0 where
+-- the first whole category of more than 128 bytes among the tokens begins at this offset
+pub record IsFirstLong (tokens : List PlacedToken) (offset : ℕ) : Type 0 where
   pub before : List PlacedToken
   pub first : PlacedToken
   pub behind : List PlacedToken
   pub split : tokens ≡ before ++ first ∷ behind
-  pub is_place : place ≡ first.place
+  pub is_offset : offset ≡ first.offset
   pub long : HasLongCategory (bare tokens) (bare before)
   pub earlier : (other : List FileToken) → HasLongCategory (bare tokens) other
       → length before ≤ length other
@@ -128,7 +128,7 @@ pub record IsFirstLong (tokens : List PlacedToken) (place : ℕ) : Type 0 where
 pub data FaultsAt (bytes : List ℕ) (tokens : List PlacedToken) (stop : ℕ)
     (front : List PlacedToken) (fault : FileFault) : Type 0 where
   -- a category is too long
-  at_long : (place : ℕ) → IsFirstLong front place → fault ≡ syntax place →
+  at_long : (offset : ℕ) → IsFirstLong front offset → fault ≡ syntax offset →
       FaultsAt bytes tokens stop front fault
   -- what comes next cannot go on
   behind : ((before : List FileToken) → HasLongCategory (bare front) before → ⊥) →
@@ -145,7 +145,7 @@ pub record IsTokenFault (bytes : List ℕ) (fault : FileFault) : Type 0 where
   pub viable : CanGoOn (bare front)
   pub faults : FaultsAt bytes tokens stop front fault
 
--- the first fault of a file: its size, then its encoding, then the least place at which it cannot
+-- the first fault of a file: its size, then its encoding, then the least offset at which it cannot
 -- go on
 pub data IsFirstFault (bytes : List ℕ) (fault : FileFault) : Type 0 where
   is_large : 65536 < length bytes → fault ≡ too_large (length bytes) → IsFirstFault bytes fault

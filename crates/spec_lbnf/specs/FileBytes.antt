@@ -1,10 +1,6 @@
 -- The bytes that the tokens of a grammar file are made of.
 use Rattle.std.specs.Prelude.{◌≡◌, ℕ, List, [], ◌∷◌, Bool, false, ◌&&◌, ◌||◌, nat_eq, nat_le}
 
--- the byte separates tokens: space, tab, LF, VT, FF or CR
-abbrev pub is_white : ℕ → Bool
-is_white byte = nat_eq byte 32 || (nat_le 9 byte && nat_le byte 13)
-
 -- the byte is an upper-case letter
 abbrev pub is_upper : ℕ → Bool
 is_upper byte = nat_le 65 byte && nat_le byte 90

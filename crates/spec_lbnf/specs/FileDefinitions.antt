@@ -17,25 +17,25 @@ abbrev pub behind_piece : List PlacedToken → List PlacedToken
 behind_piece [] = []
 behind_piece (token ∷ rest) = cond (is_semicolon token.token) (token ∷ rest) (behind_piece rest)
 
--- where the first of the tokens begins, or else this place
-abbrev pub place_of : List PlacedToken → ℕ → ℕ
-place_of [] stop = stop
-place_of (token ∷ rest) stop = token.place
+-- where the first of the tokens begins, or else this offset
+abbrev pub offset_of : List PlacedToken → ℕ → ℕ
+offset_of [] stop = stop
+offset_of (token ∷ rest) stop = token.offset
 
 -- the fault of a piece that cannot go on with its last tokens, these, by its number and by the
--- place of what stands behind it
+-- offset of what stands behind it
 abbrev pub stuck_fault : (number : ℕ) → (piece rest : List PlacedToken) → (stop : ℕ) → FileFault
 stuck_fault number piece [] stop = syntax stop
 stuck_fault number piece (token ∷ rest) stop =
     piece_fault number (bare (take (length piece - length (token ∷ rest)) piece))
-    token.token token.place
+    token.token token.offset
 
 -- the definition that was read of a piece, or its fault
 abbrev pub def_or_fault : (number : ℕ) → (piece : List PlacedToken) → (stop : ℕ) → Read Def
     → Result Def FileFault
 def_or_fault number piece stop (got def rest) = Ok def
 def_or_fault number piece stop (stuck rest) = Err (stuck_fault number piece rest stop)
-def_or_fault number piece stop (long rest) = Err (syntax (place_of rest stop))
+def_or_fault number piece stop (long rest) = Err (syntax (offset_of rest stop))
 
 -- the definition of a piece, or its fault
 unfoldable pub piece_def : (number : ℕ) → (piece : List PlacedToken) → (stop : ℕ)
@@ -50,7 +50,7 @@ and_defs (Ok def) (Err fault) = Err fault
 and_defs (Err fault) others = Err fault
 
 -- the definitions of the tokens, or their first fault, where there are no more tokens than turns;
--- so many definitions stand before them, and this place is behind them
+-- so many definitions stand before them, and this offset is behind them
 unfoldable pub defs_at : (turns number : ℕ) → (tokens : List PlacedToken) → (stop : ℕ)
     → Result (List Def) FileFault
 defs_at turns number [] stop = Ok []
@@ -58,7 +58,7 @@ defs_at zero number (token ∷ rest) stop = Ok []
 defs_at (suc turns) number (token ∷ rest) stop =
     cond (is_semicolon token.token) (defs_at turns number rest stop)
     (and_defs
-    (piece_def number (piece_at (token ∷ rest)) (place_of (behind_piece (token ∷ rest)) stop))
+    (piece_def number (piece_at (token ∷ rest)) (offset_of (behind_piece (token ∷ rest)) stop))
     (defs_at turns (suc number) (behind_piece (token ∷ rest)) stop))
 
 -- the definitions that all of the tokens are, or their first fault

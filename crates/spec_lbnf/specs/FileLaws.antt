@@ -1,5 +1,5 @@
 -- What is true of the tokens of a grammar file: what stands at the front of bytes is one token or
--- one space, so that a file has one scan, and the places of its tokens rise.
+-- one space, so that a file has one scan, and the offsets of its tokens rise.
 use Rattle.std.specs.Prelude.{◌≡◌, ℕ, ◌+◌, ◌≤◌, List, [], ◌∷◌, length}
 use Rattle.spec_lbnf.specs.declared.token.FileToken.{FileToken}
 use Rattle.spec_lbnf.specs.declared.token.PlacedToken.{PlacedToken}
@@ -20,25 +20,25 @@ abbrev pub HasTokenOrSpace : Type 0
 HasTokenOrSpace =
     (token : FileToken) (bytes r s : List ℕ) → BeginsWith token bytes r → Separates bytes s → ⊥
 
--- a file has tokens, up to some place
+-- a file has tokens, up to some offset
 abbrev pub HasSomeScan : Type 0
 HasSomeScan =
     (bytes : List ℕ) → (tokens : List PlacedToken) × (stop : ℕ) × IsScan bytes tokens stop
 
--- a file has at most one list of tokens, up to one place
+-- a file has at most one list of tokens, up to one offset
 abbrev pub HasOneScan : Type 0
 HasOneScan =
     (bytes : List ℕ) (a b : List PlacedToken) (s t : ℕ) → IsScan bytes a s → IsScan bytes b t
     → (a ≡ b) × (s ≡ t)
 
--- the places of the tokens rise, from this one on or a later one, and lie before the stop
+-- the offsets of the tokens rise, from this one on or a later one, and lie before the stop
 abbrev pub RiseTo : ℕ → List PlacedToken → ℕ → Type 0
 RiseTo from [] stop = from ≤ stop
 RiseTo from (token ∷ tokens) stop =
-    (from ≤ token.place) × RiseTo (token.place + 1) tokens stop
+    (from ≤ token.offset) × RiseTo (token.offset + 1) tokens stop
 
--- the places of a file's tokens rise and lie before the stop, which lies within the file
-abbrev pub HasRisingPlaces : Type 0
-HasRisingPlaces =
+-- the offsets of a file's tokens rise and lie before the stop, which lies within the file
+abbrev pub HasRisingOffsets : Type 0
+HasRisingOffsets =
     (bytes : List ℕ) (tokens : List PlacedToken) (stop : ℕ) → IsScan bytes tokens stop
     → RiseTo 0 tokens stop × (stop ≤ length bytes)

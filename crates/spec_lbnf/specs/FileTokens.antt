@@ -4,6 +4,7 @@ use Rattle.std.specs.Prelude.{true, false, ◌||◌, ◌&&◌, nat_le, All, Cont
 use Rattle.std.specs.Prelude.{Option, Some, None, nat_eq, not, IfSome}
 use Rattle.std.specs.Char.{IsScalar, encode_utf8}
 use Rattle.std.specs.Str.Parse.{digits_value}
+use Rattle.spec_text.specs.Bytes.{is_white}
 use Rattle.spec_lbnf.specs.declared.token.Sign.{Sign}
 use Rattle.spec_lbnf.specs.declared.token.Sign.TheVariants.{Dot, Semicolon, Gives, Colon}
 use Rattle.spec_lbnf.specs.declared.token.Sign.TheVariants.{OpenBracket, CloseBracket}
@@ -15,7 +16,7 @@ use Rattle.spec_lbnf.specs.declared.token.FileToken.TheVariants.{Identifier, Num
 use Rattle.spec_lbnf.specs.declared.token.FileToken.TheVariants.{Character}
 use Rattle.spec_lbnf.specs.declared.token.FileToken.TheVariants.{Sign as SignToken}
 use Rattle.spec_lbnf.specs.declared.token.PlacedToken.{PlacedToken}
-use Rattle.spec_lbnf.specs.FileBytes.{is_white, is_upper, is_name_byte, Stops}
+use Rattle.spec_lbnf.specs.FileBytes.{is_upper, is_name_byte, Stops}
 
 -- the byte is a letter
 abbrev pub is_letter : ℕ → Bool
@@ -164,15 +165,15 @@ pub record IsStuck (bytes : List ℕ) : Type 0 where
   pub no_token : (token : FileToken) (rest : List ℕ) → BeginsWith token bytes rest → ⊥
   pub no_space : (rest : List ℕ) → Separates bytes rest → ⊥
 
--- the tokens of these bytes, the last of a text of so many, are these, up to the place at which no
--- token begins and the bytes may be at their end
+-- the tokens of these bytes, the last of a text of so many, are these, up to the offset at which
+-- no token begins and the bytes may be at their end
 abbrev pub AreTokensTo : ℕ → List ℕ → List PlacedToken → ℕ → Type 0
 AreTokensTo size bytes [] stop =
     (rest : List ℕ) × Skips bytes rest × IsStuck rest × (size ≡ stop + length rest)
 AreTokensTo size bytes (token ∷ tokens) stop =
-    (here rest : List ℕ) × Skips bytes here × (size ≡ token.place + length here)
+    (here rest : List ℕ) × Skips bytes here × (size ≡ token.offset + length here)
     × BeginsWith token.token here rest × AreTokensTo size rest tokens stop
 
--- the tokens of the file are these, up to the place where it ends or no token begins
+-- the tokens of the file are these, up to the offset where it ends or no token begins
 abbrev pub IsScan : List ℕ → List PlacedToken → ℕ → Type 0
 IsScan bytes tokens stop = AreTokensTo (length bytes) bytes tokens stop

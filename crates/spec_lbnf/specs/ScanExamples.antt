@@ -8,9 +8,9 @@ use Rattle.spec_lbnf.specs.declared.token.FileToken.TheVariants.{Character, Sign
 use Rattle.spec_lbnf.specs.declared.token.PlacedToken.{PlacedToken}
 use Rattle.spec_lbnf.specs.FileTokens.{IsScan}
 
--- the token at this place
+-- the token at this offset
 abbrev pub at : ℕ → FileToken → PlacedToken
-at place token = record { token = token; place = place }
+at offset token = record { token = token; offset = offset }
 
 -- the identifier a
 abbrev pub a : FileToken

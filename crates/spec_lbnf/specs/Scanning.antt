@@ -7,6 +7,7 @@ use Rattle.std.specs.Char.{encode_utf8}
 use Rattle.std.specs.List.{prefix_len, list_any}
 use Rattle.std.specs.Str.{all_scalars}
 use Rattle.std.specs.Str.Parse.{digits_value}
+use Rattle.spec_text.specs.Bytes.{is_white}
 use Rattle.spec_lbnf.specs.declared.token.Sign.{Sign}
 use Rattle.spec_lbnf.specs.declared.token.Sign.TheVariants.{Dot, Semicolon, Gives, Colon}
 use Rattle.spec_lbnf.specs.declared.token.Sign.TheVariants.{OpenBracket, CloseBracket}
@@ -18,7 +19,7 @@ use Rattle.spec_lbnf.specs.declared.token.FileToken.TheVariants.{Identifier, Num
 use Rattle.spec_lbnf.specs.declared.token.FileToken.TheVariants.{Character}
 use Rattle.spec_lbnf.specs.declared.token.FileToken.TheVariants.{Sign as SignToken}
 use Rattle.spec_lbnf.specs.declared.token.PlacedToken.{PlacedToken}
-use Rattle.spec_lbnf.specs.FileBytes.{is_white, is_name_byte}
+use Rattle.spec_lbnf.specs.FileBytes.{is_name_byte}
 use Rattle.spec_lbnf.specs.FileTokens.{is_letter, is_digit, escaped, longer_by}
 
 -- the value, if the test passes
@@ -149,14 +150,14 @@ token_at (byte ∷ bytes) =
 abbrev pub token_before : PlacedToken → List PlacedToken × ℕ → List PlacedToken × ℕ
 token_before token read = (token ∷ read.0, read.1)
 
--- the tokens from a place on, and the place up to which they reach: those behind what separates
+-- the tokens from an offset on, and the offset up to which they reach: those behind what separates
 -- tokens, or else a token and those behind it, or none
 abbrev pub tokens_by : (List ℕ → List PlacedToken × ℕ) → ℕ → Option (List ℕ)
     → Option (FileToken × List ℕ) → List PlacedToken × ℕ
-tokens_by others place (Some behind) read = others behind
-tokens_by others place None (Some read) =
-    token_before (record { token = read.0; place = place }) (others read.1)
-tokens_by others place None None = ([], place)
+tokens_by others offset (Some behind) read = others behind
+tokens_by others offset None (Some read) =
+    token_before (record { token = read.0; offset = offset }) (others read.1)
+tokens_by others offset None None = ([], offset)
 
 -- the tokens of the last bytes of a text of so many, where these bytes are fewer than the turns
 unfoldable pub tokens_from : ℕ → ℕ → List ℕ → List PlacedToken × ℕ
@@ -164,6 +165,6 @@ tokens_from zero size bytes = ([], size - length bytes)
 tokens_from (suc turns) size bytes =
     tokens_by (tokens_from turns size) (size - length bytes) (behind_space bytes) (token_at bytes)
 
--- the tokens of a file, and the place up to which they reach
+-- the tokens of a file, and the offset up to which they reach
 abbrev pub scan_of : List ℕ → List PlacedToken × ℕ
 scan_of bytes = tokens_from (suc (length bytes)) (length bytes) bytes

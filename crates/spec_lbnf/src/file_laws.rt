@@ -1,6 +1,6 @@
 //! Laws of the tokens of a grammar file. Each is the contract of a function with an empty body.
 ghost use Rattle.spec_lbnf.specs.FileLaws.{HasOneToken, HasOneSpace, HasTokenOrSpace};
-ghost use Rattle.spec_lbnf.specs.FileLaws.{HasOneScan, HasSomeScan, HasRisingPlaces};
+ghost use Rattle.spec_lbnf.specs.FileLaws.{HasOneScan, HasSomeScan, HasRisingOffsets};
 ghost use Rattle.spec_lbnf.specs.ScanExamples.{SmallScans};
 
 /// Bytes begin with at most one longest token, or else with at most one white byte or comment.
@@ -10,20 +10,20 @@ pub fn one_token_or_space()
     ensures either { HasTokenOrSpace }
 {}
 
-/// A file has at most one list of tokens, up to one place.
+/// A file has at most one list of tokens, up to one offset.
 pub fn one_scan()
     ensures { HasOneScan }
 {}
 
-/// A file has tokens, up to some place, whether or not it is UTF-8.
+/// A file has tokens, up to some offset, whether or not it is UTF-8.
 pub fn some_scan()
     ensures { HasSomeScan }
 {}
 
-/// The places of a file's tokens rise and lie before the place up to which they reach, which is at
-/// most the file's length.
+/// The offsets of a file's tokens rise and lie before the offset up to which they reach, which is
+/// at most the file's length.
 pub fn tokens_rise()
-    ensures { HasRisingPlaces }
+    ensures { HasRisingOffsets }
 {}
 
 /// The tokens of small files, by hand.

@@ -59,5 +59,5 @@ pub enum FileToken {
 #[derive(Debug, Drop)]
 pub struct PlacedToken {
     pub token: FileToken,
-    pub place: u32,
+    pub offset: u32,
 }

@@ -1,20 +1,17 @@
 -- Tests of what the kinds of a grammar match, and the lexer of a grammar.
-use Rattle.std.proofs.Common.{◌≡◌, ℕ, ◌+◌, ◌<◌, List, [], ◌∷◌, length, Option, Some, None, Bool, true, false, ◌||◌, ◌&&◌, nat_eq, nat_le, slice_index, MatchOption, refl, arith}
+use Rattle.std.proofs.Common.{◌≡◌, ℕ, ◌+◌, ◌<◌, List, [], ◌∷◌, length, Option, Some, None, Bool, true, false, slice_index, MatchOption, refl, arith}
 use Rattle.std.specs.Str.{bytes_eq, IsAscii}
 use Rattle.std.proofs.lemmas.Bool.Decides.{nat_tests}
 use Rattle.std.proofs.lemmas.Option.{MatchOption-at_some}
 use Rattle.std.proofs.lemmas.Slice.Eq.{bytes_eq-Decides}
+use Rattle.spec_text.specs.Bytes.{is_white}
 use Rattle.spec_text.specs.Scalars.{scalar_len}
 use Rattle.spec_lexing.specs.declared.kind_def.KindDef.{KindDef}
 use Rattle.spec_lexing.specs.declared.kind_def.KindDef.TheVariants.{Word}
 use Rattle.spec_lexing.specs.declared.token.Token.{Token}
-use Rattle.spec_lexing.specs.Kinds.{LexKind, white, symbol, IsWhite, Matches, token_kind, lex_kinds}
+use Rattle.spec_lexing.specs.Kinds.{LexKind, white, symbol, Matches, token_kind, lex_kinds}
 use Rattle.spec_lexing.specs.Tokens.{AreTokensOf}
 use Rattle.spec_lexing.proofs.LexerByTests.{tokens_from, tokens_are, HasCutScalar}
-
--- whether the byte is white
-abbrev pub is_white : ℕ → Bool
-is_white byte = nat_eq byte 32 || (nat_le 9 byte && nat_le byte 13)
 
 -- whether the bytes are one white byte
 abbrev pub is_one_white : List ℕ → Bool
@@ -30,7 +27,7 @@ matches (symbol number (Word word)) bytes = bytes_eq bytes word
 -- what passes the test is matched
 pub matches_passes : (kind : LexKind) (bytes : List ℕ) → matches kind bytes ≡ true → Matches kind bytes
 matches_passes white [] e = cc
-matches_passes white (byte ∷ []) e = (byte, refl, grind (arith, nat_tests))
+matches_passes white (byte ∷ []) e = (byte, refl, e)
 matches_passes white (byte ∷ second ∷ bytes) e = cc
 matches_passes (symbol number (Word word)) bytes e = (bytes_eq-Decides bytes word).0 e
 
@@ -39,8 +36,8 @@ pub matches_fails : (kind : LexKind) (bytes : List ℕ) → matches kind bytes �
 matches_fails white [] e m = let empty : [] ≡ m.0 ∷ [] = m.1 in cc
 matches_fails white (byte ∷ []) e m =
     let same : byte ≡ m.0 = cc in
-    let is : IsWhite byte = rw same m.2 in
-    grind (arith, nat_tests)
+    let is : is_white byte ≡ true = rw same m.2 in
+    cc
 matches_fails white (byte ∷ second ∷ bytes) e m =
     let long : byte ∷ second ∷ bytes ≡ m.0 ∷ [] = m.1 in cc
 matches_fails (symbol number (Word word)) bytes e m =

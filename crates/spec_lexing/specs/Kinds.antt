@@ -1,6 +1,7 @@
 -- What is looked for in a text: white space, and the kinds of the grammar, in the order that
 -- decides between equal lengths.
-use Rattle.std.specs.Prelude.{◌≡◌, ℕ, ◌+◌, ◌≤◌, ◌⊎◌, List, [], ◌∷◌, Option, Some, None}
+use Rattle.std.specs.Prelude.{◌≡◌, ℕ, ◌+◌, List, [], ◌∷◌, Option, Some, None, true}
+use Rattle.spec_text.specs.Bytes.{is_white}
 use Rattle.spec_lexing.specs.declared.kind_def.KindDef.{KindDef}
 use Rattle.spec_lexing.specs.declared.kind_def.KindDef.TheVariants.{Word}
 
@@ -9,17 +10,13 @@ pub data LexKind : Type 0 where
   white : LexKind
   symbol : (number : ℕ) → KindDef → LexKind
 
--- the byte is white: space, tab, LF, VT, FF or CR
-abbrev pub IsWhite : ℕ → Type 0
-IsWhite byte = (byte ≡ 32) ⊎ ((9 ≤ byte) × (byte ≤ 13))
-
 -- the kind of the grammar matches the bytes: a word matches itself
 abbrev pub MatchesDef : KindDef → List ℕ → Type 0
 MatchesDef (Word word) bytes = bytes ≡ word
 
 -- the kind matches the bytes: white space is one white byte
 abbrev pub Matches : LexKind → List ℕ → Type 0
-Matches white bytes = (byte : ℕ) × (bytes ≡ byte ∷ []) × IsWhite byte
+Matches white bytes = (byte : ℕ) × (bytes ≡ byte ∷ []) × (is_white byte ≡ true)
 Matches (symbol number kind) bytes = MatchesDef kind bytes
 
 -- the number that a token of the kind bears; white space gives no token

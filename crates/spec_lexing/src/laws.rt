@@ -39,7 +39,7 @@ pub fn tokens_lie_in_order<K: TokenKind>()
     ensures most { HasFewTokens K.matches K.number }
 {}
 
-/// The token lists of a dozen small texts.
+/// The token lists of fourteen small texts.
 pub fn small_cases()
     ensures { SmallCases }
 {}

@@ -2,8 +2,8 @@ use Rattle.std.proofs.Common.{Vec, Global, ◌≡◌, ◌<◌, length, rules, ar
 use Rattle.std.proofs.lemmas.Result.{err_from_is_err_and}
 use Rattle.spec_lbnf.specs.declared.definition.Def.{Def}
 use Rattle.spec_lbnf.specs.FileTokens.{IsScan}
+use Rattle.spec_lbnf.specs.FileDefinitions.{defs_of}
 use Rattle.spec_lbnf.proofs.FaultLemmas.{defs_are, stop_is, fault_is}
-use Rattle.lbnf_text.specs.Faulting.{fault_of}
 use Rattle.lbnf_text.proofs.FileLemmas.{told_fault, stop_within, few_tokens}
 use Rattle.lbnf_text.proofs.reading.read_text.Goals as goal
 
@@ -16,7 +16,7 @@ pub returns-in_err-defs : goal.returns-in_err-defs
 returns-in_err-defs c =
     let p = err_from_is_err_and c.from_residual-in_err-defs.result c.from_residual-in_err-defs.ensures.1 in
     let scan : IsScan c.args.text.now c.in_ok-scan.scan.tokens.items c.in_ok-scan.scan.stop = search rules in
-    rw (p.1, p.2) (told_fault (λ (list : Vec Def Global). list.items) c.args.text.now c.in_err-defs.field-0.0 (λ free. fault_is c.args.text.now c.in_ok-scan.scan.tokens.items c.in_ok-scan.scan.stop scan (fault_of c.in_err-defs.field-0.0) c.requires c.utf8.text (rw (← c.as_slice.ensures.value) (c.in_err-defs.ensures free))))
+    rw (p.1, p.2) (told_fault (λ (list : Vec Def Global). list.items) c.args.text.now (defs_of c.in_ok-scan.scan.tokens.items c.in_ok-scan.scan.stop) c.in_err-defs.field-0.0 (c.requires, c.utf8.text) (rw (← c.as_slice.ensures.value) c.in_err-defs.ensures) (λ fault is. fault_is c.args.text.now c.in_ok-scan.scan.tokens.items c.in_ok-scan.scan.stop scan fault c.requires c.utf8.text is))
 
 pub returns-then-scan-text : goal.returns-then-scan-text
 returns-then-scan-text c =

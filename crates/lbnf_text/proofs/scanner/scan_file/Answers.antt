@@ -5,8 +5,8 @@ use Rattle.spec_lbnf.proofs.ScanLemmas.{skip_shorter}
 use Rattle.lbnf_text.proofs.ScanTextLemmas.{behind_token_is_shorter, token_then, no_token_then}
 use Rattle.lbnf_text.proofs.scanner.scan_file.Goals as goal
 
-pub overflow_sub-place : goal.overflow_sub-place
-overflow_sub-place c =
+pub overflow_sub-offset : goal.overflow_sub-offset
+overflow_sub-offset c =
     omega (arith, skip_shorter c.loop-tokens.rest.now c.skip_spaces-here.result.now c.skip_spaces-here.ensures.skips, c.loop-tokens.invariant.within)
 
 pub returns-in_default : goal.returns-in_default

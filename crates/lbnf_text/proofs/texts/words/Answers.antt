@@ -1,8 +1,8 @@
-use Rattle.std.proofs.Common.{◌≡◌, List, ℕ, Bor, map, ap, ◌∙◌, rules}
+use Rattle.std.proofs.Common.{◌≡◌, List, ℕ, Bor, map, sym, ap, ◌∙◌, rules}
 use Rattle.std.proofs.lemmas.List.{take_all}
+use Rattle.std.proofs.lemmas.Simd.{map-map}
 use Rattle.spec_lbnf.specs.declared.definition.RawItem.TheVariants.{Word}
 use Rattle.spec_lbnf.specs.Words.{words_in}
-use Rattle.lbnf_text.proofs.WordLemmas.{words_of_parts}
 use Rattle.lbnf_text.proofs.texts.words.Goals as goal
 
 pub returns : goal.returns
@@ -11,4 +11,4 @@ returns c =
     let texts : map (λ part. part.now) parts ≡ words_in c.args.text.now = search rules in
     c.loop-part.invariant
     ∙ ap (map (λ part. Word part.now)) (take_all c.loop-part.part-index parts c.loop-part-test.false)
-    ∙ words_of_parts parts ∙ ap (map Word) texts
+    ∙ sym (map-map Word (λ (part : Bor (List ℕ)). part.now) parts) ∙ ap (map Word) texts
