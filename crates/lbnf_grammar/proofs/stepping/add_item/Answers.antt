@@ -9,4 +9,4 @@ returns-in-Category c =
     on_ok_weaker c.add_if.result
     (item_links c.args.flags.now c.args.links.now c.add_if.new.self c.args.category c.args.full c.in-Category.b c.args.item
     _ c.in-Category.is (grind (arith, nat_tests, c.own_count.ensures)))
-    c.add_if.ensures
+    c.add_if.ensures.ok
