@@ -1,5 +1,5 @@
 -- Accepting a grammar or refusing it, and opening a text.
-use Rattle.std.proofs.Common.{◌≡◌, ℕ, inl, inr, List, [], length, Option, Some, None, Ok, Err, ◌<◌, ◌≤◌, arith, sym, ◌∙◌, ap, subst, option_map}
+use Rattle.std.proofs.Common.{◌≡◌, ℕ, inl, inr, List, [], length, Option, Some, None, Ok, Err, ◌<◌, ◌≤◌, arith, sym, ◌∙◌, ap, subst, option_map, MatchOption}
 use Rattle.std.specs.Option.{IfSome}
 use Rattle.std.proofs.lemmas.List.{length-map}
 use Rattle.std.proofs.lemmas.Option.{same_Some, none-some}
@@ -14,7 +14,7 @@ use Rattle.spec_session.specs.Script.{opens}
 use Rattle.spec_session.specs.Replies.{IsReply, IsRefused, IsRefusedFor, AreAccepted, faulty, unfit, too_many_symbols, fault_reason, unfit_reason, symbols_reason, version_reply}
 use Rattle.lbnf_text.specs.Reading.{file_fault_of}
 use Rattle.lbnf_text.specs.declared.fault.TextFault.TheVariants.{TooLarge}
-use Rattle.lbnf_grammar.specs.Grammars.{unfitness_of}
+use Rattle.lbnf_grammar.specs.Grammars.{unfitness_of, PassFirstChecks}
 use Rattle.binary_form.specs.BinaryForm.{MakesBinary}
 use Rattle.binary_form.specs.declared.fault.BinaryFault.{BinaryFault}
 use Rattle.binary_form.specs.declared.fault.BinaryFault.TheVariants.{Memory as BinaryMemory, TooManySymbols}
@@ -64,6 +64,11 @@ told : {A : Type 0} (reason_for : A → List ℕ) (Holds : A → Type 0) (value 
 told reason_for Holds (Some x) reason holds is = (x, holds, sym (same_Some (reason_for x) reason is))
 told reason_for Holds None reason holds is = absurd (none-some reason is)
 
+-- what holds of a value, or something else where there is none, holds of it where there is one
+where_there : {A : Type 0} (Holds : A → Type 0) (Else : Type 0) (value : Option A) → MatchOption value Else Holds → IfSome value Holds
+where_there Holds Else (Some x) holds = holds
+where_there Holds Else None holds = tt
+
 -- the reason that is told is one for which the block is refused
 reason_is : (block : List ℕ) (fault : LanguageFault) (reason : List ℕ) → ReadsLanguage block (Err fault)
     → reason_of fault ≡ Some reason → IsRefusedFor block reason
@@ -71,7 +76,8 @@ reason_is block (Text fault) reason h is =
     let first = told fault_reason (IsFirstFault block) (file_fault_of fault) reason h is in
     faulty first.0 first.1 first.2
 reason_is block (Grammar fault) reason h is =
-    let why = told unfit_reason (IsUnfit h.0) (unfitness_of fault) reason h.2 is in
+    let holds = where_there (IsUnfit h.0) (PassFirstChecks h.0) (unfitness_of fault) h.2 in
+    let why = told unfit_reason (IsUnfit h.0) (unfitness_of fault) reason holds is in
     unfit h.0 why.0 h.1 why.1 why.2
 reason_is block (Binary BinaryMemory) reason h is = absurd (none-some reason is)
 reason_is block (Binary (TooManySymbols count)) reason h is =

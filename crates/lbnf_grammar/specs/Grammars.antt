@@ -1,6 +1,6 @@
 -- What a caller sees of making grammars, from definitions and from parts.
 use Rattle.std.specs.Prelude.{◌≡◌, ◌<◌, ◌^◌, ◌⊎◌, ℕ, List, [], ◌∷◌, Option, Some, None, Result, Ok}
-use Rattle.std.specs.Prelude.{Err, length, slice_get, Contains, MatchOption, IfSome}
+use Rattle.std.specs.Prelude.{Err, All, length, slice_get, Contains, MatchOption, IfSome}
 use Rattle.spec_grammar.specs.Cycles.{IsCyclic, IsAcyclic}
 use Rattle.spec_grammar.specs.declared.rule.Rule.{Rule}
 use Rattle.spec_grammar.specs.declared.rule.Symbol.{Symbol}
@@ -9,7 +9,8 @@ use Rattle.spec_lexing.specs.declared.kind_def.KindDef.{KindDef}
 use Rattle.spec_lbnf.specs.declared.definition.Def.{Def}
 use Rattle.spec_lbnf.specs.Expansion.{Expansion, expansion_of, HasOwnSymbols, item_count}
 use Rattle.spec_lbnf.specs.Expansion.{number_of, category_symbol}
-use Rattle.spec_lbnf.specs.Checks.{AreFit, IsUnfit, Unfitness, bad_coercion, bad_list}
+use Rattle.spec_lbnf.specs.Checks.{IsWellLabelled, HasFewRules, AreFit, IsUnfit, Unfitness}
+use Rattle.spec_lbnf.specs.Checks.{bad_coercion, bad_list}
 use Rattle.spec_lbnf.specs.Checks.{too_many_rules, repeated_token, unknown_category, unbuilt_name}
 use Rattle.spec_lbnf.specs.Checks.{cyclic_category}
 use Rattle.lbnf_grammar.specs.declared.fault.GrammarFault.{GrammarFault}
@@ -33,11 +34,16 @@ unfitness_of (Cyclic name) = Some (cyclic_category name)
 abbrev pub Tells : (Unfitness → Type 0) → GrammarFault → Type 0
 Tells IsSuch fault = IfSome (unfitness_of fault) IsSuch
 
+-- the definitions pass the first two checks, which take no memory: each is well labelled, and they
+-- give few rules
+abbrev pub PassFirstChecks : List Def → Type 0
+PassFirstChecks defs = All IsWellLabelled defs × HasFewRules defs
+
 -- the answer on the definitions is the grammar that they stand for, and they are fit, or it tells
--- why they are unfit
+-- why they are unfit, or that memory ran out, and they pass the first checks
 abbrev pub Expands : List Def → Result Expansion GrammarFault → Type 0
 Expands defs (Ok grammar) = AreFit defs × (grammar ≡ expansion_of defs)
-Expands defs (Err fault) = Tells (IsUnfit defs) fault
+Expands defs (Err fault) = MatchOption (unfitness_of fault) (PassFirstChecks defs) (IsUnfit defs)
 
 -- the grammar of these parts
 abbrev pub of_parts : List Rule → List (List ℕ) → List KindDef → Option Symbol → Expansion

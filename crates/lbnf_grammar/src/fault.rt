@@ -5,7 +5,8 @@ use thiserror::Error;
 /// Why definitions give no grammar, in the order of the checks. Definitions are numbered from 0.
 #[derive(Debug, Drop, Error)]
 pub enum GrammarFault {
-    /// Memory ran out. It may come at any definitions.
+    /// Memory ran out. It comes only at definitions without a bad label or bad levels that give at
+    /// most 1,024 rules, since these two checks take no memory.
     #[error("out of memory")]
     Memory,
     /// The first definition with a bad label or bad levels is a rule, internal or not, labelled
