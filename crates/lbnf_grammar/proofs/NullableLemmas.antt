@@ -3,7 +3,6 @@ use Rattle.std.proofs.Common.{below_more, ◌≡◌, ◌≢◌, ℕ, zero, suc, 
 use Rattle.std.specs.List.{list_all, AllByRecursion}
 use Rattle.std.proofs.lemmas.Bool.{false≢true}
 use Rattle.std.proofs.lemmas.List.{length-set}
-use Rattle.std.proofs.lemmas.List.Elements.{recursion_from_All}
 use Rattle.std.proofs.lemmas.Option.{none-some, same_Some, slice_get_within}
 use Rattle.spec_grammar.specs.declared.rule.Symbol.{Symbol}
 use Rattle.spec_grammar.specs.declared.rule.Symbol.TheVariants.{Category, Kind}
@@ -11,8 +10,8 @@ use Rattle.spec_grammar.specs.declared.rule.Rule.{Rule}
 use Rattle.spec_grammar.specs.Trees.{Tree, leaf, node, Forest, no_trees, trees}
 use Rattle.spec_grammar.specs.Derivation.{IsParseTree, AreParseTrees, DerivesAll, IsNullable}
 use Rattle.spec_grammar.proofs.DerivationLemmas.{kind_derives, category_derives, nullable_items}
-use Rattle.spec_lbnf.specs.Expansion.{Expansion, IsSymbolOf}
-use Rattle.lbnf_grammar.specs.Nullable.{AreNullableFlags, flag_of, TellsNullable, TellsAllNullable}
+use Rattle.spec_lbnf.specs.Expansion.{Expansion}
+use Rattle.lbnf_grammar.specs.Nullable.{AreNullableFlags, flag_of}
 use Rattle.lbnf_grammar.specs.NullablePasses.{AreSound, IsClosedUnder, AreClosedUnder, HaveFlags, AppliesRule, AreAfterRules, clear_count}
 
 -- both of two tests pass
@@ -27,36 +26,6 @@ each_of false b e = absurd (false≢true e)
 -- no kind derives the empty span
 pub kind_not_nullable : (rules : List Rule) (k : ℕ) → IsNullable rules (Kind k) → ⊥
 kind_not_nullable rules k d = none-some _ ((kind_derives rules [] k 0 0).0 d).0
-
--- the flag of a symbol says whether it derives the empty span
-pub flag_tells : (flags : List Bool) (symbol : Symbol) → TellsNullable flags symbol (flag_of flags symbol)
-flag_tells flags (Category c) g are own = are.exact c own
-flag_tells flags (Kind k) g are own = ((λ e. absurd (false≢true e)), (λ d. absurd (kind_not_nullable g.rules k d)))
-
-module _ (g : Expansion) (flags : List Bool) (are : AreNullableFlags g flags) where
-  -- flagged items are nullable
-  flagged_nullable : (items : List Symbol) → AllByRecursion (IsSymbolOf g) items
-      → IsTrue (list_all (flag_of flags) items) → AllByRecursion (IsNullable g.rules) items
-  flagged_nullable [] own e = tt
-  flagged_nullable (s ∷ items) own e =
-      let parts = each_of (flag_of flags s) (list_all (flag_of flags) items) e in
-      ((flag_tells flags s g are own.0).0 parts.0, flagged_nullable items own.1 parts.1)
-
-  -- nullable items are flagged
-  nullable_flagged : (items : List Symbol) → AllByRecursion (IsSymbolOf g) items
-      → AllByRecursion (IsNullable g.rules) items → IsTrue (list_all (flag_of flags) items)
-  nullable_flagged [] own each = refl
-  nullable_flagged (s ∷ items) own each =
-      both (flag_of flags s) (list_all (flag_of flags) items)
-      ((flag_tells flags s g are own.0).1 each.0) (nullable_flagged items own.1 each.1)
-
--- the flags of items say whether they derive the empty span
-pub flags_tell : (flags : List Bool) (items : List Symbol) → TellsAllNullable flags items (list_all (flag_of flags) items)
-flags_tell flags items g are own =
-    let each = recursion_from_All (IsSymbolOf g) items own in (
-      (λ e. (nullable_items g.rules items).1 (flagged_nullable g flags are items each e)),
-      (λ d. nullable_flagged g flags are items each ((nullable_items g.rules items).0 d)),
-    )
 
 module _ (rules : List Rule) (flags : List Bool) where
   -- the items of sound flags that are set are nullable
