@@ -6,7 +6,7 @@ use Rattle.std.specs.Cmp.Lexicographic.{nat_list_eq_equiv}
 use Rattle.std.proofs.lemmas.Bool.{cases_Bool, both_ways}
 use Rattle.std.proofs.Math.Bool.{or-false, or_assoc}
 use Rattle.std.proofs.lemmas.List.{drop_more, take_all, take-append-drop}
-use Rattle.std.proofs.lemmas.List.Elements.{All-nil, All-cons, All-append, All-weaker}
+use Rattle.std.proofs.lemmas.List.Elements.{All-more, All-weaker}
 use Rattle.std.proofs.lemmas.List.Folds.{list_any-append}
 use Rattle.std.proofs.lemmas.Map.Views.{Contains-from_any, list_any-from_Contains}
 use Rattle.std.proofs.lemmas.Option.{slice_get_read}
@@ -70,9 +70,7 @@ module _ (IsBad IsGood : List ℕ → Type 0) (names : List (List ℕ)) (i : ℕ
 
   -- if it is good, the names up to it are
   pub more_good : IsGood name → All IsGood (take (i + 1) names)
-  more_good next =
-      subst (All IsGood) (sym (take_next names i name (slice_get_read names (length names) i name refl within is)))
-      (All-append IsGood (take i names) (name ∷ []) good (All-cons IsGood name [] next (All-nil IsGood)))
+  more_good next = All-more IsGood names i name within good (subst IsGood is next)
 
 -- what a test of the shown bytes told, of the name
 pub told_listed : (table : List (List ℕ)) (name shown : List ℕ) → shown ≡ name

@@ -1,7 +1,7 @@
 -- What flags say of the symbols that derive the empty span, and flags that are set rule by rule.
 use Rattle.std.proofs.Common.{below_more, ◌≡◌, ◌≢◌, ℕ, zero, suc, ◌+◌, ◌<◌, ◌⊎◌, List, [], ◌∷◌, Bool, true, false, ◌&&◌, IsTrue, length, slice_get, slice_set, slice_index_or, Some, refl, sym, ◌∙◌, subst, inl, inr, arith, get_or-set_other}
 use Rattle.std.specs.List.{list_all, AllByRecursion}
-use Rattle.std.proofs.lemmas.Bool.{false≢true}
+use Rattle.std.proofs.lemmas.Bool.{false≢true, and_from, and_parts, cases_eq}
 use Rattle.std.proofs.lemmas.List.{length-set}
 use Rattle.std.proofs.lemmas.Option.{none-some, same_Some, slice_get_within}
 use Rattle.spec_grammar.specs.declared.rule.Symbol.{Symbol}
@@ -14,15 +14,6 @@ use Rattle.spec_lbnf.specs.Expansion.{Expansion}
 use Rattle.lbnf_grammar.specs.Nullable.{AreNullableFlags, flag_of}
 use Rattle.lbnf_grammar.specs.NullablePasses.{AreSound, IsClosedUnder, AreClosedUnder, HaveFlags, AppliesRule, AreAfterRules, clear_count}
 
--- both of two tests pass
-both : (a b : Bool) → IsTrue a → IsTrue b → IsTrue (a && b)
-both a b e f = rw (e, f) refl
-
--- where both of two tests pass, each does
-each_of : (a b : Bool) → IsTrue (a && b) → IsTrue a × IsTrue b
-each_of true b e = (refl, e)
-each_of false b e = absurd (false≢true e)
-
 -- no kind derives the empty span
 pub kind_not_nullable : (rules : List Rule) (k : ℕ) → IsNullable rules (Kind k) → ⊥
 kind_not_nullable rules k d = none-some _ ((kind_derives rules [] k 0 0).0 d).0
@@ -33,7 +24,7 @@ module _ (rules : List Rule) (flags : List Bool) where
       → AllByRecursion (IsNullable rules) items
   sound_items sound [] e = tt
   sound_items sound (Category c ∷ items) e =
-      let parts = each_of (slice_index_or flags c false) (list_all (flag_of flags) items) e in
+      let parts = and_parts (slice_index_or flags c false) (list_all (flag_of flags) items) e in
       (sound c parts.0, sound_items sound items parts.1)
   sound_items sound (Kind k ∷ items) e = absurd (false≢true e)
 
@@ -47,15 +38,12 @@ module _ (rules : List Rule) (flags : List Bool) where
   -- so its category may be flagged
   sound_set : AreSound rules flags → (r : ℕ) (rule : Rule) → slice_get rules r ≡ Some rule
       → IsTrue (list_all (flag_of flags) rule.items) → AreSound rules (slice_set flags rule.category true)
-  sound_set sound r rule is e c set = elim (same_or_other rule.category c) [
+  sound_set sound r rule is e c set = elim (cases_eq c rule.category) [
     | inl same ↦
         let P : ℕ → Type 0 = λ n. IsNullable rules (Category n) in
-        subst P same (rule_nullable sound r rule is e)
+        subst P (sym same) (rule_nullable sound r rule is e)
     | inr other ↦ sound c (rw get_or-set_other at set)
   ]
-    where
-      same_or_other : (a b : ℕ) → (a ≡ b) ⊎ (b ≢ a)
-      same_or_other a b = grind arith
 
   -- where the flags are closed under each rule, the symbol of a tree over no token is flagged
   module _ (closed : AreClosedUnder rules flags (length rules)) where
@@ -70,7 +58,7 @@ module _ (rules : List Rule) (flags : List Bool) where
       forest_flagged : (ts : Forest) (items : List Symbol) (i j : ℕ) → AreParseTrees rules [] ts items i j → IsTrue (list_all (flag_of flags) items)
       forest_flagged no_trees items i j are = rw are.0 refl
       forest_flagged (trees t ts) items i j are =
-          rw are.3 (both (flag_of flags are.0) (list_all (flag_of flags) are.1) (tree_flagged t are.0 i are.2 are.4) (forest_flagged ts are.1 are.2 j are.5))
+          rw are.3 (and_from (flag_of flags are.0) (list_all (flag_of flags) are.1) (tree_flagged t are.0 i are.2 are.4) (forest_flagged ts are.1 are.2 j are.5))
 
 -- sound flags that are closed under each rule are those of the nullable categories
 pub exact_flags : (g : Expansion) (flags : List Bool) → length flags ≡ length g.categories
