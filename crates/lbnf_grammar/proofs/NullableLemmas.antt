@@ -11,8 +11,10 @@ use Rattle.spec_grammar.specs.Trees.{Tree, leaf, node, Forest, no_trees, trees}
 use Rattle.spec_grammar.specs.Derivation.{IsParseTree, AreParseTrees, DerivesAll, IsNullable}
 use Rattle.spec_grammar.proofs.DerivationLemmas.{kind_derives, category_derives, nullable_items}
 use Rattle.spec_lbnf.specs.Expansion.{Expansion}
+use Rattle.number_graph.specs.Flags.{clear_count}
+use Rattle.number_graph.proofs.FlagLemmas.{clear_count-set}
 use Rattle.lbnf_grammar.specs.Nullable.{AreNullableFlags, flag_of}
-use Rattle.lbnf_grammar.specs.NullablePasses.{AreSound, IsClosedUnder, AreClosedUnder, HaveFlags, AppliesRule, AreAfterRules, clear_count}
+use Rattle.lbnf_grammar.specs.NullablePasses.{AreSound, IsClosedUnder, AreClosedUnder, HaveFlags, AppliesRule, AreAfterRules}
 
 -- no kind derives the empty span
 pub kind_not_nullable : (rules : List Rule) (k : ℕ) → IsNullable rules (Kind k) → ⊥
@@ -68,15 +70,6 @@ exact_flags g flags count sound closed = record {
   exact = λ c lt. (sound c, λ d. tree_flagged g.rules flags closed d.0 (Category c) 0 0 d.1);
 }
 
--- one clear flag less, where a clear one is set
-fewer_clear : (flags : List Bool) (c : ℕ) → c < length flags → slice_index_or flags c false ≡ false
-    → clear_count (slice_set flags c true) < clear_count flags
-fewer_clear [] c lt clear = absurd (omega arith)
-fewer_clear (true ∷ flags) zero lt clear = absurd (false≢true (sym clear))
-fewer_clear (false ∷ flags) zero lt clear = omega arith
-fewer_clear (true ∷ flags) (suc c) lt clear = fewer_clear flags c (omega arith) clear
-fewer_clear (false ∷ flags) (suc c) lt clear = let fewer = fewer_clear flags c (omega arith) clear in omega arith
-
 -- the flags are closed under one more rule
 closed_more : (rules : List Rule) (flags : List Bool) (n : ℕ) (rule : Rule) → slice_get rules n ≡ Some rule
     → IsClosedUnder flags rule → AreClosedUnder rules flags n → AreClosedUnder rules flags (n + 1)
@@ -90,7 +83,7 @@ module _ (rules : List Rule) (start old new : List Bool) (n : ℕ) (rule : Rule)
   pub applied_setting : HaveFlags rules (length start) → AppliesRule old new rule true → AreAfterRules rules start old n has_set → AreAfterRules rules start new (n + 1) true
   applied_setting have applies after =
       let within : rule.category < length old = rw after.len (have n rule is) in
-      let fewer : clear_count new < clear_count old = rw applies.2 (fewer_clear old rule.category within applies.0) in
+      let fewer : clear_count new < clear_count old = rw applies.2 (clear_count-set old rule.category within applies.0) in
       record {
         sound = rw applies.2 (sound_set rules old after.sound n rule is applies.1);
         len = rw applies.2 (length-set old rule.category true ∙ after.len);

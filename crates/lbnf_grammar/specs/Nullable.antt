@@ -1,16 +1,17 @@
 -- Which categories derive the empty span, as a list of flags.
-use Rattle.std.specs.Prelude.{◌≡◌, ℕ, ◌<◌, ◌↔◌, List, Bool, false, IsTrue, length}
+use Rattle.std.specs.Prelude.{◌≡◌, ℕ, ◌<◌, ◌↔◌, List, Bool, false, length}
 use Rattle.std.specs.Prelude.{slice_index_or}
 use Rattle.spec_grammar.specs.declared.rule.Symbol.{Symbol}
 use Rattle.spec_grammar.specs.declared.rule.Symbol.TheVariants.{Category, Kind}
 use Rattle.spec_grammar.specs.Derivation.{IsNullable}
 use Rattle.spec_lbnf.specs.Expansion.{Expansion}
+use Rattle.number_graph.specs.Graphs.{IsSet}
 
 -- each category has a flag, which says whether it derives the empty span
 pub record AreNullableFlags (g : Expansion) (flags : List Bool) : Type 0 where
   pub count : length flags ≡ length g.categories
   pub exact : (c : ℕ) → c < length g.categories
-      → IsTrue (slice_index_or flags c false) ↔ IsNullable g.rules (Category c)
+      → IsSet flags c ↔ IsNullable g.rules (Category c)
 
 -- the flag of the symbol, which is clear at a kind
 abbrev pub flag_of : List Bool → Symbol → Bool

@@ -4,7 +4,8 @@ ghost use Rattle.std.specs.Prelude.{slice_index_or};
 ghost use Rattle.std.specs.List.{list_all};
 ghost use Rattle.lbnf_grammar.specs.Nullable.{AreNullableFlags, flag_of};
 ghost use Rattle.lbnf_grammar.specs.NullablePasses.{AreSound, AreClosedUnder, HaveFlags};
-ghost use Rattle.lbnf_grammar.specs.NullablePasses.{AppliesRule, clear_count};
+ghost use Rattle.lbnf_grammar.specs.NullablePasses.{AppliesRule};
+ghost use Rattle.number_graph.specs.Flags.{clear_count};
 
 use crate::grammar::Grammar;
 use crate::parts::GrammarParts;
