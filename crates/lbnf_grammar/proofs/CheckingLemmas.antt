@@ -1,5 +1,5 @@
 -- The checks of names: what is listed is known, and the first that is bad.
-use Rattle.std.proofs.Common.{◌≡◌, ℕ, Bool, ◌+◌, ◌<◌, ◌≤◌, List, [], ◌∷◌, ◌++◌, length, take, drop, true, false, ◌||◌, Some, All, slice_get, get_or, refl, sym, ap, subst, ◌∙◌, inl, inr}
+use Rattle.std.proofs.Common.{◌≡◌, ℕ, Bool, ◌+◌, ◌<◌, ◌≤◌, List, [], ◌∷◌, ◌++◌, length, take, drop, true, false, ◌||◌, Some, All, Contains, slice_get, get_or, refl, sym, ap, subst, ◌∙◌, inl, inr}
 use Rattle.std.specs.List.{list_any, flat_map}
 use Rattle.std.specs.Str.{bytes_eq}
 use Rattle.std.specs.Cmp.Lexicographic.{nat_list_eq_equiv}
@@ -14,9 +14,8 @@ use Rattle.std.proofs.lemmas.Slice.Eq.{bytes_eq-Decides}
 use Rattle.spec_lbnf.specs.declared.definition.RawItem.{RawItem}
 use Rattle.spec_lbnf.specs.declared.definition.RawItem.TheVariants.{Cat, Word}
 use Rattle.spec_lbnf.specs.declared.definition.Def.{Def}
-use Rattle.spec_lbnf.specs.Checks.{predefined_names}
 use Rattle.spec_lbnf.specs.Expansion.{category_text, item_categories}
-use Rattle.spec_lbnf.specs.Checks.{own_categories, named_categories, IsPredefined, IsFree, IsFirstName, IsKnown, IsUnknown, NamesKnown, IsFirstUnknown}
+use Rattle.spec_lbnf.specs.Checks.{own_categories, named_categories, IsFirstName, IsKnown, IsUnknown, NamesKnown, IsFirstUnknown}
 use Rattle.lbnf_grammar.specs.Numbering.{with_name, with_names}
 use Rattle.lbnf_grammar.specs.Checking.{IsListed, IsUnlisted}
 use Rattle.lbnf_grammar.proofs.NameLemmas.{with_name_there, with_name_new}
@@ -83,13 +82,17 @@ pub good_all : (IsGood : List ℕ → Type 0) (names : List (List ℕ)) (i : ℕ
     → All IsGood (take i names) → All IsGood names
 good_all IsGood names i past good = subst (All IsGood) (take_all i names past) good
 
--- a name that is told to be predefined is
-pub told_predefined : (name : List ℕ) → list_any (bytes_eq name) predefined_names ≡ true → IsPredefined name
-told_predefined name h = Contains-from_any {eq = bytes_eq} (λ a b e. (bytes_eq-Decides a b).0 e) name predefined_names h
+-- a name that is told to be in a table is
+pub told_there : (table : List (List ℕ)) (name : List ℕ) → list_any (bytes_eq name) table ≡ true → Contains table name
+told_there table name h = Contains-from_any {eq = bytes_eq} (λ a b e. (bytes_eq-Decides a b).0 e) name table h
 
--- a name that is told not to be predefined is free
-pub told_free : (name : List ℕ) → list_any (bytes_eq name) predefined_names ≡ false → IsFree name
-told_free name h there = both_ways (list_any (bytes_eq name) predefined_names) h (list_any-from_Contains nat_list_eq_equiv name predefined_names there)
+-- a name that is in a table is told to be
+told_of_there : (table : List (List ℕ)) (name : List ℕ) → Contains table name → list_any (bytes_eq name) table ≡ true
+told_of_there table name there = list_any-from_Contains nat_list_eq_equiv name table there
+
+-- a name that is told not to be in a table is not
+pub told_absent : (table : List (List ℕ)) (name : List ℕ) → list_any (bytes_eq name) table ≡ false → Contains table name → ⊥
+told_absent table name h there = both_ways (list_any (bytes_eq name) table) h (told_of_there table name there)
 
 module _ (defs : List Def) (known : List (List ℕ)) (are : known ≡ with_names [] (flat_map own_categories defs)) where
   -- a name is listed where definitions give rules for it
@@ -98,11 +101,11 @@ module _ (defs : List Def) (known : List (List ℕ)) (are : known ≡ with_names
 
   -- what is listed is known
   listed_known : (x : List ℕ) → IsListed known x → IsKnown defs x
-  listed_known x h = Contains-from_any {eq = bytes_eq} (λ a b e. (bytes_eq-Decides a b).0 e) x (flat_map own_categories defs) (sym (listed_is x) ∙ h)
+  listed_known x h = told_there (flat_map own_categories defs) x (sym (listed_is x) ∙ told_of_there known x h)
 
   -- what is not listed is not known
   unlisted_unknown : (x : List ℕ) → IsUnlisted known x → IsUnknown defs x
-  unlisted_unknown x h there = both_ways (list_any (bytes_eq x) known) h (listed_is x ∙ list_any-from_Contains nat_list_eq_equiv x (flat_map own_categories defs) there)
+  unlisted_unknown x h there = h (told_there known x (listed_is x ∙ told_of_there (flat_map own_categories defs) x there))
 
   -- where all categories of a definition are listed, it names known ones alone
   names_known : (def : Def) → All (IsListed known) (named_categories def) → NamesKnown defs def

@@ -1,7 +1,6 @@
 -- The checks of definitions, one by one. Serves the proofs alone.
 use Rattle.std.specs.Prelude.{◌≡◌, ℕ, List, [], ◌∷◌, Bool, true, false, Option, Some, None, Result}
-use Rattle.std.specs.Prelude.{Ok, Err, bytes_eq, MatchOption}
-use Rattle.std.specs.List.{list_any}
+use Rattle.std.specs.Prelude.{Ok, Err, Contains, MatchOption}
 use Rattle.spec_grammar.specs.Cycles.{IsAcyclic}
 use Rattle.spec_lbnf.specs.declared.definition.CatName.{CatName}
 use Rattle.spec_lbnf.specs.declared.definition.RawItem.{RawItem}
@@ -55,11 +54,11 @@ FindsRuleFault rule (Some ListFault) = IsBadListRule rule
 
 -- the name is listed
 abbrev pub IsListed : List (List ℕ) → List ℕ → Type 0
-IsListed known name = list_any (bytes_eq name) known ≡ true
+IsListed known name = Contains known name
 
 -- the name is not listed
 abbrev pub IsUnlisted : List (List ℕ) → List ℕ → Type 0
-IsUnlisted known name = list_any (bytes_eq name) known ≡ false
+IsUnlisted known name = IsListed known name → ⊥
 
 -- the first cyclic category of the grammar is at fault
 abbrev pub AtCycleOf : Expansion → Unfitness → Type 0
