@@ -61,7 +61,7 @@ pub record IsWellFormed (g : Expansion) : Type 0 where
   pub few_categories : length g.categories < 2 ^ 16
   pub few_kinds : length g.kinds < 2 ^ 16
   pub few_items : item_count g.rules < 2 ^ 31
-  pub own : HasOwnSymbols g
+  pub own_symbols : HasOwnSymbols g
 
 -- the category of the first rule, as the entry of rules that are given without one
 abbrev pub first_symbol : List Rule → Option Symbol

@@ -47,7 +47,8 @@ impl GrammarParts {
         requires categories { length categories.items < 2 ^ 16 }
         requires kinds { length kinds.items < 2 ^ 16 }
         requires few { item_count rules.items < 2 ^ 31 }
-        requires known { HasOwnSymbols (of_parts rules.items categories.items kinds.items entry) }
+        requires own_symbols
+            { HasOwnSymbols (of_parts rules.items categories.items kinds.items entry) }
         requires entry { IfSome entry
             (IsSymbolOf (of_parts rules.items categories.items kinds.items entry)) }
         ensures { result ≡ of_parts rules.items categories.items kinds.items entry }
@@ -64,7 +65,7 @@ impl GrammarParts {
         ensures items { result.now ≡ self.now.rules }
         ensures few { length self.now.rules < 2 ^ 16 }
         ensures few_items { item_count self.now.rules < 2 ^ 31 }
-        ensures known { HasOwnSymbols self.now }
+        ensures own_symbols { HasOwnSymbols self.now }
     {
         self.rules.as_slice()
     }

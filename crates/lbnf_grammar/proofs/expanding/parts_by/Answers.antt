@@ -25,8 +25,8 @@ parts_are c =
     expansion_is c.args.defs.now tables c.in_ok-rules.rules.items c.into_list-2.result.items c.in_ok-kinds.kinds.items c.in_ok-entry.entry
     c.requires.categories c.requires.words numbered listed told first
 
-pub of-requires-clause-known : goal.of-requires-clause-known
-of-requires-clause-known c = subst HasOwnSymbols (sym (parts_are c)) (own_symbols c.args.defs.now)
+pub of-requires-clause-own_symbols : goal.of-requires-clause-own_symbols
+of-requires-clause-own_symbols c = subst HasOwnSymbols (sym (parts_are c)) (own_symbols c.args.defs.now)
 
 pub of-requires-clause-entry : goal.of-requires-clause-entry
 of-requires-clause-entry c =

@@ -12,4 +12,4 @@ of-requires-clause-entry c =
     let kinds = c.args.kinds.items in
     let entry : c.first_symbol-entry.result ≡ first_symbol given = search rules in
     let well : IsWellFormed (of_parts given categories kinds (first_symbol given)) = search rules in
-    subst (λ e. IfSome e (IsSymbolOf (of_parts given categories kinds e))) (sym entry) (first_own given categories kinds (first_symbol given) well.own)
+    subst (λ e. IfSome e (IsSymbolOf (of_parts given categories kinds e))) (sym entry) (first_own given categories kinds (first_symbol given) well.own_symbols)
