@@ -46,13 +46,13 @@ Expands defs (Ok grammar) = AreFit defs × (grammar ≡ expansion_of defs)
 Expands defs (Err fault) = MatchOption (unfitness_of fault) (PassFirstChecks defs) (IsUnfit defs)
 
 -- the grammar of these parts
-abbrev pub of_parts : List Rule → List (List ℕ) → List KindDef → Option Symbol → Expansion
-of_parts rules categories kinds entry =
+abbrev pub grammar_of_parts : List Rule → List (List ℕ) → List KindDef → Option Symbol → Expansion
+grammar_of_parts rules categories kinds entry =
     record { rules = rules; categories = categories; kinds = kinds; entry = entry }
 
 -- the grammar of these symbols and no rules
-abbrev pub symbols_of : List (List ℕ) → List KindDef → Expansion
-symbols_of categories kinds = of_parts [] categories kinds None
+abbrev pub grammar_of_symbols : List (List ℕ) → List KindDef → Expansion
+grammar_of_symbols categories kinds = grammar_of_parts [] categories kinds None
 
 -- numbers of rules, categories and kinds have 16 bits, there are fewer than 2 ^ 31 items, and the
 -- rules have symbols of the grammar
@@ -64,9 +64,9 @@ pub record IsWellFormed (g : Expansion) : Type 0 where
   pub own_symbols : HasOwnSymbols g
 
 -- the category of the first rule, as the entry of rules that are given without one
-abbrev pub first_symbol : List Rule → Option Symbol
-first_symbol [] = None
-first_symbol (rule ∷ rules) = Some (Category rule.category)
+abbrev pub entry_of_rules : List Rule → Option Symbol
+entry_of_rules [] = None
+entry_of_rules (rule ∷ rules) = Some (Category rule.category)
 
 -- the grammar of these parts, and None exactly where they are not well formed or some category
 -- reaches itself
