@@ -9,9 +9,9 @@ ghost use Rattle.lbnf_grammar.specs.Checking.{PassesCycles, AtCycleOf};
 ghost use Rattle.lbnf_grammar.specs.Numbering.{AreFew};
 ghost use Rattle.lbnf_grammar.specs.Ranks.{IsLeastCyclic};
 
-use crate::chains::{Chains, chains_of};
 use crate::checking::{check_named, check_own_names};
 use crate::counting::check_count;
+use crate::cycle_check::{CycleCheck, check_cycles};
 use crate::entry::entry_symbol;
 use crate::fault::GrammarFault;
 use crate::grammar::Grammar;
@@ -83,9 +83,9 @@ fn cyclic(alloc: Global, parts: &GrammarParts, category: u16) -> GrammarFault
 fn acyclic(alloc: Global, parts: GrammarParts) -> Result<Grammar, GrammarFault>
     ensures { PassesCycles parts result }
 {
-    match chains_of(alloc, &parts) {
-        Ok(Chains::Ranked(ranks)) => Ok(Grammar::of(parts, ranks)),
-        Ok(Chains::Cyclic(category)) => Err(cyclic(alloc, &parts, category)),
+    match check_cycles(alloc, &parts) {
+        Ok(CycleCheck::Ranked(ranks)) => Ok(Grammar::of(parts, ranks)),
+        Ok(CycleCheck::Cyclic(category)) => Err(cyclic(alloc, &parts, category)),
         Err(_) => Err(GrammarFault::Memory),
     }
 }

@@ -1,9 +1,9 @@
 //! From the definitions of a grammar file to a numbered grammar.
 #![tactic(auto)]
 
-mod chains;
 mod checking;
 mod counting;
+mod cycle_check;
 mod cycles;
 mod entry;
 mod expanding;

@@ -5,7 +5,7 @@ ghost use Rattle.lbnf_grammar.specs.Grammars.{grammar_of_parts, grammar_of_symbo
 ghost use Rattle.lbnf_grammar.specs.Grammars.{IsWellFormed, MakesGrammar};
 ghost use Rattle.lbnf_grammar.specs.Checking.{GivesParts};
 
-use crate::chains::{Chains, chains_of};
+use crate::cycle_check::{CycleCheck, check_cycles};
 use crate::grammar::Grammar;
 use crate::parts::GrammarParts;
 use spec_grammar::{Rule, Symbol};
@@ -135,9 +135,9 @@ impl Grammar {
         let Some(parts) = parts_of(rules, categories, kinds) else {
             return Ok(None);
         };
-        match chains_of(alloc, &parts)? {
-            Chains::Cyclic(_) => Ok(None),
-            Chains::Ranked(ranks) => Ok(Some(Grammar::of(parts, ranks))),
+        match check_cycles(alloc, &parts)? {
+            CycleCheck::Cyclic(_) => Ok(None),
+            CycleCheck::Ranked(ranks) => Ok(Some(Grammar::of(parts, ranks))),
         }
     }
 }
