@@ -1,14 +1,14 @@
 -- What faults tell of definitions, from what each check tells.
-use Rattle.std.proofs.Common.{◌≡◌, ℕ, List, Option, Some, None, Ok, Err, Result, All, MatchOption, subst, ◌∙◌, inl, inr}
+use Rattle.std.proofs.Common.{◌≡◌, ℕ, List, Option, Some, None, Ok, Err, Result, All, MatchOption, subst, ◌∙◌, inr}
 use Rattle.std.specs.Option.{IfSome}
 use Rattle.std.proofs.lemmas.Option.{IfSome_then}
 use Rattle.spec_grammar.specs.Cycles.{IsAcyclic}
 use Rattle.spec_lbnf.specs.declared.definition.Def.{Def}
 use Rattle.spec_lbnf.specs.Expansion.{Expansion, expansion_of}
-use Rattle.spec_lbnf.specs.Checks.{Unfitness, AtLabels, AtCount, AtOwnName, AtUnknown, IsUnfit, IsWellLabelled, HasFewRules, HasOwnNames, AreAllKnown, IsFirstUnknown, unknown_fault}
+use Rattle.spec_lbnf.specs.Checks.{Unfitness, AtUnknown, IsUnfit, IsWellLabelled, HasFewRules, HasOwnNames, AreAllKnown, IsFirstUnknown, unknown_fault}
 use Rattle.lbnf_grammar.specs.declared.fault.GrammarFault.{GrammarFault}
 use Rattle.lbnf_grammar.specs.Grammars.{unfitness_of, Tells, PassFirstChecks, Expands}
-use Rattle.lbnf_grammar.specs.Checking.{ChecksWithoutMemory, AtCycleOf, PassesCycles}
+use Rattle.lbnf_grammar.specs.Checking.{AtCycleOf, PassesCycles}
 
 -- a fault that tells one unfitness tells another that follows
 pub tells_weaker : (IsOne IsOther : Unfitness → Type 0) → ((why : Unfitness) → IsOne why → IsOther why)
@@ -20,34 +20,6 @@ unfit_or_passed : (defs : List Def) → PassFirstChecks defs → (IsOne : Unfitn
     → (told : Option Unfitness) → IfSome told IsOne → MatchOption told (PassFirstChecks defs) (IsUnfit defs)
 unfit_or_passed defs passed IsOne gives None is = passed
 unfit_or_passed defs passed IsOne gives (Some why) is = gives why is
-
--- a fault of a check that takes no memory tells an unfitness of the definitions
-unfit : (defs : List Def) (IsOne : Unfitness → Type 0) → ((why : Unfitness) → IsOne why → IsUnfit defs why)
-    → (told : Option Unfitness) → MatchOption told ⊥ IsOne → MatchOption told (PassFirstChecks defs) (IsUnfit defs)
-unfit defs IsOne gives None is = absurd is
-unfit defs IsOne gives (Some why) is = gives why is
-
--- the fault of the check of labels is that of the definitions
-pub labels_unfit : (defs : List Def) (fault : GrammarFault) → ChecksWithoutMemory (λ (done : ⊤). All IsWellLabelled defs) (AtLabels defs) (Err fault)
-    → Expands defs (Err fault)
-labels_unfit defs fault = unfit defs (AtLabels defs) (λ why at. inl at) (unfitness_of fault)
-
--- so is that of the count of rules, behind it
-pub count_unfit : (defs : List Def) → All IsWellLabelled defs
-    → (fault : GrammarFault) → ChecksWithoutMemory (λ (done : ⊤). HasFewRules defs) (AtCount defs) (Err fault)
-    → Expands defs (Err fault)
-count_unfit defs labelled fault = unfit defs (AtCount defs) (λ why at. inr (labelled, inl at)) (unfitness_of fault)
-
-module _ (defs : List Def) (labelled : All IsWellLabelled defs) (few : HasFewRules defs) where
-  -- and that of the check of predefined names
-  pub own_names_unfit : (fault : GrammarFault) → Tells (AtOwnName defs) fault → Expands defs (Err fault)
-  own_names_unfit fault =
-      unfit_or_passed defs (labelled, few) (AtOwnName defs) (λ why at. inr (labelled, inr (few, inl at))) (unfitness_of fault)
-
-  -- and that of the check of known categories
-  pub named_unfit : HasOwnNames defs → (fault : GrammarFault) → Tells (AtUnknown defs) fault → Expands defs (Err fault)
-  named_unfit free fault =
-      unfit_or_passed defs (labelled, few) (AtUnknown defs) (λ why at. inr (labelled, inr (few, inr (free, inl at)))) (unfitness_of fault)
 
 -- a fault that tells of the first unknown category tells that one is at fault
 pub unknown_tells : (defs : List Def) (name : List ℕ) (number : ℕ) → IsFirstUnknown defs name number

@@ -1,5 +1,5 @@
 -- What flags say of the symbols that derive the empty span, and flags that are set rule by rule.
-use Rattle.std.proofs.Common.{below_more, ◌≡◌, ◌≢◌, ℕ, zero, suc, ◌+◌, ◌<◌, ◌⊎◌, List, [], ◌∷◌, Bool, true, false, ◌&&◌, IsTrue, length, slice_get, slice_set, slice_index_or, Some, refl, sym, ◌∙◌, subst, inl, inr, arith, get_or-set_other}
+use Rattle.std.proofs.Common.{below_more, ◌≡◌, ℕ, ◌+◌, ◌<◌, List, [], ◌∷◌, Bool, true, false, IsTrue, length, slice_get, slice_set, slice_index_or, Some, refl, sym, ◌∙◌, subst, inl, inr, arith, get_or-set_other}
 use Rattle.std.specs.List.{list_all, AllByRecursion}
 use Rattle.std.proofs.lemmas.Bool.{false≢true, and_from, and_parts, cases_eq}
 use Rattle.std.proofs.lemmas.List.{length-set}

@@ -1,10 +1,8 @@
 -- The checks of definitions, one by one. Serves the proofs alone.
-use Rattle.std.specs.Prelude.{◌≡◌, ℕ, List, [], ◌∷◌, Bool, true, false, Option, Some, None, Result}
+use Rattle.std.specs.Prelude.{◌≡◌, ℕ, List, [], ◌∷◌, Option, Some, None, Result}
 use Rattle.std.specs.Prelude.{Ok, Err, Contains, MatchOption}
 use Rattle.spec_grammar.specs.Cycles.{IsAcyclic}
 use Rattle.spec_lbnf.specs.declared.definition.CatName.{CatName}
-use Rattle.spec_lbnf.specs.declared.definition.RawItem.{RawItem}
-use Rattle.spec_lbnf.specs.declared.definition.RawItem.TheVariants.{Cat, Word}
 use Rattle.spec_lbnf.specs.declared.definition.RawRule.{RawRule}
 use Rattle.spec_lbnf.specs.declared.definition.Def.{Def}
 use Rattle.spec_lbnf.specs.Expansion.{Expansion}
@@ -22,17 +20,15 @@ abbrev pub Checks : {A : Type 0} → (A → Type 0) → (Unfitness → Type 0)
 Checks Passes IsSuch (Ok given) = Passes given
 Checks Passes IsSuch (Err fault) = Tells IsSuch fault
 
--- the check is passed with what it gives, or the fault tells such an unfitness; it is no want of
--- memory
+-- the fault tells such an unfitness, and is no want of memory
+abbrev pub TellsUnfitness : (Unfitness → Type 0) → GrammarFault → Type 0
+TellsUnfitness IsSuch fault = MatchOption (unfitness_of fault) ⊥ IsSuch
+
+-- the check is passed with what it gives, or the fault tells such an unfitness, without memory
 abbrev pub ChecksWithoutMemory : {A : Type 0} → (A → Type 0) → (Unfitness → Type 0)
     → Result A GrammarFault → Type 0
 ChecksWithoutMemory Passes IsSuch (Ok given) = Passes given
-ChecksWithoutMemory Passes IsSuch (Err fault) = MatchOption (unfitness_of fault) ⊥ IsSuch
-
--- the item is no word
-abbrev pub is_category : RawItem → Bool
-is_category (Cat cat) = true
-is_category (Word word) = false
+ChecksWithoutMemory Passes IsSuch (Err fault) = TellsUnfitness IsSuch fault
 
 -- the last of the categories is a list
 abbrev pub EndsInList : List CatName → Type 0

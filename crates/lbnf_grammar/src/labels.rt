@@ -4,7 +4,7 @@ ghost use Rattle.spec_lbnf.specs.Limits.{size_of};
 ghost use Rattle.spec_lbnf.specs.declared.definition.CatName.{CatName};
 ghost use Rattle.spec_lbnf.specs.Checks.{categories_in, AreElementAndList, IsOneElement};
 ghost use Rattle.spec_lbnf.specs.Checks.{IsBadWild, IsBadListRule, IsWellLabelled, AtLabels};
-ghost use Rattle.lbnf_grammar.specs.Checking.{is_category, EndsInList};
+ghost use Rattle.lbnf_grammar.specs.Checking.{EndsInList};
 ghost use Rattle.lbnf_grammar.specs.Checking.{FindsLabelFault, FindsRuleFault};
 ghost use Rattle.lbnf_grammar.specs.Checking.{ChecksWithoutMemory};
 
@@ -22,13 +22,14 @@ pub(crate) enum LabelFault {
     List,
 }
 
-/// Whether the item is no word.
-fn is_category(item: &RawItem) -> bool
-    ensures { result ≡ is_category item.now }
+/// 1 for an item that is no word, and else 0.
+fn one_if_category(item: &RawItem) -> usize
+    ensures count { result ≡ length (categories_in (item.now ∷ [])) }
+    ensures few { result ≤ 1 }
 {
     match item {
-        RawItem::Cat(_) => true,
-        RawItem::Word(_) => false,
+        RawItem::Cat(_) => 1,
+        RawItem::Word(_) => 0,
     }
 }
 
@@ -36,10 +37,15 @@ fn is_category(item: &RawItem) -> bool
 fn category_count(items: &[RawItem]) -> usize
     ensures { result ≡ length (categories_in items.now) }
 {
-    items.iter().filter(|item| is_category(*item)).count()
+    let mut count = 0;
+    for item in items {
+        count += one_if_category(item);
+    }
+    count
 }
 
 /// Whether some of the items are no words.
+#[tactic(auto, using(crate::proofs::LabelLemmas::some_categories))]
 fn has_category(items: &[RawItem]) -> bool
     ensures { IsTrue result ↔ (categories_in items.now ≢ []) }
 {
@@ -69,6 +75,7 @@ fn ends_in_list(items: &[RawItem]) -> bool
 }
 
 /// Whether the items that are no words are two, of which the second is a list.
+#[tactic(auto, using(crate::proofs::LabelLemmas::element_and_list))]
 fn are_element_and_list(items: &[RawItem]) -> bool
     ensures { IsTrue result ↔ AreElementAndList (categories_in items.now) }
 {
@@ -76,6 +83,7 @@ fn are_element_and_list(items: &[RawItem]) -> bool
 }
 
 /// Whether the items that are no words are one, and it is no list.
+#[tactic(auto, using(crate::proofs::LabelLemmas::one_element))]
 fn is_one_element(items: &[RawItem]) -> bool
     ensures { IsTrue result ↔ IsOneElement (categories_in items.now) }
 {
