@@ -17,7 +17,7 @@ use Rattle.spec_session.specs.Replies.{too_many_symbols, fault_reason, unfit_rea
 use Rattle.spec_session.specs.Replies.{version_reply}
 use Rattle.lbnf_text.specs.Reading.{IsSmallText, file_fault_of}
 use Rattle.lbnf_text.specs.declared.fault.TextFault.TheVariants.{TooLarge}
-use Rattle.lbnf_grammar.specs.Grammars.{unfitness_of}
+use Rattle.lbnf_grammar.specs.Grammars.{unfitness_of, PassFirstChecks}
 use Rattle.binary_form.specs.BinaryForm.{MakesBinary}
 use Rattle.binary_form.specs.declared.fault.BinaryFault.{BinaryFault}
 use Rattle.binary_form.specs.declared.fault.BinaryFault.TheVariants.{Memory as BinaryMemory, TooManySymbols}
@@ -77,7 +77,7 @@ reason_is block (Text fault) reason h is =
     let first = told fault_reason (IsSmallText block) (IsFirstFault block) (file_fault_of fault) reason h is in
     faulty first.0 first.1 first.2
 reason_is block (Grammar fault) reason h is =
-    let why = told unfit_reason (Unit {0}) (IsUnfit h.0) (unfitness_of fault) reason h.2 is in
+    let why = told unfit_reason (PassFirstChecks h.0) (IsUnfit h.0) (unfitness_of fault) reason h.2 is in
     unfit h.0 why.0 h.1 why.1 why.2
 reason_is block (Binary BinaryMemory) reason h is = absurd (none-some reason is)
 reason_is block (Binary (TooManySymbols count)) reason h is =

@@ -1,12 +1,12 @@
 -- The checks of names: what is listed is known, and the first that is bad.
-use Rattle.std.proofs.Common.{◌≡◌, ℕ, Bool, ◌+◌, ◌<◌, ◌≤◌, List, [], ◌∷◌, ◌++◌, length, take, drop, true, false, ◌||◌, Some, All, slice_get, get_or, refl, sym, ap, subst, ◌∙◌, inl, inr}
+use Rattle.std.proofs.Common.{◌≡◌, ℕ, Bool, ◌+◌, ◌<◌, ◌≤◌, List, [], ◌∷◌, ◌++◌, length, take, drop, true, false, ◌||◌, Some, All, Contains, slice_get, get_or, refl, sym, ap, subst, ◌∙◌, inl, inr}
 use Rattle.std.specs.List.{list_any, flat_map}
 use Rattle.std.specs.Str.{bytes_eq}
 use Rattle.std.specs.Cmp.Lexicographic.{nat_list_eq_equiv}
 use Rattle.std.proofs.lemmas.Bool.{cases_Bool, both_ways}
 use Rattle.std.proofs.Math.Bool.{or-false, or_assoc}
 use Rattle.std.proofs.lemmas.List.{drop_more, take_all, take-append-drop}
-use Rattle.std.proofs.lemmas.List.Elements.{All-nil, All-cons, All-append, All-weaker}
+use Rattle.std.proofs.lemmas.List.Elements.{All-more, All-weaker}
 use Rattle.std.proofs.lemmas.List.Folds.{list_any-append}
 use Rattle.std.proofs.lemmas.Map.Views.{Contains-from_any, list_any-from_Contains}
 use Rattle.std.proofs.lemmas.Option.{slice_get_read}
@@ -14,9 +14,8 @@ use Rattle.std.proofs.lemmas.Slice.Eq.{bytes_eq-Decides}
 use Rattle.spec_lbnf.specs.declared.definition.RawItem.{RawItem}
 use Rattle.spec_lbnf.specs.declared.definition.RawItem.TheVariants.{Cat, Word}
 use Rattle.spec_lbnf.specs.declared.definition.Def.{Def}
-use Rattle.spec_lbnf.specs.Checks.{predefined_names}
 use Rattle.spec_lbnf.specs.Expansion.{category_text, item_categories}
-use Rattle.spec_lbnf.specs.Checks.{own_categories, named_categories, IsPredefined, IsFree, IsFirstName, IsKnown, IsUnknown, NamesKnown, IsFirstUnknown}
+use Rattle.spec_lbnf.specs.Checks.{own_categories, named_categories, IsFirstName, IsKnown, IsUnknown, NamesKnown, IsFirstUnknown}
 use Rattle.lbnf_grammar.specs.Numbering.{with_name, with_names}
 use Rattle.lbnf_grammar.specs.Checking.{IsListed, IsUnlisted}
 use Rattle.lbnf_grammar.proofs.NameLemmas.{with_name_there, with_name_new}
@@ -70,9 +69,7 @@ module _ (IsBad IsGood : List ℕ → Type 0) (names : List (List ℕ)) (i : ℕ
 
   -- if it is good, the names up to it are
   pub more_good : IsGood name → All IsGood (take (i + 1) names)
-  more_good next =
-      subst (All IsGood) (sym (take_next names i name (slice_get_read names (length names) i name refl within is)))
-      (All-append IsGood (take i names) (name ∷ []) good (All-cons IsGood name [] next (All-nil IsGood)))
+  more_good next = All-more IsGood names i name within good (subst IsGood is next)
 
 -- what a test of the shown bytes told, of the name
 pub told_listed : (table : List (List ℕ)) (name shown : List ℕ) → shown ≡ name
@@ -85,13 +82,17 @@ pub good_all : (IsGood : List ℕ → Type 0) (names : List (List ℕ)) (i : ℕ
     → All IsGood (take i names) → All IsGood names
 good_all IsGood names i past good = subst (All IsGood) (take_all i names past) good
 
--- a name that is told to be predefined is
-pub told_predefined : (name : List ℕ) → list_any (bytes_eq name) predefined_names ≡ true → IsPredefined name
-told_predefined name h = Contains-from_any {eq = bytes_eq} (λ a b e. (bytes_eq-Decides a b).0 e) name predefined_names h
+-- a name that is told to be in a table is
+pub told_there : (table : List (List ℕ)) (name : List ℕ) → list_any (bytes_eq name) table ≡ true → Contains table name
+told_there table name h = Contains-from_any {eq = bytes_eq} (λ a b e. (bytes_eq-Decides a b).0 e) name table h
 
--- a name that is told not to be predefined is free
-pub told_free : (name : List ℕ) → list_any (bytes_eq name) predefined_names ≡ false → IsFree name
-told_free name h there = both_ways (list_any (bytes_eq name) predefined_names) h (list_any-from_Contains nat_list_eq_equiv name predefined_names there)
+-- a name that is in a table is told to be
+told_of_there : (table : List (List ℕ)) (name : List ℕ) → Contains table name → list_any (bytes_eq name) table ≡ true
+told_of_there table name there = list_any-from_Contains nat_list_eq_equiv name table there
+
+-- a name that is told not to be in a table is not
+pub told_absent : (table : List (List ℕ)) (name : List ℕ) → list_any (bytes_eq name) table ≡ false → Contains table name → ⊥
+told_absent table name h there = both_ways (list_any (bytes_eq name) table) h (told_of_there table name there)
 
 module _ (defs : List Def) (known : List (List ℕ)) (are : known ≡ with_names [] (flat_map own_categories defs)) where
   -- a name is listed where definitions give rules for it
@@ -100,11 +101,11 @@ module _ (defs : List Def) (known : List (List ℕ)) (are : known ≡ with_names
 
   -- what is listed is known
   listed_known : (x : List ℕ) → IsListed known x → IsKnown defs x
-  listed_known x h = Contains-from_any {eq = bytes_eq} (λ a b e. (bytes_eq-Decides a b).0 e) x (flat_map own_categories defs) (sym (listed_is x) ∙ h)
+  listed_known x h = told_there (flat_map own_categories defs) x (sym (listed_is x) ∙ told_of_there known x h)
 
   -- what is not listed is not known
   unlisted_unknown : (x : List ℕ) → IsUnlisted known x → IsUnknown defs x
-  unlisted_unknown x h there = both_ways (list_any (bytes_eq x) known) h (listed_is x ∙ list_any-from_Contains nat_list_eq_equiv x (flat_map own_categories defs) there)
+  unlisted_unknown x h there = h (told_there known x (listed_is x ∙ told_of_there (flat_map own_categories defs) x there))
 
   -- where all categories of a definition are listed, it names known ones alone
   names_known : (def : Def) → All (IsListed known) (named_categories def) → NamesKnown defs def

@@ -1,11 +1,13 @@
 -- The first definition that is not well labelled, and what holds of all definitions up to one.
-use Rattle.std.proofs.Common.{below_more, ◌≡◌, ℕ, ◌+◌, ◌<◌, List, [], ◌∷◌, ◌++◌, length, take, get_or, Some, All, slice_get, refl, sym, ap, subst, ◌∙◌, inl, inr}
+use Rattle.std.proofs.Common.{below_more, ◌≡◌, ◌≢◌, ◌↔◌, ℕ, ◌+◌, ◌<◌, List, [], ◌∷◌, ◌++◌, Bool, IsTrue, length, length-append, take, get_or, Some, All, slice_get, refl, sym, ap, subst, ◌∙◌, inl, inr, arith}
 use Rattle.std.proofs.lemmas.List.{take_more}
 use Rattle.std.proofs.lemmas.Option.{slice_get-get_or, slice_get_read, slice_get_within, get_or_from_slice_get, same_Some}
+use Rattle.spec_lbnf.specs.declared.definition.CatName.{CatName}
 use Rattle.spec_lbnf.specs.declared.definition.RawItem.{RawItem}
 use Rattle.spec_lbnf.specs.declared.definition.RawItem.TheVariants.{Cat, Word}
 use Rattle.spec_lbnf.specs.declared.definition.Def.{Def}
-use Rattle.spec_lbnf.specs.Checks.{categories_in, IsWellLabelled, IsBadCoercion, IsBadList, AtLabels, bad_coercion, bad_list}
+use Rattle.spec_lbnf.specs.Checks.{categories_in, IsList, AreElementAndList, IsOneElement, IsWellLabelled, IsBadCoercion, IsBadList, AtLabels, bad_coercion, bad_list}
+use Rattle.lbnf_grammar.specs.Checking.{EndsInList}
 
 -- the categories of items side by side
 pub categories_in-append : (items others : List RawItem)
@@ -24,6 +26,42 @@ take_next xs i x at =
 pub categories_more : (items : List RawItem) (i : ℕ) (item : RawItem) → slice_get items i ≡ Some item
     → categories_in (take (i + 1) items) ≡ categories_in (take i items) ++ categories_in (item ∷ [])
 categories_more items i item at = ap categories_in (take_next items i item at) ∙ categories_in-append (take i items) (item ∷ [])
+
+-- the first items that are no words are counted with the next
+pub counted_more : (items : List RawItem) (i : ℕ) (item : RawItem) (count one : ℕ) → slice_get items i ≡ Some item
+    → one ≡ length (categories_in (item ∷ [])) → count ≡ length (categories_in (take i items)) → count + one ≡ length (categories_in (take (i + 1) items))
+counted_more items i item count one at is counted =
+    omega (arith, is, counted, ap length (categories_more items i item at), length-append (categories_in (take i items)) (categories_in (item ∷ [])))
+
+-- some categories are more than none
+pub some_categories : (cats : List CatName) → 0 < length cats ↔ (cats ≢ [])
+some_categories [] = ((λ some. absurd (omega (arith, some))), (λ differ. absurd (differ refl)))
+some_categories (cat ∷ cats) = ((λ some same. omega (arith, ap length same)), (λ differ. omega arith))
+
+-- the last of categories and one more is that one
+ends_behind : (cats : List CatName) (cat : CatName) → EndsInList (cats ++ cat ∷ []) ↔ IsList cat
+ends_behind [] cat = ((λ is. is), (λ is. is))
+ends_behind (first ∷ []) cat = ((λ is. is), (λ is. is))
+ends_behind (first ∷ next ∷ cats) cat = ends_behind (next ∷ cats) cat
+
+-- so where the next item is a category, it tells whether the last is a list
+pub list_behind : (item : RawItem) (cat : CatName) → item ≡ Cat cat → (answer : Bool) → (IsTrue answer ↔ IsList cat)
+    → (cats : List CatName) → IsTrue answer ↔ EndsInList (cats ++ categories_in (item ∷ []))
+list_behind item cat is answer tells cats =
+    rw is ((λ e. (ends_behind cats cat).1 (tells.0 e)), (λ ends. tells.1 ((ends_behind cats cat).0 ends)))
+
+-- two categories of which the last is a list are an element and a list
+pub element_and_list : (cats : List CatName) → ((length cats ≡ 2) × EndsInList cats) ↔ AreElementAndList cats
+element_and_list [] = ((λ are. absurd (omega (arith, are.0))), (λ are. absurd are))
+element_and_list (one ∷ []) = ((λ are. absurd (omega (arith, are.0))), (λ are. absurd are))
+element_and_list (first ∷ second ∷ []) = ((λ are. are.1), (λ is. (refl, is)))
+element_and_list (first ∷ second ∷ third ∷ cats) = ((λ are. absurd (omega (arith, are.0))), (λ are. absurd are))
+
+-- one category of which the last is no list is one element
+pub one_element : (cats : List CatName) → ((length cats ≡ 1) × (EndsInList cats → ⊥)) ↔ IsOneElement cats
+one_element [] = ((λ is. absurd (omega (arith, is.0))), (λ is. absurd is))
+one_element (one ∷ []) = ((λ is. is.1), (λ is. (refl, is)))
+one_element (first ∷ second ∷ cats) = ((λ is. absurd (omega (arith, is.0))), (λ is. absurd is))
 
 module _ (P : Def → Type 0) (defs : List Def) where
   -- what holds of the first definitions holds with the next

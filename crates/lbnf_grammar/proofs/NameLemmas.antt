@@ -5,7 +5,7 @@ use Rattle.std.specs.List.{list_any, prefix_len, position_or_len, position}
 use Rattle.std.specs.Option.{unwrap_or}
 use Rattle.std.specs.Str.{bytes_eq}
 use Rattle.std.proofs.lemmas.Bool.{cases_Bool, cond-true, cond-false, ltb-false}
-use Rattle.std.proofs.lemmas.List.Sums.{position_or_len_is}
+use Rattle.std.proofs.lemmas.List.Sums.{position_or_len_is, prefix_len-le-length}
 use Rattle.std.proofs.lemmas.Option.{slice_get_within, get_or_from_slice_get}
 use Rattle.std.proofs.lemmas.Slice.Eq.{bytes_eq-Decides}
 use Rattle.spec_lbnf.specs.Expansion.{number_of}
@@ -26,18 +26,10 @@ module _ {A B : Type 0} (p : B → Bool) (f : A → B) where
   front_image [] = refl
   front_image (x ∷ xs) = rw (front_image xs) refl
 
--- the front that passes is no longer than the list
-pub front_within : {A : Type 0} (p : A → Bool) (xs : List A) → prefix_len p xs ≤ length xs
-front_within p [] = omega arith
-front_within p (x ∷ xs) = elim (cases_Bool (p x)) [
-  | inl e ↦ rw e (omega (arith, front_within p xs))
-  | inr e ↦ rw e (omega arith)
-]
-
 -- the place of the first that passes, or the length
 place_or_len : {A : Type 0} (p : A → Bool) (xs : List A)
     → unwrap_or (position p xs) (length xs) ≡ position_or_len p xs
-place_or_len p xs = by (position_or_len p xs) (front_within (λ x. not (p x)) xs)
+place_or_len p xs = by (position_or_len p xs) (prefix_len-le-length (λ x. not (p x)) xs)
   where
     by : (n : ℕ) → n ≤ length xs → unwrap_or (cond (ltb n (length xs)) (Some n) None) (length xs) ≡ n
     by n le = elim (cases_Bool (ltb n (length xs))) [

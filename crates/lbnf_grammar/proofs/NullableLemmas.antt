@@ -1,9 +1,8 @@
 -- What flags say of the symbols that derive the empty span, and flags that are set rule by rule.
-use Rattle.std.proofs.Common.{below_more, ◌≡◌, ◌≢◌, ℕ, zero, suc, ◌+◌, ◌<◌, ◌⊎◌, List, [], ◌∷◌, Bool, true, false, ◌&&◌, IsTrue, length, slice_get, slice_set, slice_index_or, Some, refl, sym, ◌∙◌, subst, inl, inr, arith, get_or-set_other}
+use Rattle.std.proofs.Common.{below_more, ◌≡◌, ℕ, ◌+◌, ◌<◌, List, [], ◌∷◌, Bool, true, false, IsTrue, length, slice_get, slice_set, slice_index_or, Some, refl, sym, ◌∙◌, subst, inl, inr, arith, get_or-set_other}
 use Rattle.std.specs.List.{list_all, AllByRecursion}
-use Rattle.std.proofs.lemmas.Bool.{false≢true}
+use Rattle.std.proofs.lemmas.Bool.{false≢true, and_from, and_parts, cases_eq}
 use Rattle.std.proofs.lemmas.List.{length-set}
-use Rattle.std.proofs.lemmas.List.Elements.{recursion_from_All}
 use Rattle.std.proofs.lemmas.Option.{none-some, same_Some, slice_get_within}
 use Rattle.spec_grammar.specs.declared.rule.Symbol.{Symbol}
 use Rattle.spec_grammar.specs.declared.rule.Symbol.TheVariants.{Category, Kind}
@@ -11,52 +10,15 @@ use Rattle.spec_grammar.specs.declared.rule.Rule.{Rule}
 use Rattle.spec_grammar.specs.Trees.{Tree, leaf, node, Forest, no_trees, trees}
 use Rattle.spec_grammar.specs.Derivation.{IsParseTree, AreParseTrees, DerivesAll, IsNullable}
 use Rattle.spec_grammar.proofs.DerivationLemmas.{kind_derives, category_derives, nullable_items}
-use Rattle.spec_lbnf.specs.Expansion.{Expansion, IsSymbolOf}
-use Rattle.lbnf_grammar.specs.Nullable.{AreNullableFlags, flag_of, TellsNullable, TellsAllNullable}
-use Rattle.lbnf_grammar.specs.NullablePasses.{AreSound, IsClosedUnder, AreClosedUnder, HaveFlags, AppliesRule, AreAfterRules, clear_count}
-
--- both of two tests pass
-both : (a b : Bool) → IsTrue a → IsTrue b → IsTrue (a && b)
-both a b e f = rw (e, f) refl
-
--- where both of two tests pass, each does
-each_of : (a b : Bool) → IsTrue (a && b) → IsTrue a × IsTrue b
-each_of true b e = (refl, e)
-each_of false b e = absurd (false≢true e)
+use Rattle.spec_lbnf.specs.Expansion.{Expansion}
+use Rattle.number_graph.specs.Flags.{clear_count}
+use Rattle.number_graph.proofs.FlagLemmas.{clear_count-set}
+use Rattle.lbnf_grammar.specs.Nullable.{AreNullableFlags, flag_of}
+use Rattle.lbnf_grammar.specs.NullablePasses.{AreSound, IsClosedUnder, AreClosedUnder, HaveFlags, AppliesRule, AreAfterRules}
 
 -- no kind derives the empty span
 pub kind_not_nullable : (rules : List Rule) (k : ℕ) → IsNullable rules (Kind k) → ⊥
 kind_not_nullable rules k d = none-some _ ((kind_derives rules [] k 0 0).0 d).0
-
--- the flag of a symbol says whether it derives the empty span
-pub flag_tells : (flags : List Bool) (symbol : Symbol) → TellsNullable flags symbol (flag_of flags symbol)
-flag_tells flags (Category c) g are own = are.exact c own
-flag_tells flags (Kind k) g are own = ((λ e. absurd (false≢true e)), (λ d. absurd (kind_not_nullable g.rules k d)))
-
-module _ (g : Expansion) (flags : List Bool) (are : AreNullableFlags g flags) where
-  -- flagged items are nullable
-  flagged_nullable : (items : List Symbol) → AllByRecursion (IsSymbolOf g) items
-      → IsTrue (list_all (flag_of flags) items) → AllByRecursion (IsNullable g.rules) items
-  flagged_nullable [] own e = tt
-  flagged_nullable (s ∷ items) own e =
-      let parts = each_of (flag_of flags s) (list_all (flag_of flags) items) e in
-      ((flag_tells flags s g are own.0).0 parts.0, flagged_nullable items own.1 parts.1)
-
-  -- nullable items are flagged
-  nullable_flagged : (items : List Symbol) → AllByRecursion (IsSymbolOf g) items
-      → AllByRecursion (IsNullable g.rules) items → IsTrue (list_all (flag_of flags) items)
-  nullable_flagged [] own each = refl
-  nullable_flagged (s ∷ items) own each =
-      both (flag_of flags s) (list_all (flag_of flags) items)
-      ((flag_tells flags s g are own.0).1 each.0) (nullable_flagged items own.1 each.1)
-
--- the flags of items say whether they derive the empty span
-pub flags_tell : (flags : List Bool) (items : List Symbol) → TellsAllNullable flags items (list_all (flag_of flags) items)
-flags_tell flags items g are own =
-    let each = recursion_from_All (IsSymbolOf g) items own in (
-      (λ e. (nullable_items g.rules items).1 (flagged_nullable g flags are items each e)),
-      (λ d. nullable_flagged g flags are items each ((nullable_items g.rules items).0 d)),
-    )
 
 module _ (rules : List Rule) (flags : List Bool) where
   -- the items of sound flags that are set are nullable
@@ -64,7 +26,7 @@ module _ (rules : List Rule) (flags : List Bool) where
       → AllByRecursion (IsNullable rules) items
   sound_items sound [] e = tt
   sound_items sound (Category c ∷ items) e =
-      let parts = each_of (slice_index_or flags c false) (list_all (flag_of flags) items) e in
+      let parts = and_parts (slice_index_or flags c false) (list_all (flag_of flags) items) e in
       (sound c parts.0, sound_items sound items parts.1)
   sound_items sound (Kind k ∷ items) e = absurd (false≢true e)
 
@@ -78,15 +40,12 @@ module _ (rules : List Rule) (flags : List Bool) where
   -- so its category may be flagged
   sound_set : AreSound rules flags → (r : ℕ) (rule : Rule) → slice_get rules r ≡ Some rule
       → IsTrue (list_all (flag_of flags) rule.items) → AreSound rules (slice_set flags rule.category true)
-  sound_set sound r rule is e c set = elim (same_or_other rule.category c) [
+  sound_set sound r rule is e c set = elim (cases_eq c rule.category) [
     | inl same ↦
         let P : ℕ → Type 0 = λ n. IsNullable rules (Category n) in
-        subst P same (rule_nullable sound r rule is e)
+        subst P (sym same) (rule_nullable sound r rule is e)
     | inr other ↦ sound c (rw get_or-set_other at set)
   ]
-    where
-      same_or_other : (a b : ℕ) → (a ≡ b) ⊎ (b ≢ a)
-      same_or_other a b = grind arith
 
   -- where the flags are closed under each rule, the symbol of a tree over no token is flagged
   module _ (closed : AreClosedUnder rules flags (length rules)) where
@@ -101,7 +60,7 @@ module _ (rules : List Rule) (flags : List Bool) where
       forest_flagged : (ts : Forest) (items : List Symbol) (i j : ℕ) → AreParseTrees rules [] ts items i j → IsTrue (list_all (flag_of flags) items)
       forest_flagged no_trees items i j are = rw are.0 refl
       forest_flagged (trees t ts) items i j are =
-          rw are.3 (both (flag_of flags are.0) (list_all (flag_of flags) are.1) (tree_flagged t are.0 i are.2 are.4) (forest_flagged ts are.1 are.2 j are.5))
+          rw are.3 (and_from (flag_of flags are.0) (list_all (flag_of flags) are.1) (tree_flagged t are.0 i are.2 are.4) (forest_flagged ts are.1 are.2 j are.5))
 
 -- sound flags that are closed under each rule are those of the nullable categories
 pub exact_flags : (g : Expansion) (flags : List Bool) → length flags ≡ length g.categories
@@ -110,15 +69,6 @@ exact_flags g flags count sound closed = record {
   count = count;
   exact = λ c lt. (sound c, λ d. tree_flagged g.rules flags closed d.0 (Category c) 0 0 d.1);
 }
-
--- one clear flag less, where a clear one is set
-fewer_clear : (flags : List Bool) (c : ℕ) → c < length flags → slice_index_or flags c false ≡ false
-    → clear_count (slice_set flags c true) < clear_count flags
-fewer_clear [] c lt clear = absurd (omega arith)
-fewer_clear (true ∷ flags) zero lt clear = absurd (false≢true (sym clear))
-fewer_clear (false ∷ flags) zero lt clear = omega arith
-fewer_clear (true ∷ flags) (suc c) lt clear = fewer_clear flags c (omega arith) clear
-fewer_clear (false ∷ flags) (suc c) lt clear = let fewer = fewer_clear flags c (omega arith) clear in omega arith
 
 -- the flags are closed under one more rule
 closed_more : (rules : List Rule) (flags : List Bool) (n : ℕ) (rule : Rule) → slice_get rules n ≡ Some rule
@@ -133,7 +83,7 @@ module _ (rules : List Rule) (start old new : List Bool) (n : ℕ) (rule : Rule)
   pub applied_setting : HaveFlags rules (length start) → AppliesRule old new rule true → AreAfterRules rules start old n has_set → AreAfterRules rules start new (n + 1) true
   applied_setting have applies after =
       let within : rule.category < length old = rw after.len (have n rule is) in
-      let fewer : clear_count new < clear_count old = rw applies.2 (fewer_clear old rule.category within applies.0) in
+      let fewer : clear_count new < clear_count old = rw applies.2 (clear_count-set old rule.category within applies.0) in
       record {
         sound = rw applies.2 (sound_set rules old after.sound n rule is applies.1);
         len = rw applies.2 (length-set old rule.category true ∙ after.len);

@@ -1,6 +1,7 @@
 -- Cycles and ranks by links, and the longest chains of at most so many steps.
 use Rattle.std.proofs.Common.{below_more, ◌≡◌, ℕ, zero, suc, ◌+◌, ◌^◌, ◌<◌, ◌≤◌, ◌⊎◌, ◌↔◌, inl, inr, List, [], ◌∷◌, ◌++◌, length, slice_index_or, replicate, refl, sym, ◌∙◌, subst, arith}
 use Rattle.std.specs.List.{Contains, All}
+use Rattle.std.proofs.lemmas.Bool.{cases_lt}
 use Rattle.std.proofs.lemmas.List.Elements.{Contains-append_left, Contains-push, Contains-push_cases, All-from_get_or}
 use Rattle.std.proofs.lemmas.List.{length-replicate, get_or-replicate, get_or_append_left, get_or_default, get_or_push}
 use Rattle.spec_grammar.specs.Cycles.{Leads, IsCyclic, IsAcyclic, HasChain, IsRank}
@@ -160,17 +161,14 @@ module _ (g : Expansion) (links : List (List ℕ)) (are : AreSteps g links) wher
     each = λ c below. ((longest.each c below).chain, longer c below);
   }
     where
-      measured_or_long : (n : ℕ) → (n ≤ most) ⊎ (length g.categories ≤ n)
-      measured_or_long n = grind arith
-
       longer : (c : ℕ) → c < length g.categories → HasChain g.rules c (suc (slice_index_or lengths c 0)) → ⊥
       longer c below chain =
           let n = suc (slice_index_or lengths c 0) in
-          elim (measured_or_long n) [
-            | inl few ↦ omega (arith, (longest.each c below).longest n few chain)
-            | inr all ↦
+          elim (cases_lt most n) [
+            | inr few ↦ omega (arith, (longest.each c below).longest n few chain)
+            | inl more ↦
                 chain_is_short g.rules (length g.categories) are.to acyclic c below
-                (shorter_chain g.rules (length g.categories) n c all chain)
+                (shorter_chain g.rules (length g.categories) n c (omega (arith, enough, more)) chain)
           ]
 
   module _ (lengths : List ℕ) (heights : AreHeights links lengths lengths) where

@@ -16,7 +16,7 @@ use Rattle.number_graph.specs.Graphs.{HasLink, AddsLinks, AreNoLinks}
 use Rattle.number_graph.proofs.FlagLemmas.{set_within}
 use Rattle.number_graph.proofs.LinkLemmas.{adds_alike, adds_both, no_link}
 use Rattle.lbnf_grammar.specs.Nullable.{AreNullableFlags, flag_of}
-use Rattle.lbnf_grammar.specs.StepLinks.{own_count, full_count, IsItemStep, IsStepOfItems, IsRuleStep, IsStepOfRules, AreStepsSoFar, AreSteps}
+use Rattle.lbnf_grammar.specs.StepLinks.{one_if_non_nullable, non_nullable_count, IsItemStep, IsStepOfItems, IsRuleStep, IsStepOfRules, AreStepsSoFar, AreSteps}
 use Rattle.lbnf_grammar.proofs.NullableLemmas.{kind_not_nullable}
 
 -- where there is nothing to add, the links stay
@@ -34,12 +34,12 @@ adds_none A links none = record {
 
 -- a link that is added where a test holds is the item's step
 pub item_links :
-    (flags : List Bool) (old new : List (List ℕ)) (category full b : ℕ) (item : Symbol) (alone : Bool)
-    → item ≡ Category b → IsTrue alone ↔ full ≡ own_count flags item
+    (flags : List Bool) (old new : List (List ℕ)) (category non_nullable b : ℕ) (item : Symbol) (alone : Bool)
+    → item ≡ Category b → IsTrue alone ↔ non_nullable ≡ one_if_non_nullable flags item
     → AddsLinks (λ m n. IsTrue alone × (m ≡ category) × (n ≡ b)) old new
-    → AddsLinks (IsItemStep flags category full item) old new
-item_links flags old new category full b item alone is tests adds =
-    adds_alike (λ m n. IsTrue alone × (m ≡ category) × (n ≡ b)) (IsItemStep flags category full item) old new
+    → AddsLinks (IsItemStep flags category non_nullable item) old new
+item_links flags old new category non_nullable b item alone is tests adds =
+    adds_alike (λ m n. IsTrue alone × (m ≡ category) × (n ≡ b)) (IsItemStep flags category non_nullable item) old new
     (λ m n. (
       (λ x. (tests.0 x.0, x.1, is ∙ ap Category (sym x.2))),
       (λ x. (tests.1 x.0, x.1, same_number n (sym x.2 ∙ is))),
@@ -49,42 +49,42 @@ item_links flags old new category full b item alone is tests adds =
     same_number : (n : ℕ) → Category n ≡ Category b → n ≡ b
     same_number n same = cc
 
-module _ (flags : List Bool) (category full : ℕ) (old : List (List ℕ)) where
+module _ (flags : List Bool) (category non_nullable : ℕ) (old : List (List ℕ)) where
   -- no items make no step
-  pub items_start : AddsLinks (IsStepOfItems flags category full []) old old
-  items_start = adds_none (IsStepOfItems flags category full []) old (λ m n x. omega (arith, x.2.1))
+  pub items_start : AddsLinks (IsStepOfItems flags category non_nullable []) old old
+  items_start = adds_none (IsStepOfItems flags category non_nullable []) old (λ m n x. omega (arith, x.2.1))
 
   -- one item more makes its own steps
   pub items_more :
       (middle new : List (List ℕ)) (items : List Symbol) (item : Symbol)
-      → AddsLinks (IsStepOfItems flags category full items) old middle
-      → AddsLinks (IsItemStep flags category full item) middle new
-      → AddsLinks (IsStepOfItems flags category full (items ++ item ∷ [])) old new
+      → AddsLinks (IsStepOfItems flags category non_nullable items) old middle
+      → AddsLinks (IsItemStep flags category non_nullable item) middle new
+      → AddsLinks (IsStepOfItems flags category non_nullable (items ++ item ∷ [])) old new
   items_more middle new items item before last =
       adds_alike
-      (λ m n. IsStepOfItems flags category full items m n ⊎ IsItemStep flags category full item m n)
-      (IsStepOfItems flags category full (items ++ item ∷ [])) old new
+      (λ m n. IsStepOfItems flags category non_nullable items m n ⊎ IsItemStep flags category non_nullable item m n)
+      (IsStepOfItems flags category non_nullable (items ++ item ∷ [])) old new
       (λ m n. (joined m n, parted m n))
-      (adds_both (IsStepOfItems flags category full items) (IsItemStep flags category full item) old middle new before last)
+      (adds_both (IsStepOfItems flags category non_nullable items) (IsItemStep flags category non_nullable item) old middle new before last)
     where
       joined :
           (m n : ℕ)
-          → IsStepOfItems flags category full items m n ⊎ IsItemStep flags category full item m n
-          → IsStepOfItems flags category full (items ++ item ∷ []) m n
+          → IsStepOfItems flags category non_nullable items m n ⊎ IsItemStep flags category non_nullable item m n
+          → IsStepOfItems flags category non_nullable (items ++ item ∷ []) m n
       joined m n (inl x) = (x.0, x.1, Contains-append_left items (item ∷ []) (Category n) x.2)
       joined m n (inr x) =
-          let Own : Symbol → Type 0 = λ s. full ≡ own_count flags s in
+          let Own : Symbol → Type 0 = λ s. non_nullable ≡ one_if_non_nullable flags s in
           let Has : Symbol → Type 0 = λ s. Contains (items ++ item ∷ []) s in
           (subst Own x.2 x.0, x.1, subst Has x.2 (Contains-push items item))
 
       parted :
           (m n : ℕ)
-          → IsStepOfItems flags category full (items ++ item ∷ []) m n
-          → IsStepOfItems flags category full items m n ⊎ IsItemStep flags category full item m n
+          → IsStepOfItems flags category non_nullable (items ++ item ∷ []) m n
+          → IsStepOfItems flags category non_nullable items m n ⊎ IsItemStep flags category non_nullable item m n
       parted m n x = elim (Contains-push_cases items item (Category n) x.2) [
         | inl has ↦ inl (x.0, x.1, has)
         | inr same ↦
-            let Own : Symbol → Type 0 = λ s. full ≡ own_count flags s in
+            let Own : Symbol → Type 0 = λ s. non_nullable ≡ one_if_non_nullable flags s in
             inr (subst Own (sym same) x.0, x.1, same)
       ]
 
@@ -144,7 +144,7 @@ item_between (item ∷ before) behind s =
 
 module _ (flags : List Bool) where
   -- a symbol counts as none exactly where its flag is set
-  none_own : (s : Symbol) → IsTrue (flag_of flags s) ↔ own_count flags s ≡ 0
+  none_own : (s : Symbol) → IsTrue (flag_of flags s) ↔ one_if_non_nullable flags s ≡ 0
   none_own s = by_flag (flag_of flags s)
     where
       by_flag : (flag : Bool) → IsTrue flag ↔ ◌≡◌ {A = ℕ} (cond flag 0 1) 0
@@ -153,7 +153,7 @@ module _ (flags : List Bool) where
 
 module _ (g : Expansion) (flags : List Bool) (are : AreNullableFlags g flags) (own : HasOwnSymbols g) where
   -- a symbol counts as none exactly where it is nullable
-  none_nullable : (s : Symbol) → own_count flags s ≡ 0 ↔ IsNullable g.rules s
+  none_nullable : (s : Symbol) → one_if_non_nullable flags s ≡ 0 ↔ IsNullable g.rules s
   none_nullable (Kind k) = ((λ is. absurd (omega (arith, is))), (λ d. absurd (kind_not_nullable g.rules k d)))
   none_nullable (Category c) = (
     (λ is.
@@ -167,22 +167,22 @@ module _ (g : Expansion) (flags : List Bool) (are : AreNullableFlags g flags) (o
   )
 
   -- items have no others but nullable ones exactly where each is nullable
-  all_nullable : (items : List Symbol) → full_count flags items ≡ 0 ↔ AllByRecursion (IsNullable g.rules) items
+  all_nullable : (items : List Symbol) → non_nullable_count flags items ≡ 0 ↔ AllByRecursion (IsNullable g.rules) items
   all_nullable [] = ((λ is. tt), (λ each. refl))
   all_nullable (s ∷ items) = (
     (λ is. (
-      (none_nullable s).0 (omega (arith, is, sum_by-cons (own_count flags) s items)),
-      (all_nullable items).0 (omega (arith, is, sum_by-cons (own_count flags) s items)),
+      (none_nullable s).0 (omega (arith, is, sum_by-cons (one_if_non_nullable flags) s items)),
+      (all_nullable items).0 (omega (arith, is, sum_by-cons (one_if_non_nullable flags) s items)),
     )),
-    (λ each. omega (arith, sum_by-cons (own_count flags) s items, (none_nullable s).1 each.0, (all_nullable items).1 each.1)),
+    (λ each. omega (arith, sum_by-cons (one_if_non_nullable flags) s items, (none_nullable s).1 each.0, (all_nullable items).1 each.1)),
   )
 
   -- the count of a side with the item between others
   count_between :
       (before behind : List Symbol) (s : Symbol)
-      → full_count flags (before ++ (s ∷ behind)) ≡ full_count flags before + own_count flags s + full_count flags behind
+      → non_nullable_count flags (before ++ (s ∷ behind)) ≡ non_nullable_count flags before + one_if_non_nullable flags s + non_nullable_count flags behind
   count_between before behind s =
-      omega (arith, sum_by-append (own_count flags) before (s ∷ behind), sum_by-cons (own_count flags) s behind)
+      omega (arith, sum_by-append (one_if_non_nullable flags) before (s ∷ behind), sum_by-cons (one_if_non_nullable flags) s behind)
 
   -- a step of a rule is a step
   step_of_rule :
@@ -190,8 +190,8 @@ module _ (g : Expansion) (flags : List Bool) (are : AreNullableFlags g flags) (o
       → slice_get g.rules r ≡ Some rule → IsRuleStep flags rule a b → StepsTo g.rules a b
   step_of_rule r rule a b is x =
       let at = split_at rule.items (Category b) x.2 in
-      let all : full_count flags rule.items ≡ full_count flags at.0 + own_count flags (Category b) + full_count flags at.1 =
-      ap (full_count flags) at.2 ∙ count_between at.0 at.1 (Category b) in
+      let all : non_nullable_count flags rule.items ≡ non_nullable_count flags at.0 + one_if_non_nullable flags (Category b) + non_nullable_count flags at.1 =
+      ap (non_nullable_count flags) at.2 ∙ count_between at.0 at.1 (Category b) in
       record {
         r = r;
         rule = rule;
@@ -207,8 +207,8 @@ module _ (g : Expansion) (flags : List Bool) (are : AreNullableFlags g flags) (o
   -- a step is a step of its rule
   rule_of_step : (a b : ℕ) (step : StepsTo g.rules a b) → IsRuleStep flags step.rule a b
   rule_of_step a b step =
-      let all : full_count flags step.rule.items ≡ full_count flags step.before + own_count flags (Category b) + full_count flags step.behind =
-      ap (full_count flags) step.is_item ∙ count_between step.before step.behind (Category b) in
+      let all : non_nullable_count flags step.rule.items ≡ non_nullable_count flags step.before + one_if_non_nullable flags (Category b) + non_nullable_count flags step.behind =
+      ap (non_nullable_count flags) step.is_item ∙ count_between step.before step.behind (Category b) in
       let none_before = (all_nullable step.before).1 (recursion_from_All (IsNullable g.rules) step.before step.nullable_before) in
       let none_behind = (all_nullable step.behind).1 (recursion_from_All (IsNullable g.rules) step.behind step.nullable_behind) in
       let Has : List Symbol → Type 0 = λ xs. Contains xs (Category b) in

@@ -13,7 +13,7 @@ use Rattle.spec_lbnf.specs.declared.definition.RawRule.{RawRule}
 use Rattle.spec_lbnf.specs.declared.definition.Def.{Def}
 use Rattle.spec_lbnf.specs.Expansion.{category_text, rules_of, item_categories, item_words, met_categories, internal_category, distinct, categories_of, words_of, numbered_rule, category_symbol, entry_text, expansion_of}
 use Rattle.lbnf_grammar.specs.declared.tables.Tables.{Tables}
-use Rattle.lbnf_grammar.specs.Grammars.{of_parts}
+use Rattle.lbnf_grammar.specs.Grammars.{grammar_of_parts}
 use Rattle.lbnf_grammar.specs.Numbering.{with_name, with_names}
 use Rattle.lbnf_grammar.specs.Tables.{with_item, with_rule}
 use Rattle.lbnf_grammar.proofs.DistinctLemmas.{names_distinct}
@@ -82,7 +82,7 @@ pub expansion_is : (defs : List Def) (tables : Tables) (rules : List Rule) (name
     → tables.categories ≡ categories_of defs → tables.words ≡ words_of (rules_of defs)
     → rules ≡ map (numbered_rule tables.categories tables.words) (rules_of defs) → names ≡ tables.categories → kinds ≡ map WordKind tables.words
     → entry ≡ option_map (category_symbol tables.categories) (entry_text defs)
-    → of_parts rules names kinds entry ≡ expansion_of defs
+    → grammar_of_parts rules names kinds entry ≡ expansion_of defs
 expansion_is defs tables rules names kinds entry categories words numbered listed told first =
-    λ i. of_parts ((numbered ∙ (λ j. map (numbered_rule (categories j) (words j)) (rules_of defs))) i) ((listed ∙ categories) i) ((told ∙ ap (map WordKind) words) i)
+    λ i. grammar_of_parts ((numbered ∙ (λ j. map (numbered_rule (categories j) (words j)) (rules_of defs))) i) ((listed ∙ categories) i) ((told ∙ ap (map WordKind) words) i)
     ((first ∙ (λ j. option_map (category_symbol (categories j)) (entry_text defs))) i)

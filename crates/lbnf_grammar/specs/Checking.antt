@@ -1,21 +1,18 @@
 -- The checks of definitions, one by one. Serves the proofs alone.
-use Rattle.std.specs.Prelude.{◌≡◌, ℕ, List, true, false, Option, Some, None, Result, Ok, Err}
-use Rattle.std.specs.Prelude.{bytes_eq, length, ◌≢◌}
-use Rattle.std.specs.List.{list_any}
+use Rattle.std.specs.Prelude.{◌≡◌, ℕ, List, [], ◌∷◌, Option, Some, None, Result}
+use Rattle.std.specs.Prelude.{Ok, Err, Contains, MatchOption}
 use Rattle.spec_grammar.specs.Cycles.{IsAcyclic}
-use Rattle.spec_grammar.specs.declared.rule.Label.{Label}
-use Rattle.spec_grammar.specs.declared.rule.Label.TheVariants.{Wild}
 use Rattle.spec_lbnf.specs.declared.definition.CatName.{CatName}
 use Rattle.spec_lbnf.specs.declared.definition.RawRule.{RawRule}
 use Rattle.spec_lbnf.specs.declared.definition.Def.{Def}
 use Rattle.spec_lbnf.specs.Expansion.{Expansion}
 use Rattle.spec_lbnf.specs.Checks.{Unfitness, cyclic_category, IsFirstCyclic}
 use Rattle.spec_lbnf.specs.Checks.{IsWellLabelled, IsBadCoercion, IsBadList}
-use Rattle.spec_lbnf.specs.Checks.{IsBadWild, IsBadListRule}
+use Rattle.spec_lbnf.specs.Checks.{IsList, IsBadWild, IsBadListRule}
 use Rattle.lbnf_grammar.specs.declared.fault.GrammarFault.{GrammarFault}
 use Rattle.lbnf_grammar.specs.declared.labels.LabelFault.{LabelFault}
 use Rattle.lbnf_grammar.specs.declared.labels.LabelFault.TheVariants.{Coercion, List as ListFault}
-use Rattle.lbnf_grammar.specs.Grammars.{IsWellFormed, Tells}
+use Rattle.lbnf_grammar.specs.Grammars.{unfitness_of, IsWellFormed, Tells}
 
 -- the check is passed with what it gives, or the fault tells such an unfitness
 abbrev pub Checks : {A : Type 0} → (A → Type 0) → (Unfitness → Type 0)
@@ -23,15 +20,27 @@ abbrev pub Checks : {A : Type 0} → (A → Type 0) → (Unfitness → Type 0)
 Checks Passes IsSuch (Ok given) = Passes given
 Checks Passes IsSuch (Err fault) = Tells IsSuch fault
 
+-- the fault tells such an unfitness, and is no want of memory
+abbrev pub TellsUnfitness : (Unfitness → Type 0) → GrammarFault → Type 0
+TellsUnfitness IsSuch fault = MatchOption (unfitness_of fault) ⊥ IsSuch
+
+-- the check is passed with what it gives, or the fault tells such an unfitness, without memory
+abbrev pub ChecksWithoutMemory : {A : Type 0} → (A → Type 0) → (Unfitness → Type 0)
+    → Result A GrammarFault → Type 0
+ChecksWithoutMemory Passes IsSuch (Ok given) = Passes given
+ChecksWithoutMemory Passes IsSuch (Err fault) = TellsUnfitness IsSuch fault
+
+-- the last of the categories is a list
+abbrev pub EndsInList : List CatName → Type 0
+EndsInList [] = ⊥
+EndsInList (cat ∷ []) = IsList cat
+EndsInList (cat ∷ next ∷ cats) = EndsInList (next ∷ cats)
+
 -- what is wrong with the definition's label or levels, and None exactly where nothing is
 abbrev pub FindsLabelFault : Def → Option LabelFault → Type 0
 FindsLabelFault def None = IsWellLabelled def
 FindsLabelFault def (Some Coercion) = IsBadCoercion def
 FindsLabelFault def (Some ListFault) = IsBadList def
-
--- the label is none of the rule's own, and the items that are no words are not one
-abbrev pub IsBadWildOf : Label → List CatName → Type 0
-IsBadWildOf label items = (label ≡ Wild) × (length items ≢ 1)
 
 -- what is wrong with the rule's label, and None exactly where nothing is
 abbrev pub FindsRuleFault : RawRule → Option LabelFault → Type 0
@@ -41,11 +50,11 @@ FindsRuleFault rule (Some ListFault) = IsBadListRule rule
 
 -- the name is listed
 abbrev pub IsListed : List (List ℕ) → List ℕ → Type 0
-IsListed known name = list_any (bytes_eq name) known ≡ true
+IsListed known name = Contains known name
 
 -- the name is not listed
 abbrev pub IsUnlisted : List (List ℕ) → List ℕ → Type 0
-IsUnlisted known name = list_any (bytes_eq name) known ≡ false
+IsUnlisted known name = IsListed known name → ⊥
 
 -- the first cyclic category of the grammar is at fault
 abbrev pub AtCycleOf : Expansion → Unfitness → Type 0

@@ -1,6 +1,6 @@
 -- What a caller sees of making grammars, from definitions and from parts.
 use Rattle.std.specs.Prelude.{◌≡◌, ◌<◌, ◌^◌, ◌⊎◌, ℕ, List, [], ◌∷◌, Option, Some, None, Result, Ok}
-use Rattle.std.specs.Prelude.{Err, length, slice_get, Contains, MatchOption, IfSome}
+use Rattle.std.specs.Prelude.{Err, All, length, slice_get, Contains, MatchOption, IfSome}
 use Rattle.spec_grammar.specs.Cycles.{IsCyclic, IsAcyclic}
 use Rattle.spec_grammar.specs.declared.rule.Rule.{Rule}
 use Rattle.spec_grammar.specs.declared.rule.Symbol.{Symbol}
@@ -9,7 +9,8 @@ use Rattle.spec_lexing.specs.declared.kind_def.KindDef.{KindDef}
 use Rattle.spec_lbnf.specs.declared.definition.Def.{Def}
 use Rattle.spec_lbnf.specs.Expansion.{Expansion, expansion_of, HasOwnSymbols, item_count}
 use Rattle.spec_lbnf.specs.Expansion.{number_of, category_symbol}
-use Rattle.spec_lbnf.specs.Checks.{AreFit, IsUnfit, Unfitness, bad_coercion, bad_list}
+use Rattle.spec_lbnf.specs.Checks.{IsWellLabelled, HasFewRules, AreFit, IsUnfit, Unfitness}
+use Rattle.spec_lbnf.specs.Checks.{bad_coercion, bad_list}
 use Rattle.spec_lbnf.specs.Checks.{too_many_rules, repeated_token, unknown_category, unbuilt_name}
 use Rattle.spec_lbnf.specs.Checks.{cyclic_category}
 use Rattle.lbnf_grammar.specs.declared.fault.GrammarFault.{GrammarFault}
@@ -33,20 +34,25 @@ unfitness_of (Cyclic name) = Some (cyclic_category name)
 abbrev pub Tells : (Unfitness → Type 0) → GrammarFault → Type 0
 Tells IsSuch fault = IfSome (unfitness_of fault) IsSuch
 
+-- the definitions pass the first two checks, which take no memory: each is well labelled, and they
+-- give few rules
+abbrev pub PassFirstChecks : List Def → Type 0
+PassFirstChecks defs = All IsWellLabelled defs × HasFewRules defs
+
 -- the answer on the definitions is the grammar that they stand for, and they are fit, or it tells
--- why they are unfit
+-- why they are unfit, or that memory ran out, and they pass the first checks
 abbrev pub Expands : List Def → Result Expansion GrammarFault → Type 0
 Expands defs (Ok grammar) = AreFit defs × (grammar ≡ expansion_of defs)
-Expands defs (Err fault) = Tells (IsUnfit defs) fault
+Expands defs (Err fault) = MatchOption (unfitness_of fault) (PassFirstChecks defs) (IsUnfit defs)
 
 -- the grammar of these parts
-abbrev pub of_parts : List Rule → List (List ℕ) → List KindDef → Option Symbol → Expansion
-of_parts rules categories kinds entry =
+abbrev pub grammar_of_parts : List Rule → List (List ℕ) → List KindDef → Option Symbol → Expansion
+grammar_of_parts rules categories kinds entry =
     record { rules = rules; categories = categories; kinds = kinds; entry = entry }
 
 -- the grammar of these symbols and no rules
-abbrev pub symbols_of : List (List ℕ) → List KindDef → Expansion
-symbols_of categories kinds = of_parts [] categories kinds None
+abbrev pub grammar_of_symbols : List (List ℕ) → List KindDef → Expansion
+grammar_of_symbols categories kinds = grammar_of_parts [] categories kinds None
 
 -- numbers of rules, categories and kinds have 16 bits, there are fewer than 2 ^ 31 items, and the
 -- rules have symbols of the grammar
@@ -55,12 +61,12 @@ pub record IsWellFormed (g : Expansion) : Type 0 where
   pub few_categories : length g.categories < 2 ^ 16
   pub few_kinds : length g.kinds < 2 ^ 16
   pub few_items : item_count g.rules < 2 ^ 31
-  pub own : HasOwnSymbols g
+  pub own_symbols : HasOwnSymbols g
 
 -- the category of the first rule, as the entry of rules that are given without one
-abbrev pub first_symbol : List Rule → Option Symbol
-first_symbol [] = None
-first_symbol (rule ∷ rules) = Some (Category rule.category)
+abbrev pub entry_of_rules : List Rule → Option Symbol
+entry_of_rules [] = None
+entry_of_rules (rule ∷ rules) = Some (Category rule.category)
 
 -- the grammar of these parts, and None exactly where they are not well formed or some category
 -- reaches itself

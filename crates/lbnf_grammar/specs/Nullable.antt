@@ -1,30 +1,19 @@
 -- Which categories derive the empty span, as a list of flags.
-use Rattle.std.specs.Prelude.{◌≡◌, ℕ, ◌<◌, ◌↔◌, List, [], Bool, false, IsTrue, All, length}
+use Rattle.std.specs.Prelude.{◌≡◌, ℕ, ◌<◌, ◌↔◌, List, Bool, false, length}
 use Rattle.std.specs.Prelude.{slice_index_or}
 use Rattle.spec_grammar.specs.declared.rule.Symbol.{Symbol}
 use Rattle.spec_grammar.specs.declared.rule.Symbol.TheVariants.{Category, Kind}
-use Rattle.spec_grammar.specs.Derivation.{DerivesAll, IsNullable}
-use Rattle.spec_lbnf.specs.Expansion.{Expansion, IsSymbolOf}
+use Rattle.spec_grammar.specs.Derivation.{IsNullable}
+use Rattle.spec_lbnf.specs.Expansion.{Expansion}
+use Rattle.number_graph.specs.Graphs.{IsSet}
 
 -- each category has a flag, which says whether it derives the empty span
 pub record AreNullableFlags (g : Expansion) (flags : List Bool) : Type 0 where
   pub count : length flags ≡ length g.categories
   pub exact : (c : ℕ) → c < length g.categories
-      → IsTrue (slice_index_or flags c false) ↔ IsNullable g.rules (Category c)
+      → IsSet flags c ↔ IsNullable g.rules (Category c)
 
 -- the flag of the symbol, which is clear at a kind
 abbrev pub flag_of : List Bool → Symbol → Bool
 flag_of flags (Category c) = slice_index_or flags c false
 flag_of flags (Kind k) = false
-
--- the answer says whether the symbol derives the empty span, in each grammar that has these flags
-abbrev pub TellsNullable : List Bool → Symbol → Bool → Type 0
-TellsNullable flags symbol answer =
-    (g : Expansion) → AreNullableFlags g flags → IsSymbolOf g symbol
-    → IsTrue answer ↔ IsNullable g.rules symbol
-
--- the answer says whether the items derive the empty span, in each grammar that has these flags
-abbrev pub TellsAllNullable : List Bool → List Symbol → Bool → Type 0
-TellsAllNullable flags items answer =
-    (g : Expansion) → AreNullableFlags g flags → All (IsSymbolOf g) items
-    → IsTrue answer ↔ DerivesAll g.rules [] items 0 0

@@ -1,21 +1,23 @@
 -- Flags on the way to those of the nullable categories. Serves the proofs alone.
-use Rattle.std.specs.Prelude.{◌≡◌, ℕ, ◌<◌, ◌≤◌, List, Bool, true, false, not, filter, IsTrue}
+use Rattle.std.specs.Prelude.{◌≡◌, ℕ, ◌<◌, ◌≤◌, List, Bool, true, false, IsTrue}
 use Rattle.std.specs.Prelude.{IsFalse, Some, length, slice_get, slice_set, slice_index_or}
 use Rattle.std.specs.List.{list_all}
 use Rattle.spec_grammar.specs.declared.rule.Symbol.TheVariants.{Category}
 use Rattle.spec_grammar.specs.declared.rule.Rule.{Rule}
 use Rattle.spec_grammar.specs.Derivation.{IsNullable}
+use Rattle.number_graph.specs.Graphs.{IsSet}
+use Rattle.number_graph.specs.Flags.{clear_count}
 use Rattle.lbnf_grammar.specs.Nullable.{flag_of}
 
 -- each flag that is set is that of a category that derives the empty span
 abbrev pub AreSound : List Rule → List Bool → Type 0
 AreSound rules flags =
-    (c : ℕ) → IsTrue (slice_index_or flags c false) → IsNullable rules (Category c)
+    (c : ℕ) → IsSet flags c → IsNullable rules (Category c)
 
 -- the flags are closed under the rule: that of its category is set, if those of its items are
 abbrev pub IsClosedUnder : List Bool → Rule → Type 0
 IsClosedUnder flags rule =
-    IsTrue (list_all (flag_of flags) rule.items) → IsTrue (slice_index_or flags rule.category false)
+    IsTrue (list_all (flag_of flags) rule.items) → IsSet flags rule.category
 
 -- the flags are closed under each of the first n rules
 abbrev pub AreClosedUnder : List Rule → List Bool → ℕ → Type 0
@@ -26,10 +28,6 @@ AreClosedUnder rules flags n =
 abbrev pub HaveFlags : List Rule → ℕ → Type 0
 HaveFlags rules count =
     (r : ℕ) (rule : Rule) → slice_get rules r ≡ Some rule → rule.category < count
-
--- how many flags are clear
-abbrev pub clear_count : List Bool → ℕ
-clear_count flags = length (filter not flags)
 
 -- the flags were not closed under the rule, and that of its category alone was set; or they were,
 -- and none was set

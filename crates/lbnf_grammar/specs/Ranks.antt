@@ -3,8 +3,8 @@
 use Rattle.std.specs.Prelude.{◌≡◌, ℕ, ◌<◌, List, Option, length, slice_index_or, MatchOption}
 use Rattle.spec_grammar.specs.Cycles.{IsCyclic, IsAcyclic, IsRank}
 use Rattle.spec_lbnf.specs.Expansion.{Expansion}
-use Rattle.lbnf_grammar.specs.declared.chains.Chains.{Chains}
-use Rattle.lbnf_grammar.specs.declared.chains.Chains.TheVariants.{Cyclic, Ranked}
+use Rattle.lbnf_grammar.specs.declared.cycle_check.CycleCheck.{CycleCheck}
+use Rattle.lbnf_grammar.specs.declared.cycle_check.CycleCheck.TheVariants.{Cyclic, Ranked}
 
 -- the category reaches itself, and none of a lesser number does
 pub record IsLeastCyclic (g : Expansion) (c : ℕ) : Type 0 where
@@ -22,6 +22,6 @@ pub record AreRanks (g : Expansion) (ranks : List ℕ) : Type 0 where
   pub each : (c : ℕ) → c < length g.categories → IsRank g.rules c (slice_index_or ranks c 0)
 
 -- the least category that reaches itself is told, or none does and the ranks are told
-abbrev pub TellsChains : Expansion → Chains → Type 0
-TellsChains g (Cyclic c) = IsLeastCyclic g c
-TellsChains g (Ranked ranks) = IsAcyclic g.rules × AreRanks g ranks.items
+abbrev pub TellsCycles : Expansion → CycleCheck → Type 0
+TellsCycles g (Cyclic c) = IsLeastCyclic g c
+TellsCycles g (Ranked ranks) = IsAcyclic g.rules × AreRanks g ranks.items

@@ -11,28 +11,29 @@ use Rattle.number_graph.specs.Graphs.{HasLink}
 use Rattle.lbnf_grammar.specs.Nullable.{flag_of}
 
 -- the symbol counts as one where its flag is clear
-abbrev pub own_count : List Bool → Symbol → ℕ
-own_count flags symbol = cond (flag_of flags symbol) 0 1
+abbrev pub one_if_non_nullable : List Bool → Symbol → ℕ
+one_if_non_nullable flags symbol = cond (flag_of flags symbol) 0 1
 
 -- how many of the items are not nullable, by the flags
-abbrev pub full_count : List Bool → List Symbol → ℕ
-full_count flags items = sum_by (own_count flags) items
+abbrev pub non_nullable_count : List Bool → List Symbol → ℕ
+non_nullable_count flags items = sum_by (one_if_non_nullable flags) items
 
 -- the item makes a step from the category: so many items of its side are not nullable, and none of
 -- them is another
 abbrev pub IsItemStep : List Bool → ℕ → ℕ → Symbol → ℕ → ℕ → Type 0
-IsItemStep flags category full item a b =
-    (full ≡ own_count flags item) × (a ≡ category) × (item ≡ Category b)
+IsItemStep flags category non_nullable item a b =
+    (non_nullable ≡ one_if_non_nullable flags item) × (a ≡ category) × (item ≡ Category b)
 
 -- one of the items makes a step from the category
 abbrev pub IsStepOfItems : List Bool → ℕ → ℕ → List Symbol → ℕ → ℕ → Type 0
-IsStepOfItems flags category full items a b =
-    (full ≡ own_count flags (Category b)) × (a ≡ category) × Contains items (Category b)
+IsStepOfItems flags category non_nullable items a b =
+    (non_nullable ≡ one_if_non_nullable flags (Category b)) × (a ≡ category)
+    × Contains items (Category b)
 
 -- an item of the rule makes a step from its category
 abbrev pub IsRuleStep : List Bool → Rule → ℕ → ℕ → Type 0
 IsRuleStep flags rule a b =
-    IsStepOfItems flags rule.category (full_count flags rule.items) rule.items a b
+    IsStepOfItems flags rule.category (non_nullable_count flags rule.items) rule.items a b
 
 -- one of the first n rules makes a step
 abbrev pub IsStepOfRules : List Bool → List Rule → ℕ → ℕ → ℕ → Type 0

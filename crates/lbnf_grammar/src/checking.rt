@@ -102,7 +102,7 @@ fn unknown(alloc: Global, name: &Name, def: u32) -> GrammarFault
 pub(crate) fn check_named(alloc: Global, defs: &[Def], known: &Names) -> Result<(), GrammarFault>
     requires few { size_of defs.now ≤ 32768 }
     requires small { All IsSmall defs.now }
-    requires known { known.now ≡ with_names [] (flat_map own_categories defs.now) }
+    requires listed { known.now ≡ with_names [] (flat_map own_categories defs.now) }
     ensures { Checks (λ done. AreAllKnown defs.now) (AtUnknown defs.now) result }
 {
     for (number, def) in defs.iter().enumerate() {

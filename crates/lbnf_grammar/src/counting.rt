@@ -5,7 +5,7 @@ ghost use Rattle.spec_lbnf.specs.declared.definition.CatName.{CatName};
 ghost use Rattle.spec_lbnf.specs.Words.{is_empty};
 ghost use Rattle.spec_lbnf.specs.Expansion.{word_items, separator_rules, rules_of_def, rules_of};
 ghost use Rattle.spec_lbnf.specs.Checks.{HasFewRules, AtCount};
-ghost use Rattle.lbnf_grammar.specs.Checking.{Checks};
+ghost use Rattle.lbnf_grammar.specs.Checking.{ChecksWithoutMemory};
 
 use crate::fault::GrammarFault;
 use spec_lbnf::Def;
@@ -56,10 +56,10 @@ fn rule_count(defs: &[Def]) -> usize
     count
 }
 
-/// Tells how many rules the definitions give, if they are more than 1,024.
+/// Tells how many rules the definitions give, if they are more than 1,024. It takes no memory.
 pub(crate) fn check_count(defs: &[Def]) -> Result<(), GrammarFault>
     requires { size_of defs.now ≤ 32768 }
-    ensures { Checks (λ done. HasFewRules defs.now) (AtCount defs.now) result }
+    ensures { ChecksWithoutMemory (λ done. HasFewRules defs.now) (AtCount defs.now) result }
 {
     let count = rule_count(defs);
     if count > MAX_RULES {

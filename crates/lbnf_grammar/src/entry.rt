@@ -4,8 +4,8 @@ ghost use Rattle.std.specs.Option.{option_map, option_or};
 ghost use Rattle.spec_lbnf.specs.Expansion.{category_text, category_symbol};
 ghost use Rattle.spec_lbnf.specs.Expansion.{first_entry, first_category};
 
+use crate::numbering::category_number;
 use crate::tables::Tables;
-use crate::texts::category_text;
 use spec_grammar::Symbol;
 use spec_lbnf::{CatName, Def, RawRule};
 use std::alloc::{AllocError, Global};
@@ -62,7 +62,6 @@ pub(crate) fn entry_symbol(
     let Some(cat) = entry_category(defs, rules) else {
         return Ok(None);
     };
-    let text = category_text(alloc, cat)?;
-    let number = tables.categories.number(text.as_slice());
-    Ok(Some(Symbol::Category(number as u16)))
+    let number = category_number(alloc, tables, cat)?;
+    Ok(Some(Symbol::Category(number)))
 }

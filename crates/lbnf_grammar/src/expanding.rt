@@ -9,9 +9,9 @@ ghost use Rattle.lbnf_grammar.specs.Checking.{PassesCycles, AtCycleOf};
 ghost use Rattle.lbnf_grammar.specs.Numbering.{AreFew};
 ghost use Rattle.lbnf_grammar.specs.Ranks.{IsLeastCyclic};
 
-use crate::chains::{Chains, chains_of};
 use crate::checking::{check_named, check_own_names};
 use crate::counting::check_count;
+use crate::cycle_check::{CycleCheck, check_cycles};
 use crate::entry::entry_symbol;
 use crate::fault::GrammarFault;
 use crate::grammar::Grammar;
@@ -83,9 +83,9 @@ fn cyclic(alloc: Global, parts: &GrammarParts, category: u16) -> GrammarFault
 fn acyclic(alloc: Global, parts: GrammarParts) -> Result<Grammar, GrammarFault>
     ensures { PassesCycles parts result }
 {
-    match chains_of(alloc, &parts) {
-        Ok(Chains::Ranked(ranks)) => Ok(Grammar::of(parts, ranks)),
-        Ok(Chains::Cyclic(category)) => Err(cyclic(alloc, &parts, category)),
+    match check_cycles(alloc, &parts) {
+        Ok(CycleCheck::Ranked(ranks)) => Ok(Grammar::of(parts, ranks)),
+        Ok(CycleCheck::Cyclic(category)) => Err(cyclic(alloc, &parts, category)),
         Err(_) => Err(GrammarFault::Memory),
     }
 }
@@ -95,7 +95,7 @@ fn expand_defs(alloc: Global, defs: &[Def]) -> Result<Grammar, GrammarFault>
     requires { AreWithinLimits defs.now }
     ensures { Expands defs.now result }
 {
-    check_labels(alloc, defs)?;
+    check_labels(defs)?;
     check_count(defs)?;
     let known = check_own_names(alloc, defs)?;
     check_named(alloc, defs, &known)?;
@@ -107,7 +107,8 @@ fn expand_defs(alloc: Global, defs: &[Def]) -> Result<Grammar, GrammarFault>
 
 /// The grammar that the definitions stand for, or why they are unfit: the first, in this order, of
 /// a bad label or bad levels, too many rules, a predefined name that has rules, a category that no
-/// rule has, and a category that reaches itself. Rules are counted before any is made.
+/// rule has, and a category that reaches itself. Rules are counted before any is made, and the
+/// first two checks take no memory, so `Memory` comes only where both are passed.
 ///
 /// Categories and words are numbered from 0 as the rules meet them, each rule's own category first,
 /// and the categories that only internal rules have are behind them. Names are copied. It makes the

@@ -52,7 +52,7 @@ impl Grammar {
         ensures items { result.now ≡ self.now.rules }
         ensures few { length self.now.rules < 2 ^ 16 }
         ensures few_items { item_count self.now.rules < 2 ^ 31 }
-        ensures known { HasOwnSymbols self.now }
+        ensures own_symbols { HasOwnSymbols self.now }
         ensures acyclic { IsAcyclic self.now.rules }
     {
         self.parts.rules()

@@ -1,135 +1,161 @@
 //! The check of labels, and of the levels of coercions.
-ghost use Rattle.std.specs.Prelude.{◌≡◌, ◌≤◌, ◌↔◌, [], ◌∷◌, ◌++◌, map, IsTrue, IfOk, OnOk, All};
+ghost use Rattle.std.specs.Prelude.{◌≡◌, ◌≢◌, ◌≤◌, ◌↔◌, List, [], ◌∷◌, ◌++◌, IsTrue, All, length};
 ghost use Rattle.spec_lbnf.specs.Limits.{size_of};
+ghost use Rattle.spec_lbnf.specs.declared.definition.CatName.{CatName};
 ghost use Rattle.spec_lbnf.specs.Checks.{categories_in, AreElementAndList, IsOneElement};
-ghost use Rattle.spec_lbnf.specs.Checks.{IsBadLabel, IsBadWild, IsBadListRule};
-ghost use Rattle.spec_lbnf.specs.Checks.{IsWellLabelled, AtLabels};
+ghost use Rattle.spec_lbnf.specs.Checks.{IsBadWild, IsBadListRule, IsWellLabelled, AtLabels};
+ghost use Rattle.lbnf_grammar.specs.Checking.{EndsInList};
 ghost use Rattle.lbnf_grammar.specs.Checking.{FindsLabelFault, FindsRuleFault};
-ghost use Rattle.lbnf_grammar.specs.Checking.{IsBadWildOf, Checks};
+ghost use Rattle.lbnf_grammar.specs.Checking.{ChecksWithoutMemory};
 
 use crate::fault::GrammarFault;
 use spec_grammar::Label;
-use spec_lbnf::{CatName, Def, RawItem, RawRule};
-use std::alloc::{AllocError, Global};
+use spec_lbnf::{Def, RawItem, RawRule};
 
 /// What is wrong with a definition's label or levels.
 #[derive(Clone, Copy, Debug)]
 pub(crate) enum LabelFault {
     /// A rule labelled `_` that has not exactly one item that is no word, or coercions of no level.
     Coercion,
-    /// A rule whose label is at odds with its category or its items: a label of lists where they
-    /// are no such, or another on a rule for lists, unless it is `_` and the one item is a list.
+    /// A list label on a rule that is not for lists or lacks its items, or another label on a rule
+    /// for lists, unless it is `_` and the one item is a list.
     List,
 }
 
-/// Adds the item, if it is no word.
-fn add_category<'a>(cats: &mut Vec<&'a CatName>, item: &'a RawItem) -> Result<(), AllocError>
-    ensures { OnOk result (map (λ cat. cat.now) cats.new.items
-        ≡ map (λ cat. cat.now) cats.old.items ++ categories_in (item.now ∷ [])) }
+/// 1 for an item that is no word, and else 0.
+fn one_if_category(item: &RawItem) -> usize
+    ensures count { result ≡ length (categories_in (item.now ∷ [])) }
+    ensures few { result ≤ 1 }
 {
     match item {
-        RawItem::Cat(cat) => Ok(cats.push(cat)?),
-        RawItem::Word(_) => Ok(()),
+        RawItem::Cat(_) => 1,
+        RawItem::Word(_) => 0,
     }
 }
 
-/// The items that are no words.
-fn categories_in(alloc: Global, items: &[RawItem]) -> Result<Vec<&CatName>, AllocError>
-    ensures { IfOk result (λ cats. map (λ cat. cat.now) cats.items ≡ categories_in items.now) }
+/// How many of the items are no words.
+fn category_count(items: &[RawItem]) -> usize
+    ensures { result ≡ length (categories_in items.now) }
 {
-    let mut cats = Vec::new(alloc);
+    let mut count = 0;
     for item in items {
-        add_category(&mut cats, item)?;
+        count += one_if_category(item);
     }
-    Ok(cats)
+    count
 }
 
-/// Whether the items are two, of which the second is a list.
-fn are_element_and_list(items: &[&CatName]) -> bool
-    ensures { IsTrue result ↔ AreElementAndList (map (λ cat. cat.now) items.now) }
+/// Whether some of the items are no words.
+#[tactic(auto, using(crate::proofs::LabelLemmas::some_categories))]
+fn has_category(items: &[RawItem]) -> bool
+    ensures { IsTrue result ↔ (categories_in items.now ≢ []) }
 {
-    match items {
-        [_, second] => second.depth > 0,
-        _ => false,
-    }
+    category_count(items) > 0
 }
 
-/// Whether the items are one, and it is no list.
-fn is_one_element(items: &[&CatName]) -> bool
-    ensures { IsTrue result ↔ IsOneElement (map (λ cat. cat.now) items.now) }
+/// Whether the item is a list, or what is told of those before it, if it is a word.
+fn is_list_or(item: &RawItem, told: bool) -> bool
+    ensures { (cats : List CatName) → (IsTrue told ↔ EndsInList cats)
+        → IsTrue result ↔ EndsInList (cats ++ categories_in (item.now ∷ [])) }
 {
-    match items {
-        [one] => one.depth == 0,
-        _ => false,
-    }
-}
-
-/// Whether the label is at odds with the category and the items that are no words.
-fn is_bad_label(label: &Label, cat: &CatName, items: &[&CatName]) -> bool
-    ensures { IsTrue result ↔ IsBadLabel label.now cat.now (map (λ cat. cat.now) items.now) }
-{
-    match label {
-        Label::Nil => cat.depth == 0 || !items.is_empty(),
-        Label::One => cat.depth == 0 || items.len() != 1,
-        Label::Cons => cat.depth == 0 || !are_element_and_list(items),
-        Label::Named(_) => cat.depth > 0,
-        Label::Wild => cat.depth > 0 && is_one_element(items),
+    match item {
+        RawItem::Cat(cat) => cat.depth > 0,
+        RawItem::Word(_) => told,
     }
 }
 
-/// Whether the label is none of the rule's own, where the items that are no words are not one.
-fn is_bad_wild(label: &Label, items: &[&CatName]) -> bool
-    ensures { IsTrue result ↔ IsBadWildOf label.now (map (λ cat. cat.now) items.now) }
+/// Whether the last of the items that are no words is a list.
+fn ends_in_list(items: &[RawItem]) -> bool
+    ensures { IsTrue result ↔ EndsInList (categories_in items.now) }
 {
-    match label {
-        Label::Wild => items.len() != 1,
+    let mut is_list = false;
+    for item in items {
+        is_list = is_list_or(item, is_list);
+    }
+    is_list
+}
+
+/// Whether the items that are no words are two, of which the second is a list.
+#[tactic(auto, using(crate::proofs::LabelLemmas::element_and_list))]
+fn are_element_and_list(items: &[RawItem]) -> bool
+    ensures { IsTrue result ↔ AreElementAndList (categories_in items.now) }
+{
+    category_count(items) == 2 && ends_in_list(items)
+}
+
+/// Whether the items that are no words are one, and it is no list.
+#[tactic(auto, using(crate::proofs::LabelLemmas::one_element))]
+fn is_one_element(items: &[RawItem]) -> bool
+    ensures { IsTrue result ↔ IsOneElement (categories_in items.now) }
+{
+    category_count(items) == 1 && !ends_in_list(items)
+}
+
+/// Whether the rule's label is at odds with its category or its items.
+fn is_bad_list(rule: &RawRule) -> bool
+    ensures { IsTrue result ↔ IsBadListRule rule.now }
+{
+    let items = rule.items.as_slice();
+    match &rule.label {
+        Label::Nil => rule.cat.depth == 0 || has_category(items),
+        Label::One => rule.cat.depth == 0 || category_count(items) != 1,
+        Label::Cons => rule.cat.depth == 0 || !are_element_and_list(items),
+        Label::Named(_) => rule.cat.depth > 0,
+        Label::Wild => rule.cat.depth > 0 && is_one_element(items),
+    }
+}
+
+/// Whether the rule is labelled `_`, and has not exactly one item that is no word.
+fn is_bad_wild(rule: &RawRule) -> bool
+    ensures { IsTrue result ↔ IsBadWild rule.now }
+{
+    match &rule.label {
+        Label::Wild => category_count(rule.items.as_slice()) != 1,
         Label::Named(_) | Label::Nil | Label::Cons | Label::One => false,
     }
 }
 
 /// What is wrong with the rule's label.
-fn rule_fault(alloc: Global, rule: &RawRule) -> Result<Option<LabelFault>, AllocError>
-    ensures { IfOk result (FindsRuleFault rule.now) }
+fn rule_fault(rule: &RawRule) -> Option<LabelFault>
+    ensures { FindsRuleFault rule.now result }
 {
-    let items = categories_in(alloc, rule.items.as_slice())?;
-    if is_bad_wild(&rule.label, items.as_slice()) {
-        return Ok(Some(LabelFault::Coercion));
+    if is_bad_wild(rule) {
+        return Some(LabelFault::Coercion);
     }
-    if is_bad_label(&rule.label, &rule.cat, items.as_slice()) {
-        return Ok(Some(LabelFault::List));
+    if is_bad_list(rule) {
+        return Some(LabelFault::List);
     }
-    Ok(None)
+    None
 }
 
 /// What is wrong with the definition's label or levels.
-fn label_fault(alloc: Global, def: &Def) -> Result<Option<LabelFault>, AllocError>
-    ensures { IfOk result (FindsLabelFault def.now) }
+fn label_fault(def: &Def) -> Option<LabelFault>
+    ensures { FindsLabelFault def.now result }
 {
     match def {
-        Def::Rule(rule) => rule_fault(alloc, rule),
-        Def::Internal(rule) => rule_fault(alloc, rule),
+        Def::Rule(rule) => rule_fault(rule),
+        Def::Internal(rule) => rule_fault(rule),
         Def::Coercions { levels, .. } => match levels {
-            0 => Ok(Some(LabelFault::Coercion)),
-            _ => Ok(None),
+            0 => Some(LabelFault::Coercion),
+            _ => None,
         },
-        Def::Terminator { .. } => Ok(None),
-        Def::Separator { .. } => Ok(None),
-        Def::Entry(_) => Ok(None),
+        Def::Terminator { .. } => None,
+        Def::Separator { .. } => None,
+        Def::Entry(_) => None,
     }
 }
 
-/// Tells the first definition with a bad label or bad levels.
-pub(crate) fn check_labels(alloc: Global, defs: &[Def]) -> Result<(), GrammarFault>
+/// Tells the first definition with a bad label or bad levels. It takes no memory.
+pub(crate) fn check_labels(defs: &[Def]) -> Result<(), GrammarFault>
     requires { size_of defs.now ≤ 32768 }
-    ensures { Checks (λ done. All IsWellLabelled defs.now) (AtLabels defs.now) result }
+    ensures { ChecksWithoutMemory
+        (λ done. All IsWellLabelled defs.now) (AtLabels defs.now) result }
 {
     for (number, definition) in defs.iter().enumerate() {
         let def = number as u32;
-        match label_fault(alloc, definition) {
-            Ok(Some(LabelFault::Coercion)) => return Err(GrammarFault::BadCoercion { def }),
-            Ok(Some(LabelFault::List)) => return Err(GrammarFault::BadList { def }),
-            Ok(None) => {}
-            Err(_) => return Err(GrammarFault::Memory),
+        match label_fault(definition) {
+            Some(LabelFault::Coercion) => return Err(GrammarFault::BadCoercion { def }),
+            Some(LabelFault::List) => return Err(GrammarFault::BadList { def }),
+            None => {}
         }
     }
     Ok(())

@@ -1,9 +1,9 @@
 //! From the definitions of a grammar file to a numbered grammar.
 #![tactic(auto)]
 
-mod chains;
 mod checking;
 mod counting;
+mod cycle_check;
 mod cycles;
 mod entry;
 mod expanding;
@@ -25,7 +25,7 @@ mod texts;
 pub use expanding::expand;
 pub use fault::GrammarFault;
 pub use grammar::Grammar;
-pub use nullable::{are_nullable, is_nullable, nullable_categories};
+pub use nullable::nullable_categories;
 pub use spec_grammar::{Rule, Symbol};
 pub use spec_lexing::KindDef;
 pub use sqlite_items::Items;

@@ -1,11 +1,11 @@
 //! Grammars of numbered rules, made from their parts.
 ghost use Rattle.std.specs.Prelude.{◌≡◌, ◌<◌, ◌^◌, ◌↔◌, IsTrue, All, IfOk, length};
 ghost use Rattle.spec_lbnf.specs.Expansion.{IsSymbolOf, HasSymbolsOf, HasOwnSymbols, item_count};
-ghost use Rattle.lbnf_grammar.specs.Grammars.{of_parts, symbols_of, first_symbol};
+ghost use Rattle.lbnf_grammar.specs.Grammars.{grammar_of_parts, grammar_of_symbols, entry_of_rules};
 ghost use Rattle.lbnf_grammar.specs.Grammars.{IsWellFormed, MakesGrammar};
 ghost use Rattle.lbnf_grammar.specs.Checking.{GivesParts};
 
-use crate::chains::{Chains, chains_of};
+use crate::cycle_check::{CycleCheck, check_cycles};
 use crate::grammar::Grammar;
 use crate::parts::GrammarParts;
 use spec_grammar::{Rule, Symbol};
@@ -21,7 +21,7 @@ const MAX_ITEMS: usize = 2_147_483_647;
 
 fn is_own(categories: &[Name], kinds: &[KindDef], symbol: Symbol) -> bool
     ensures { IsTrue result ↔ IsSymbolOf
-        (symbols_of categories.now kinds.now) symbol }
+        (grammar_of_symbols categories.now kinds.now) symbol }
 {
     match symbol {
         Symbol::Category(c) => (c as usize) < categories.len(),
@@ -31,7 +31,7 @@ fn is_own(categories: &[Name], kinds: &[KindDef], symbol: Symbol) -> bool
 
 fn are_own(categories: &[Name], kinds: &[KindDef], items: &[Symbol]) -> bool
     ensures { IsTrue result ↔ All (IsSymbolOf
-        (symbols_of categories.now kinds.now)) items.now }
+        (grammar_of_symbols categories.now kinds.now)) items.now }
 {
     for item in items {
         if !is_own(categories, kinds, *item) {
@@ -43,7 +43,7 @@ fn are_own(categories: &[Name], kinds: &[KindDef], items: &[Symbol]) -> bool
 
 fn has_own(categories: &[Name], kinds: &[KindDef], rule: &Rule) -> bool
     ensures { IsTrue result ↔ HasSymbolsOf
-        (symbols_of categories.now kinds.now) rule.now }
+        (grammar_of_symbols categories.now kinds.now) rule.now }
 {
     is_own(categories, kinds, Symbol::Category(rule.category))
         && are_own(categories, kinds, rule.items.as_slice())
@@ -51,7 +51,7 @@ fn has_own(categories: &[Name], kinds: &[KindDef], rule: &Rule) -> bool
 
 fn have_own(categories: &[Name], kinds: &[KindDef], rules: &[Rule]) -> bool
     ensures { IsTrue result ↔ HasOwnSymbols
-        (of_parts rules.now categories.now kinds.now (first_symbol rules.now)) }
+        (grammar_of_parts rules.now categories.now kinds.now (entry_of_rules rules.now)) }
 {
     for rule in rules {
         if !has_own(categories, kinds, rule) {
@@ -77,7 +77,7 @@ fn have_few_items(rules: &[Rule]) -> bool
 
 fn is_well_formed(rules: &[Rule], categories: &[Name], kinds: &[KindDef]) -> bool
     ensures { IsTrue result ↔ IsWellFormed
-        (of_parts rules.now categories.now kinds.now (first_symbol rules.now)) }
+        (grammar_of_parts rules.now categories.now kinds.now (entry_of_rules rules.now)) }
 {
     rules.len() <= MAX_COUNT
         && categories.len() <= MAX_COUNT
@@ -87,8 +87,8 @@ fn is_well_formed(rules: &[Rule], categories: &[Name], kinds: &[KindDef]) -> boo
 }
 
 /// The category of the first rule.
-fn first_symbol(rules: &[Rule]) -> Option<Symbol>
-    ensures { result ≡ first_symbol rules.now }
+fn entry_of_rules(rules: &[Rule]) -> Option<Symbol>
+    ensures { result ≡ entry_of_rules rules.now }
 {
     let rule = rules.first()?;
     Some(Symbol::Category(rule.category))
@@ -101,13 +101,13 @@ pub(crate) fn parts_of(
     categories: Vec<Name>,
     kinds: Vec<KindDef>,
 ) -> Option<GrammarParts>
-    ensures { GivesParts
-        (of_parts rules.items categories.items kinds.items (first_symbol rules.items)) result }
+    ensures { GivesParts (grammar_of_parts
+        rules.items categories.items kinds.items (entry_of_rules rules.items)) result }
 {
     if !is_well_formed(rules.as_slice(), categories.as_slice(), kinds.as_slice()) {
         return None;
     }
-    let entry = first_symbol(rules.as_slice());
+    let entry = entry_of_rules(rules.as_slice());
     Some(GrammarParts::of(rules, categories, kinds, entry))
 }
 
@@ -129,15 +129,15 @@ impl Grammar {
         categories: Vec<Name>,
         kinds: Vec<KindDef>,
     ) -> Result<Option<Grammar>, AllocError>
-        ensures { IfOk result (MakesGrammar
-            (of_parts rules.items categories.items kinds.items (first_symbol rules.items))) }
+        ensures { IfOk result (MakesGrammar (grammar_of_parts
+            rules.items categories.items kinds.items (entry_of_rules rules.items))) }
     {
         let Some(parts) = parts_of(rules, categories, kinds) else {
             return Ok(None);
         };
-        match chains_of(alloc, &parts)? {
-            Chains::Cyclic(_) => Ok(None),
-            Chains::Ranked(ranks) => Ok(Some(Grammar::of(parts, ranks))),
+        match check_cycles(alloc, &parts)? {
+            CycleCheck::Cyclic(_) => Ok(None),
+            CycleCheck::Ranked(ranks) => Ok(Some(Grammar::of(parts, ranks))),
         }
     }
 }

@@ -3,9 +3,9 @@ ghost use Rattle.std.specs.Prelude.{◌≡◌, ◌<◌, ◌↔◌, IsTrue, IsFal
 ghost use Rattle.std.specs.Prelude.{slice_index_or};
 ghost use Rattle.std.specs.List.{list_all};
 ghost use Rattle.lbnf_grammar.specs.Nullable.{AreNullableFlags, flag_of};
-ghost use Rattle.lbnf_grammar.specs.Nullable.{TellsNullable, TellsAllNullable};
 ghost use Rattle.lbnf_grammar.specs.NullablePasses.{AreSound, AreClosedUnder, HaveFlags};
-ghost use Rattle.lbnf_grammar.specs.NullablePasses.{AppliesRule, clear_count};
+ghost use Rattle.lbnf_grammar.specs.NullablePasses.{AppliesRule};
+ghost use Rattle.number_graph.specs.Flags.{clear_count};
 
 use crate::grammar::Grammar;
 use crate::parts::GrammarParts;
@@ -13,9 +13,8 @@ use spec_grammar::{Rule, Symbol};
 use std::alloc::{AllocError, Global};
 
 /// Whether the symbol derives the empty span, by the flags of its grammar. A kind does not.
-pub fn is_nullable(flags: &[bool], symbol: Symbol) -> bool
-    ensures flags { result ≡ flag_of flags.now symbol }
-    ensures exact { TellsNullable flags.now symbol result }
+pub(crate) fn is_nullable(flags: &[bool], symbol: Symbol) -> bool
+    ensures { result ≡ flag_of flags.now symbol }
 {
     match symbol {
         Symbol::Category(c) => flags.get(c as usize).copied().unwrap_or(false),
@@ -24,9 +23,8 @@ pub fn is_nullable(flags: &[bool], symbol: Symbol) -> bool
 }
 
 /// Whether the items derive the empty span, by the flags of their grammar: each of them does.
-pub fn are_nullable(flags: &[bool], items: &[Symbol]) -> bool
-    ensures flags { result ≡ list_all (flag_of flags.now) items.now }
-    ensures exact { TellsAllNullable flags.now items.now result }
+pub(crate) fn are_nullable(flags: &[bool], items: &[Symbol]) -> bool
+    ensures { result ≡ list_all (flag_of flags.now) items.now }
 {
     items.iter().all(|symbol| is_nullable(flags, *symbol))
 }

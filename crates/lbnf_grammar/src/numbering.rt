@@ -1,13 +1,27 @@
 //! The numbers of a rule's symbols.
 ghost use Rattle.std.specs.Prelude.{◌≡◌, ◌<◌, ◌^◌, map, length, IfOk};
-ghost use Rattle.spec_lbnf.specs.Expansion.{symbol_of, numbered_rule};
+ghost use Rattle.spec_lbnf.specs.Expansion.{number_of, category_text, symbol_of, numbered_rule};
 
 use crate::tables::Tables;
 use crate::texts::{category_text, copy_label};
 use spec_grammar::{Rule, Symbol};
-use spec_lbnf::{RawItem, RawRule};
+use spec_lbnf::{CatName, RawItem, RawRule};
 use sqlite_items::Items;
 use std::alloc::{AllocError, Global};
+
+/// The number of the category.
+pub(crate) fn category_number(
+    alloc: Global,
+    tables: &Tables,
+    cat: &CatName,
+) -> Result<u16, AllocError>
+    requires { length tables.now.categories < 2 ^ 16 }
+    ensures { IfOk result
+        (λ number. number ≡ number_of tables.now.categories (category_text cat.now)) }
+{
+    let text = category_text(alloc, cat)?;
+    Ok(tables.categories.number(text.as_slice()) as u16)
+}
 
 fn symbol_of(alloc: Global, tables: &Tables, item: &RawItem) -> Result<Symbol, AllocError>
     requires categories { length tables.now.categories < 2 ^ 16 }
@@ -16,11 +30,7 @@ fn symbol_of(alloc: Global, tables: &Tables, item: &RawItem) -> Result<Symbol, A
         (λ symbol. symbol ≡ symbol_of tables.now.categories tables.now.words item.now) }
 {
     match item {
-        RawItem::Cat(cat) => {
-            let text = category_text(alloc, cat)?;
-            let number = tables.categories.number(text.as_slice());
-            Ok(Symbol::Category(number as u16))
-        }
+        RawItem::Cat(cat) => Ok(Symbol::Category(category_number(alloc, tables, cat)?)),
         RawItem::Word(word) => {
             let number = tables.words.number(word.as_slice());
             Ok(Symbol::Kind(number as u16))
@@ -51,8 +61,7 @@ fn numbered_rule(alloc: Global, tables: &Tables, rule: &RawRule) -> Result<Rule,
     ensures { IfOk result (λ numbered.
         numbered ≡ numbered_rule tables.now.categories tables.now.words rule.now) }
 {
-    let text = category_text(alloc, &rule.cat)?;
-    let category = tables.categories.number(text.as_slice()) as u16;
+    let category = category_number(alloc, tables, &rule.cat)?;
     let label = copy_label(alloc, &rule.label)?;
     let items = symbols_of(alloc, tables, rule.items.as_slice())?;
     Ok(Rule {

@@ -1,7 +1,7 @@
 //! Rules, categories, kinds and an entry that fit together, before the check for cycles.
 ghost use Rattle.std.specs.Prelude.{◌≡◌, ◌<◌, ◌^◌, length, IfSome};
 ghost use Rattle.spec_lbnf.specs.Expansion.{HasOwnSymbols, IsSymbolOf, item_count};
-ghost use Rattle.lbnf_grammar.specs.Grammars.{of_parts};
+ghost use Rattle.lbnf_grammar.specs.Grammars.{grammar_of_parts};
 
 use spec_grammar::{Rule, Symbol};
 use spec_lexing::KindDef;
@@ -21,19 +21,19 @@ pub(crate) struct GrammarParts {
 impl Model for GrammarParts {
     ghost use Rattle.std.specs.Prelude.{◌<◌, ◌^◌, length, IfSome};
     ghost use Rattle.spec_lbnf.specs.Expansion.{Expansion, HasOwnSymbols, IsSymbolOf, item_count};
-    ghost use Rattle.lbnf_grammar.specs.Grammars.{of_parts};
+    ghost use Rattle.lbnf_grammar.specs.Grammars.{grammar_of_parts};
 
     ghost Value = { Expansion };
 
-    ghost view = { λ g. of_parts g.rules.items g.categories.items g.kinds.items g.entry };
+    ghost view = { λ g. grammar_of_parts g.rules.items g.categories.items g.kinds.items g.entry };
 
     ghost invariant = { λ g. (length g.rules.items < 2 ^ 16)
         × (length g.categories.items < 2 ^ 16)
         × (length g.kinds.items < 2 ^ 16)
         × (item_count g.rules.items < 2 ^ 31)
-        × HasOwnSymbols (of_parts g.rules.items g.categories.items g.kinds.items g.entry)
+        × HasOwnSymbols (grammar_of_parts g.rules.items g.categories.items g.kinds.items g.entry)
         × IfSome g.entry
-        (IsSymbolOf (of_parts g.rules.items g.categories.items g.kinds.items g.entry)) };
+        (IsSymbolOf (grammar_of_parts g.rules.items g.categories.items g.kinds.items g.entry)) };
 }
 
 impl GrammarParts {
@@ -47,10 +47,11 @@ impl GrammarParts {
         requires categories { length categories.items < 2 ^ 16 }
         requires kinds { length kinds.items < 2 ^ 16 }
         requires few { item_count rules.items < 2 ^ 31 }
-        requires known { HasOwnSymbols (of_parts rules.items categories.items kinds.items entry) }
+        requires own_symbols { HasOwnSymbols
+            (grammar_of_parts rules.items categories.items kinds.items entry) }
         requires entry { IfSome entry
-            (IsSymbolOf (of_parts rules.items categories.items kinds.items entry)) }
-        ensures { result ≡ of_parts rules.items categories.items kinds.items entry }
+            (IsSymbolOf (grammar_of_parts rules.items categories.items kinds.items entry)) }
+        ensures { result ≡ grammar_of_parts rules.items categories.items kinds.items entry }
     {
         GrammarParts {
             rules,
@@ -64,7 +65,7 @@ impl GrammarParts {
         ensures items { result.now ≡ self.now.rules }
         ensures few { length self.now.rules < 2 ^ 16 }
         ensures few_items { item_count self.now.rules < 2 ^ 31 }
-        ensures known { HasOwnSymbols self.now }
+        ensures own_symbols { HasOwnSymbols self.now }
     {
         self.rules.as_slice()
     }

@@ -3,7 +3,7 @@ ghost use Rattle.std.specs.Prelude.{◌≡◌, ◌<◌, ◌↔◌, IsTrue, IfOk,
 ghost use Rattle.number_graph.specs.Graphs.{AddsLinks};
 ghost use Rattle.lbnf_grammar.specs.Nullable.{AreNullableFlags};
 ghost use Rattle.lbnf_grammar.specs.StepLinks.{AreSteps, IsItemStep, IsRuleStep};
-ghost use Rattle.lbnf_grammar.specs.StepLinks.{full_count as full_items, own_count as own_items};
+ghost use Rattle.lbnf_grammar.specs.StepLinks.{non_nullable_count, one_if_non_nullable};
 
 use crate::nullable::is_nullable;
 use crate::parts::GrammarParts;
@@ -12,37 +12,37 @@ use spec_grammar::{Rule, Symbol};
 use std::alloc::{AllocError, Global};
 
 /// 1 for a symbol that is not nullable, and else 0.
-fn own_count(flags: &[bool], symbol: Symbol) -> usize
-    ensures { result ≡ own_items flags.now symbol }
+fn one_if_non_nullable(flags: &[bool], symbol: Symbol) -> usize
+    ensures { result ≡ one_if_non_nullable flags.now symbol }
 {
     if is_nullable(flags, symbol) { 0 } else { 1 }
 }
 
 /// How many of the items are not nullable.
-fn full_count(flags: &[bool], items: &[Symbol]) -> usize
-    ensures { result ≡ full_items flags.now items.now }
+fn non_nullable_count(flags: &[bool], items: &[Symbol]) -> usize
+    ensures { result ≡ non_nullable_count flags.now items.now }
 {
     let mut count = 0;
     for item in items {
-        count += own_count(flags, *item);
+        count += one_if_non_nullable(flags, *item);
     }
     count
 }
 
-/// Links the category to the item, if the item is a category, and each of the `full` items that are
-/// not nullable is this one.
+/// Links the category to the item, if the item is a category, and each of the `non_nullable` items
+/// that are not nullable is this one.
 fn add_item(
     links: &mut Links,
     flags: &[bool],
     category: u16,
-    full: usize,
+    non_nullable: usize,
     item: Symbol,
 ) -> Result<(), AllocError>
     requires { category < length links.old }
     ensures { OnOk result
-        (AddsLinks (IsItemStep flags.now category full item) links.old links.new) }
+        (AddsLinks (IsItemStep flags.now category non_nullable item) links.old links.new) }
 {
-    let is_alone = full == own_count(flags, item);
+    let is_alone = non_nullable == one_if_non_nullable(flags, item);
     match item {
         Symbol::Category(b) => links.add_if(is_alone, category, b),
         Symbol::Kind(_) => Ok(()),
@@ -55,9 +55,9 @@ fn add_rule(links: &mut Links, flags: &[bool], rule: &Rule) -> Result<(), AllocE
     ensures { OnOk result (AddsLinks (IsRuleStep flags.now rule.now) links.old links.new) }
 {
     let items = rule.items.as_slice();
-    let full = full_count(flags, items);
+    let non_nullable = non_nullable_count(flags, items);
     for item in items {
-        add_item(links, flags, rule.category, full, *item)?;
+        add_item(links, flags, rule.category, non_nullable, *item)?;
     }
     Ok(())
 }

@@ -3,13 +3,13 @@ use Rattle.std.proofs.Common.{◌≡◌, ℕ, zero, suc, ◌<◌, ◌⊎◌, inl
 use Rattle.std.proofs.Common.{length, slice_set, slice_index_or, replicate, refl, sym, ◌∙◌, arith, subst}
 use Rattle.std.proofs.Common.{length-set, length-append, get_or-set_other}
 use Rattle.std.specs.List.{Contains}
-use Rattle.std.proofs.lemmas.Bool.{false≢true}
+use Rattle.std.proofs.lemmas.Bool.{false≢true, cases_eq}
 use Rattle.std.proofs.lemmas.Grind.{get_or-set_at}
 use Rattle.std.proofs.lemmas.List.{length-replicate}
 use Rattle.std.proofs.lemmas.List.Elements.{Contains-append_left, Contains-append_right, Contains-append_cases}
 use Rattle.number_graph.specs.Graphs.{HasLink, NumberReaches, stay, step, IsSet, AreReachedFlags}
 use Rattle.number_graph.specs.Flags.{clear_count, SetsFlags, IsSearch}
-use Rattle.number_graph.proofs.LinkLemmas.{same_or_other, Contains-one}
+use Rattle.number_graph.proofs.LinkLemmas.{Contains-one}
 
 -- of clear flags none is set
 pub none_set : (count n : ℕ) → IsSet (replicate count false) n → ⊥
@@ -47,7 +47,7 @@ set_here flags m n within same = get_or-set_at flags m n true false same within
 pub set_kept :
     (flags : List Bool) (m n : ℕ)
     → m < length flags → IsSet flags n → IsSet (slice_set flags m true) n
-set_kept flags m n within is = elim (same_or_other n m) [
+set_kept flags m n within is = elim (cases_eq n m) [
   | inl same ↦ set_here flags m n within same
   | inr differ ↦ get_or-set_other flags m n true false differ ∙ is
 ]
@@ -56,7 +56,7 @@ set_kept flags m n within is = elim (same_or_other n m) [
 pub set_before :
     (flags : List Bool) (m n : ℕ)
     → IsSet (slice_set flags m true) n → IsSet flags n ⊎ (n ≡ m)
-set_before flags m n is = elim (same_or_other n m) [
+set_before flags m n is = elim (cases_eq n m) [
   | inl same ↦ inr same
   | inr differ ↦ inl (sym (get_or-set_other flags m n true false differ) ∙ is)
 ]

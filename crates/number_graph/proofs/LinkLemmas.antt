@@ -1,7 +1,8 @@
 -- What one link more changes.
-use Rattle.std.proofs.Common.{◌≡◌, ◌≢◌, ℕ, zero, suc, ◌<◌, ◌≤◌, ◌↔◌, ◌⊎◌, inl, inr, List, [], ◌∷◌, ◌++◌, Bool, IsTrue, length, slice_set, replicate}
+use Rattle.std.proofs.Common.{◌≡◌, ◌≢◌, ℕ, zero, suc, ◌<◌, ◌↔◌, ◌⊎◌, inl, inr, List, [], ◌∷◌, ◌++◌, Bool, IsTrue, length, slice_set, replicate}
 use Rattle.std.proofs.Common.{slice_index_or, sym, ap, ◌∙◌, arith, length-set, get_or-set_other, subst}
 use Rattle.std.specs.List.{Contains}
+use Rattle.std.proofs.lemmas.Bool.{cases_eq, cases_lt}
 use Rattle.std.proofs.lemmas.List.{get_or_default, get_or_past}
 use Rattle.std.proofs.lemmas.Grind.{get_or-set_at}
 use Rattle.std.proofs.lemmas.List.Elements.{Contains-append_left, Contains-append_right, Contains-append_cases}
@@ -9,7 +10,7 @@ use Rattle.number_graph.specs.Graphs.{HasLink, AddsLinks, AddsLink, AreLinksWith
 
 -- two numbers are the same, or they differ
 pub same_or_other : (m n : ℕ) → (m ≡ n) ⊎ (m ≢ n)
-same_or_other m n = grind arith
+same_or_other m n = cases_eq m n
 
 -- the one member of a list of one
 pub Contains-one : (x y : ℕ) → Contains (x ∷ []) y → y ≡ x
@@ -35,7 +36,7 @@ module _ (links : List (List ℕ)) (from to : ℕ) (old list : List ℕ) (within
   new_link :
       (m n : ℕ)
       → HasLink (slice_set links from list) m n → HasLink links m n ⊎ ((m ≡ from) × (n ≡ to))
-  new_link m n has = elim (same_or_other m from) [
+  new_link m n has = elim (cases_eq m from) [
     | inr differ ↦ let P : List ℕ → Type 0 = λ xs. Contains xs n in inl (subst P (other_list m differ) has)
     | inl same ↦
         let P : List ℕ → Type 0 = λ xs. Contains xs n in
@@ -49,7 +50,7 @@ module _ (links : List (List ℕ)) (from to : ℕ) (old list : List ℕ) (within
   kept_link :
       (m n : ℕ)
       → HasLink links m n ⊎ ((m ≡ from) × (n ≡ to)) → HasLink (slice_set links from list) m n
-  kept_link m n (inl old) = elim (same_or_other m from) [
+  kept_link m n (inl old) = elim (cases_eq m from) [
     | inr differ ↦ let P : List ℕ → Type 0 = λ xs. Contains xs n in subst P (sym (other_list m differ)) old
     | inl same ↦
         let P : List ℕ → Type 0 = λ xs. Contains xs n in
@@ -136,16 +137,13 @@ no_link (suc count) (suc m) n has = no_link count m n has
 
 -- only the numbers within the list are linked
 pub link_within : (links : List (List ℕ)) (m n : ℕ) → HasLink links m n → m < length links
-link_within links m n has = elim (within_or_past m (length links)) [
+link_within links m n has = elim (cases_lt m (length links)) [
   | inl within ↦ within
   | inr past ↦
       let Has : List ℕ → Type 0 = λ xs. Contains xs n in
       let none = subst Has (get_or_past links m [] past) has in
       absurd (omega (arith, none.1))
 ]
-  where
-    within_or_past : (k count : ℕ) → (k < count) ⊎ (count ≤ k)
-    within_or_past k count = grind arith
 
 -- one link more to a number below the count keeps all links within it
 pub added_within :

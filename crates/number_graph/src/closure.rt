@@ -35,7 +35,7 @@ fn flag_all(
     Ok(())
 }
 
-/// For each number, whether it is reached by links from this one, which is reached by none. It
+/// For each number, whether links lead to it from this one, which itself counts as reached. It
 /// looks at each number that is reached, and at each of its links, once.
 pub fn reached_from(alloc: Global, links: &Links, from: u16) -> Result<Vec<bool>, AllocError>
     requires from { from < length links.now }

@@ -60,8 +60,9 @@ impl Links {
     /// Links one number to another where the test holds.
     pub fn add_if(&mut self, test: bool, from: u16, to: u16) -> Result<(), AllocError>
         requires { IsTrue test → from < length self.old }
-        ensures { OnOk result
+        ensures ok { OnOk result
             (AddsLinks (λ m n. IsTrue test × (m ≡ from) × (n ≡ to)) self.old self.new) }
+        ensures err { OnErr result (self.new ≡ self.old) }
     {
         if test {
             self.add(from, to)?;

@@ -1,7 +1,7 @@
 //! Cyclic categories and ranks of small grammars, whose rules are built by hand.
 use super::expanded;
 use super::small_grammars::{A, B, C, D, EMPTY, Sides, WORD, grammar_of, small_parts};
-use crate::chains::{Chains, chains_of};
+use crate::cycle_check::{CycleCheck, check_cycles};
 use crate::*;
 use std::test::*;
 
@@ -56,9 +56,9 @@ const CYCLES: &[Cycle] = &[
 fn the_least_category_that_reaches_itself_is_told(rt: HostRuntime) -> Result<(), Fail> {
     for (text, rules, want) in CYCLES {
         let parts = small_parts(rt.alloc(), *rules)?.ok_or("parts")?;
-        let cyclic = match chains_of(rt.alloc(), &parts)? {
-            Chains::Cyclic(category) => Some(category),
-            Chains::Ranked(_) => None,
+        let cyclic = match check_cycles(rt.alloc(), &parts)? {
+            CycleCheck::Cyclic(category) => Some(category),
+            CycleCheck::Ranked(_) => None,
         };
         assert_eq!(rt; cyclic, *want, "at {text:?}");
     }

@@ -1,6 +1,6 @@
 //! Nullable categories of small grammars, whose rules are built by hand.
 use super::small_grammars::{A, B, C, D, EMPTY, Sides, WORD, grammar_of, small_parts};
-use crate::nullable::nullable_flags;
+use crate::nullable::{are_nullable, is_nullable, nullable_flags};
 use crate::*;
 use std::test::*;
 

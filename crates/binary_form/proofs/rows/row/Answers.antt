@@ -13,6 +13,6 @@ returns c =
     let is_rule : slice_get g.rules c.args.r ≡ Some rule =
     slice_get_read g.rules (length g.rules) c.args.r rule refl c.requires.rule
     (rw c.rules.ensures.items at c.index-rules-r.is) in
-    row_is g c.args.r c.args.p rule (slice_index_or items c.args.p (Category 0)) _ c.rules.ensures.known is_rule
+    row_is g c.args.r c.args.p rule (slice_index_or items c.args.p (Category 0)) _ c.rules.ensures.own_symbols is_rule
     (rw c.as_slice-items.ensures (slice_get-get_or rule.items c.args.p (Category 0) (c.requires.item rule is_rule)))
     c.number.ensures refl refl (ap (λ xs. nat_eq (c.args.p + 1) (length xs)) c.as_slice-items.ensures)

@@ -24,7 +24,7 @@ loop-number-preserved c =
     links_of_more IsRowLongerSuffix rows first (first + length rows) number row c.loop-number.links c.add_if.new.self
     (slice_get-get_or rows number no_row c.loop-number-test.true) c.loop-number.invariant
     (adds_tested c.loop-number.links c.add_if.new.self row.item (first + number) (IsFalse row.is_last) (not row.is_last)
-    (not_tested row.is_last) c.in_ok-add_if.ensures)
+    (not_tested row.is_last) c.in_ok-add_if.ensures.ok)
 
 pub returns : goal.returns
 returns c =

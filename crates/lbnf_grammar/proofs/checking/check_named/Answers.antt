@@ -13,14 +13,14 @@ pub returns-in-Some : goal.returns-in-Some
 returns-in-Some c =
     let first = rw c.in-Some.is at c.first_unlisted.ensures in
     unknown_tells c.args.defs.now c.in-Some.name.now c.loop-number.number
-    (first_unknown c.args.defs.now c.args.known.now c.requires.known
+    (first_unknown c.args.defs.now c.args.known.now c.requires.listed
     c.loop-number.number c.index-defs-number.result c.as_slice.result.now (search rules)
     c.loop-number-test.true c.index-defs-number.is c.loop-number.invariant c.in-Some.name.now first) c.unknown.result c.unknown.ensures
 
 pub loop-number-preserved : goal.loop-number-preserved
 loop-number-preserved c =
     let listed = rw c.in_default-first_unlisted.is at c.first_unlisted.ensures in
-    more_known c.args.defs.now c.args.known.now c.requires.known
+    more_known c.args.defs.now c.args.known.now c.requires.listed
     c.loop-number.number c.index-defs-number.result c.as_slice.result.now (search rules)
     c.loop-number-test.true c.index-defs-number.is c.loop-number.invariant listed
 

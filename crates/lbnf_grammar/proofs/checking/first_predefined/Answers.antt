@@ -1,7 +1,7 @@
 use Rattle.std.proofs.Common.{true, false}
 use Rattle.spec_lbnf.specs.Checks.{predefined_names}
 use Rattle.spec_lbnf.specs.Checks.{IsPredefined, IsFree}
-use Rattle.lbnf_grammar.proofs.CheckingLemmas.{first_bad, more_good, good_all, told_listed, told_predefined, told_free}
+use Rattle.lbnf_grammar.proofs.CheckingLemmas.{first_bad, more_good, good_all, told_listed, told_there, told_absent}
 use Rattle.lbnf_grammar.proofs.checking.first_predefined.Goals as goal
 
 pub returns-then-is_predefined : goal.returns-then-is_predefined
@@ -9,14 +9,14 @@ returns-then-is_predefined c =
     let told = told_listed predefined_names c.name-item.result c.as_slice.result.now c.as_slice.ensures.bytes
     c.is_predefined.result true c.is_predefined.ensures c.if-is_predefined.true in
     first_bad IsPredefined IsFree c.args.names.now c.loop-name.name-index c.name-item.result
-    c.loop-name-test.true c.name-item.is c.loop-name.invariant (told_predefined c.name-item.result told)
+    c.loop-name-test.true c.name-item.is c.loop-name.invariant (told_there predefined_names c.name-item.result told)
 
 pub loop-name-preserved : goal.loop-name-preserved
 loop-name-preserved c =
     let told = told_listed predefined_names c.name-item.result c.as_slice.result.now c.as_slice.ensures.bytes
     c.is_predefined.result false c.is_predefined.ensures c.if-is_predefined.false in
     more_good IsPredefined IsFree c.args.names.now c.loop-name.name-index c.name-item.result
-    c.loop-name-test.true c.name-item.is c.loop-name.invariant (told_free c.name-item.result told)
+    c.loop-name-test.true c.name-item.is c.loop-name.invariant (told_absent predefined_names c.name-item.result told)
 
 pub returns : goal.returns
 returns c = good_all IsFree c.args.names.now c.loop-name.name-index c.loop-name-test.false c.loop-name.invariant

@@ -1,6 +1,6 @@
 use Rattle.std.proofs.Common.{true, false}
 use Rattle.lbnf_grammar.specs.Checking.{IsListed, IsUnlisted}
-use Rattle.lbnf_grammar.proofs.CheckingLemmas.{first_bad, more_good, good_all, told_listed}
+use Rattle.lbnf_grammar.proofs.CheckingLemmas.{first_bad, more_good, good_all, told_listed, told_there, told_absent}
 use Rattle.lbnf_grammar.proofs.checking.first_unlisted.Goals as goal
 
 pub returns-then-not-has : goal.returns-then-not-has
@@ -8,14 +8,16 @@ returns-then-not-has c =
     let told = told_listed c.args.known.now c.name-item.result c.as_slice.result.now c.as_slice.ensures.bytes
     c.has.result false c.has.ensures c.if-not-has.true in
     first_bad (IsUnlisted c.args.known.now) (IsListed c.args.known.now) c.args.names.now
-    c.loop-name.name-index c.name-item.result c.loop-name-test.true c.name-item.is c.loop-name.invariant told
+    c.loop-name.name-index c.name-item.result c.loop-name-test.true c.name-item.is c.loop-name.invariant
+    (told_absent c.args.known.now c.name-item.result told)
 
 pub loop-name-preserved : goal.loop-name-preserved
 loop-name-preserved c =
     let told = told_listed c.args.known.now c.name-item.result c.as_slice.result.now c.as_slice.ensures.bytes
     c.has.result true c.has.ensures c.if-not-has.false in
     more_good (IsUnlisted c.args.known.now) (IsListed c.args.known.now) c.args.names.now
-    c.loop-name.name-index c.name-item.result c.loop-name-test.true c.name-item.is c.loop-name.invariant told
+    c.loop-name.name-index c.name-item.result c.loop-name-test.true c.name-item.is c.loop-name.invariant
+    (told_there c.args.known.now c.name-item.result told)
 
 pub returns : goal.returns
 returns c = good_all (IsListed c.args.known.now) c.args.names.now c.loop-name.name-index c.loop-name-test.false c.loop-name.invariant

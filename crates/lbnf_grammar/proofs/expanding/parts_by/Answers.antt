@@ -4,7 +4,7 @@ use Rattle.spec_lexing.specs.declared.kind_def.KindDef.TheVariants.{Word as Word
 use Rattle.spec_lbnf.specs.Expansion.{Expansion, HasOwnSymbols, IsSymbolOf, rules_of, numbered_rule, category_symbol, entry_text, expansion_of}
 use Rattle.spec_lbnf.proofs.SymbolLemmas.{own_symbols}
 use Rattle.spec_lbnf.proofs.EntryLemmas.{own_entry}
-use Rattle.lbnf_grammar.specs.Grammars.{of_parts}
+use Rattle.lbnf_grammar.specs.Grammars.{grammar_of_parts}
 use Rattle.lbnf_grammar.proofs.TableLemmas.{expansion_is}
 use Rattle.lbnf_grammar.proofs.expanding.parts_by.Goals as goal
 
@@ -15,7 +15,7 @@ pub numbered_rules-requires-clause-words : goal.numbered_rules-requires-clause-w
 numbered_rules-requires-clause-words c = rw c.requires.words c.requires.few.words
 
 -- the parts are those of the grammar that the definitions stand for
-parts_are : (c : goal.After-into_list-2) → of_parts c.in_ok-rules.rules.items c.into_list-2.result.items c.in_ok-kinds.kinds.items c.in_ok-entry.entry ≡ expansion_of c.args.defs.now
+parts_are : (c : goal.After-into_list-2) → grammar_of_parts c.in_ok-rules.rules.items c.into_list-2.result.items c.in_ok-kinds.kinds.items c.in_ok-entry.entry ≡ expansion_of c.args.defs.now
 parts_are c =
     let tables = c.args.tables in
     let numbered : c.in_ok-rules.rules.items ≡ map (numbered_rule tables.categories tables.words) (rules_of c.args.defs.now) = search rules in
@@ -25,8 +25,8 @@ parts_are c =
     expansion_is c.args.defs.now tables c.in_ok-rules.rules.items c.into_list-2.result.items c.in_ok-kinds.kinds.items c.in_ok-entry.entry
     c.requires.categories c.requires.words numbered listed told first
 
-pub of-requires-clause-known : goal.of-requires-clause-known
-of-requires-clause-known c = subst HasOwnSymbols (sym (parts_are c)) (own_symbols c.args.defs.now)
+pub of-requires-clause-own_symbols : goal.of-requires-clause-own_symbols
+of-requires-clause-own_symbols c = subst HasOwnSymbols (sym (parts_are c)) (own_symbols c.args.defs.now)
 
 pub of-requires-clause-entry : goal.of-requires-clause-entry
 of-requires-clause-entry c =

@@ -1,5 +1,6 @@
 use Rattle.std.proofs.Common.{◌≡◌, length}
-use Rattle.lbnf_grammar.specs.NullablePasses.{AreSound, clear_count}
+use Rattle.number_graph.specs.Flags.{clear_count}
+use Rattle.lbnf_grammar.specs.NullablePasses.{AreSound}
 use Rattle.lbnf_grammar.proofs.nullable.nullable_flags.Given as goal
 
 -- the flags are sound, and each category has one

@@ -18,4 +18,4 @@ returns c =
     let past = rw c.rules-rule-items.ensures.items at c.loop-rule-test.false in
     let end = rw c.rules-rule-items.ensures.items at c.loop-rule.auto.rule-index-end in
     let all : c.loop-rule.rule-index ≡ length rules = omega (arith, past, end) in
-    steps_are c.args.parts.now c.args.nullable.now c.requires c.rules-rule-items.ensures.known c.loop-rule.links (rw all at c.loop-rule.invariant)
+    steps_are c.args.parts.now c.args.nullable.now c.requires c.rules-rule-items.ensures.own_symbols c.loop-rule.links (rw all at c.loop-rule.invariant)

@@ -1,11 +1,11 @@
 use Rattle.std.proofs.Common.{subst, ◌∙◌}
 use Rattle.spec_grammar.specs.Cycles.{IsAcyclic}
 use Rattle.spec_lbnf.specs.Expansion.{Expansion}
-use Rattle.lbnf_grammar.specs.Ranks.{TellsChains}
+use Rattle.lbnf_grammar.specs.Ranks.{TellsCycles}
 use Rattle.lbnf_grammar.proofs.grammar.Grammar.of_rules.Goals as goal
 
 pub returns-in-Ranked : goal.returns-in-Ranked
 returns-in-Ranked c =
     let given = c.in-Some.ensures in
-    let told = subst (TellsChains c.in-Some.parts) c.in-Ranked.is c.in_ok-chains_of.ensures in
+    let told = subst (TellsCycles c.in-Some.parts) c.in-Ranked.is c.in_ok-check_cycles.ensures in
     (given.0, subst (λ (g : Expansion). IsAcyclic g.rules) given.1 told.0, c.of.ensures ∙ given.1)
