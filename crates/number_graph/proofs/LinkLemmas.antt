@@ -8,10 +8,6 @@ use Rattle.std.proofs.lemmas.Grind.{get_or-set_at}
 use Rattle.std.proofs.lemmas.List.Elements.{Contains-append_left, Contains-append_right, Contains-append_cases}
 use Rattle.number_graph.specs.Graphs.{HasLink, AddsLinks, AddsLink, AreLinksWithin}
 
--- two numbers are the same, or they differ
-pub same_or_other : (m n : ℕ) → (m ≡ n) ⊎ (m ≢ n)
-same_or_other m n = cases_eq m n
-
 -- the one member of a list of one
 pub Contains-one : (x y : ℕ) → Contains (x ∷ []) y → y ≡ x
 Contains-one x y (n, within, is) = grind (arith, is, within)
