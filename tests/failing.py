@@ -5,7 +5,8 @@
 
 Each script of `tests/sessions.py` of at most 260 bytes, and each example, is run with its first
 allocation failing, its second, and so on up to the last; then each read, in pieces of 1, 40 and
-4,096 bytes, and each write. What is wanted of a run:
+4,096 bytes, and each write. Scripts with a macro of about a thousand rules are left out, since each
+has tens of thousands of allocations. What is wanted of a run:
 
 - an allocation fails: status 6, and a prefix of the session in whole lines; or the whole session
   with its own status, since a growth may be asked for again with less;
@@ -14,7 +15,7 @@ allocation failing, its second, and so on up to the last; then each read, in pie
 - no call fails, since the number is past the last: the whole session with its own status.
 
 It prints how the runs of each kind ended, and `N passed, M failed`. It takes a C compiler, `cc`, and
-about five minutes on four processors. PROGRAM has to use the C library that is loaded with it.
+about a minute on four processors. PROGRAM has to use the C library that is loaded with it.
 """
 import collections
 import concurrent.futures
@@ -29,12 +30,14 @@ import sessions
 SOURCE = pathlib.Path(__file__).resolve().parent / 'failing.c'
 PIECES = (1, 40, 4_096)
 FAULTS = {'alloc': 6, 'read': 4, 'write': 5}
+MANY_RULES = b'coercions E 102'
 
 
 def cases():
     """The scripts that are run, each with what its session writes and its status."""
     for name, given, wanted, status in sessions.CASES:
-        if name.startswith('the example') or len(given) <= 260:
+        is_small = len(given) <= 260 and MANY_RULES not in given
+        if is_small or name.startswith('the example'):
             yield name, given, wanted, status
 
 
@@ -76,7 +79,7 @@ def runs(command, library, case, kind, piece):
         out, code, made = ended(command, library, given, kind, number, piece)
         how = verdict(out, code, made, kind, wanted, status)
         if how is None:
-            print(f'FAILED {name}, {kind} {number} in pieces of {piece}: {out[-80:]!r}, status {code}')
+            print(f'FAILED {name}, {kind} {number} in pieces of {piece}: {out[-80:]!r}, status {code}', flush=True)
         found[(kind, 'no call failed' if not made and how else how)] += 1
     return found
 
@@ -86,7 +89,7 @@ def main(command):
     with tempfile.TemporaryDirectory() as folder:
         library = f'{folder}/failing.so'
         subprocess.run(['cc', '-O2', '-shared', '-fPIC', '-o', library, SOURCE], check=True)
-        with concurrent.futures.ThreadPoolExecutor(os.cpu_count()) as pool:
+        with concurrent.futures.ProcessPoolExecutor(os.cpu_count()) as pool:
             jobs = [
                 pool.submit(runs, command, library, case, kind, piece)
                 for case in cases()
