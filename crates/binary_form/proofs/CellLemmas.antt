@@ -4,7 +4,7 @@ use Rattle.std.proofs.lemmas.List.Elements.{All-nil, All-cons}
 use Rattle.spec_grammar.specs.declared.rule.Symbol.{Symbol}
 use Rattle.spec_grammar.specs.declared.rule.Symbol.TheVariants.{Category, Kind}
 use Rattle.spec_grammar.specs.declared.rule.Rule.{Rule}
-use Rattle.spec_lbnf.specs.Expansion.{Expansion, IsSymbolOf, HasOwnSymbols}
+use Rattle.spec_grammar.specs.Grammars.{Grammar, IsSymbolOf, HasOwnSymbols}
 use Rattle.binary_form.specs.Symbols.{BinarySymbol, plain, suffix}
 use Rattle.binary_form.specs.UnitSteps.{HasItem}
 use Rattle.binary_form.specs.BinaryForm.{IsNumberOf, IsReachedNumber, IsClosureOf, IsTokenCell, MakesNumber, IsProductOf, IsProductNumber}
@@ -38,7 +38,7 @@ one_has (m ∷ ms) n (inr one) =
     let has = one_has ms n one in
     (suc has.0, omega (arith, has.1), has.2)
 
-module _ (g : Expansion) where
+module _ (g : Grammar) where
   -- the cell has just the numbers of what the symbol reaches
   abbrev pub HasReached : BinarySymbol → List ℕ → Type 0
   HasReached a cell = (n : ℕ) → Contains cell n ↔ IsReachedNumber g a n
@@ -74,7 +74,7 @@ module _ (g : Expansion) where
   -- the cell of a token has what its kind reaches
   pub token_cell :
       (k : ℕ) (cell : List ℕ)
-      → k < length g.kinds → HasReached (plain (Kind k)) cell → IsTokenCell g (Some k) cell
+      → k < length g.lexicon.kinds → HasReached (plain (Kind k)) cell → IsTokenCell g (Some k) cell
   token_cell k cell known reached m = (
     (λ has. (k, refl, known, (reached m).0 has)),
     (λ x.
@@ -146,19 +146,19 @@ module _ (g : Expansion) where
           ]
 
 -- the items are symbols of the grammar, each by itself
-abbrev pub AreOwn : Expansion → List Symbol → Type 0
+abbrev pub AreOwn : Grammar → List Symbol → Type 0
 AreOwn g [] = Unit {0}
 AreOwn g (s ∷ items) = IsSymbolOf g s × AreOwn g items
 
 -- so all of them are
-own_items : (g : Expansion) (items : List Symbol) → AreOwn g items → All (IsSymbolOf g) items
+own_items : (g : Grammar) (items : List Symbol) → AreOwn g items → All (IsSymbolOf g) items
 own_items g [] own = All-nil (IsSymbolOf g)
 own_items g (s ∷ items) own =
     All-cons (IsSymbolOf g) s items own.0 (own_items g items own.1)
 
 -- a rule that is the other has its symbols
 pub own_rule :
-    (g : Expansion) (x rule : Rule)
+    (g : Grammar) (x rule : Rule)
     → Some x ≡ Some rule → IsSymbolOf g (Category x.category) → AreOwn g x.items
     → IsSymbolOf g (Category rule.category) × All (IsSymbolOf g) rule.items
 own_rule g x rule is category items =

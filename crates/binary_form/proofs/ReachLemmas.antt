@@ -1,8 +1,8 @@
 -- What a symbol reaches by unit steps, and what its number reaches.
 use Rattle.std.proofs.Common.{◌≡◌, ℕ, ◌<◌, ◌↔◌, List, refl, sym, ◌∙◌, subst}
 use Rattle.spec_grammar.specs.declared.rule.Rule.{Rule}
-use Rattle.spec_lbnf.specs.Expansion.{Expansion, HasOwnSymbols, symbol_count}
-use Rattle.binary_form.specs.Symbols.{BinarySymbol, IsBinarySymbolOf, number_of}
+use Rattle.spec_grammar.specs.Grammars.{Grammar, HasOwnSymbols, symbol_count}
+use Rattle.binary_form.specs.Symbols.{BinarySymbol, IsBinarySymbolOf, symbol_number}
 use Rattle.binary_form.specs.UnitSteps.{UnitStep, whole_side, last_item, passed_item, Reaches, stay, step}
 use Rattle.binary_form.specs.BinaryForm.{IsNumberOf, IsReachedNumber}
 use Rattle.binary_form.specs.NumberSteps.{StepNumber}
@@ -18,7 +18,7 @@ reaches_on rules a b c before stay = before
 reaches_on rules a b d before (step {b = c} behind last) =
     step (reaches_on rules a b c before behind) last
 
-module _ (g : Expansion) where
+module _ (g : Grammar) where
   -- a unit step goes to a symbol of the grammar
   pub step_symbol :
       (a b : BinarySymbol)
@@ -33,7 +33,7 @@ module _ (g : Expansion) where
   pub number_step :
       (a b : BinarySymbol)
       → HasOwnSymbols g → IsBinarySymbolOf g a → UnitStep g.rules a b
-      → StepNumber g (number_of g a) (number_of g b)
+      → StepNumber g (symbol_number g a) (symbol_number g b)
   number_step a b own is next = (a, b, (is, refl), (step_symbol a b own next, refl), next)
 
   -- a symbol of the grammar reaches symbols of the grammar
@@ -71,8 +71,8 @@ module _ (g : Expansion) where
       let Reached : ℕ → Type 0 = λ k. NumberReaches (StepNumber g) m k in
       subst Reached (sym is_a.1 ∙ is_b.1) stay_number
   number_reached a c m n own is_a is_c (step {b = b} before last) =
-      let is : IsNumberOf g b (number_of g b) = (reaches_symbol a b own is_a.0 before, refl) in
-      step_number (number_reached a b m (number_of g b) own is_a is before) (b, c, is, is_c, last)
+      let is : IsNumberOf g b (symbol_number g b) = (reaches_symbol a b own is_a.0 before, refl) in
+      step_number (number_reached a b m (symbol_number g b) own is_a is before) (b, c, is, is_c, last)
 
   -- a symbol reaches the symbols whose numbers its number reaches
   symbol_reached :

@@ -1,6 +1,6 @@
 -- What is reached by the links of unit steps is what the symbols reach.
 use Rattle.std.proofs.Common.{ℕ, ◌<◌, ◌↔◌, List, Bool, arith}
-use Rattle.spec_lbnf.specs.Expansion.{Expansion, HasOwnSymbols, symbol_count}
+use Rattle.spec_grammar.specs.Grammars.{Grammar, HasOwnSymbols, symbol_count}
 use Rattle.binary_form.specs.Symbols.{BinarySymbol}
 use Rattle.binary_form.specs.BinaryForm.{IsNumberOf, IsReachedNumber}
 use Rattle.binary_form.specs.NumberSteps.{StepNumber}
@@ -10,7 +10,7 @@ use Rattle.binary_form.proofs.NumberLemmas.{numbers_used}
 use Rattle.number_graph.proofs.ReachLemmas.{number_reaches_more}
 use Rattle.binary_form.proofs.ReachLemmas.{reaches_numbers, step_below}
 
-module _ (g : Expansion) (links : List (List ℕ)) (steps : AreUnitSteps g links) where
+module _ (g : Grammar) (links : List (List ℕ)) (steps : AreUnitSteps g links) where
   -- unit steps lead to numbers of symbols
   pub steps_within : AreLinksWithin links
   steps_within m n has = omega (arith, (step_below g m n ((steps.exact m n).0 has)).1, steps.count)
