@@ -7,24 +7,24 @@ use Rattle.std.proofs.lemmas.List.{length-replicate, get_or-replicate, get_or_ap
 use Rattle.spec_grammar.specs.Cycles.{Leads, IsCyclic, IsAcyclic, HasChain, IsRank}
 use Rattle.spec_grammar.proofs.CycleLemmas.{leads_then, shorter_chain, step_lengthens, chain_is_short}
 use Rattle.spec_grammar.specs.Grammars.{Grammar}
-use Rattle.number_graph.specs.Graphs.{HasLink, AreLinksWithin, NumberReaches, stay, step, IsOnCycle}
-use Rattle.number_graph.proofs.ReachLemmas.{number_reaches_on}
+use Rattle.number_graph.specs.Graphs.{HasLink, AreLinksWithin, ReachesBy, stay, step, IsOnCycle}
+use Rattle.number_graph.proofs.ReachLemmas.{reaches_on}
 use Rattle.numbered_grammar.specs.StepLinks.{AreSteps}
 use Rattle.numbered_grammar.specs.Ranks.{AreRanks}
 use Rattle.numbered_grammar.specs.Heights.{IsHeight, AreHeights, AreLongestWithin}
 
 module _ (g : Grammar) (links : List (List ℕ)) (are : AreSteps g links) where
   -- links lead along a chain of steps
-  chain_reaches : (n a b : ℕ) → Leads g.rules n a b → NumberReaches (HasLink links) a b
-  chain_reaches zero a b leads = let P : ℕ → Type 0 = λ c. NumberReaches (HasLink links) a c in subst P leads stay
+  chain_reaches : (n a b : ℕ) → Leads g.rules n a b → ReachesBy (HasLink links) a b
+  chain_reaches zero a b leads = let P : ℕ → Type 0 = λ c. ReachesBy (HasLink links) a c in subst P leads stay
   chain_reaches (suc n) a b leads =
-      number_reaches_on (HasLink links) a leads.0 b
+      reaches_on (HasLink links) a leads.0 b
       (step stay ((are.exact a leads.0).1 leads.1)) (chain_reaches n leads.0 b leads.2)
 
   -- what links lead to is at the end of a chain of steps
-  reached_by_chain : (a b : ℕ) → NumberReaches (HasLink links) a b → (n : ℕ) × Leads g.rules n a b
+  reached_by_chain : (a b : ℕ) → ReachesBy (HasLink links) a b → (n : ℕ) × Leads g.rules n a b
   reached_by_chain a b stay = (0, refl)
-  reached_by_chain a c (step {m = b} before last) =
+  reached_by_chain a c (step {b = b} before last) =
       let chain = reached_by_chain a b before in
       (suc chain.0, leads_then g.rules chain.0 a b c chain.1 ((are.exact b c).0 last))
 
