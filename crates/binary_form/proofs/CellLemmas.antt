@@ -9,9 +9,9 @@ use Rattle.binary_form.specs.Symbols.{BinarySymbol, plain, suffix}
 use Rattle.binary_form.specs.UnitSteps.{HasItem}
 use Rattle.binary_form.specs.BinaryForm.{IsNumberOf, IsReachedNumber, IsClosureOf, IsTokenCell, MakesNumber, IsProductOf, IsProductNumber}
 use Rattle.binary_form.specs.NumberSteps.{StepNumber}
-use Rattle.number_graph.specs.Graphs.{NumberReaches}
+use Rattle.number_graph.specs.Graphs.{ReachesBy}
 use Rattle.binary_form.proofs.NumberLemmas.{number_is_one}
-use Rattle.number_graph.proofs.ReachLemmas.{number_reaches_within}
+use Rattle.number_graph.proofs.ReachLemmas.{reaches_within}
 use Rattle.binary_form.proofs.ReachLemmas.{reaches_numbers}
 
 -- the number is one of these
@@ -46,15 +46,15 @@ module _ (g : Grammar) where
   -- each number of the cell is reached by this one
   abbrev pub AreReached : ℕ → List ℕ → Type 0
   AreReached m [] = Unit {0}
-  AreReached m (n ∷ ns) = NumberReaches (StepNumber g) m n × AreReached m ns
+  AreReached m (n ∷ ns) = ReachesBy (StepNumber g) m n × AreReached m ns
 
   -- what is one of the cell's numbers is reached
   one_reached :
       (m : ℕ) (cell : List ℕ) (n : ℕ)
-      → AreReached m cell → IsOneOf cell n → NumberReaches (StepNumber g) m n
+      → AreReached m cell → IsOneOf cell n → ReachesBy (StepNumber g) m n
   one_reached m [] n all one = absurd one
   one_reached m (k ∷ ks) n all (inl is) =
-      let Reached : ℕ → Type 0 = λ l. NumberReaches (StepNumber g) m l in
+      let Reached : ℕ → Type 0 = λ l. ReachesBy (StepNumber g) m l in
       subst Reached (sym is) all.0
   one_reached m (k ∷ ks) n all (inr one) = one_reached m ks n all.1 one
 
@@ -66,7 +66,7 @@ module _ (g : Grammar) where
       → HasReached a cell
   has_reached a m cell own is within closed all n =
       let by_number = reaches_numbers g a m n own is in
-      let kept = number_reaches_within (StepNumber g) (IsOneOf cell) m n closed within in (
+      let kept = reaches_within (StepNumber g) (IsOneOf cell) m n closed within in (
         (λ has. by_number.1 (one_reached m cell n all (has_one cell n has))),
         (λ reached. one_has cell n (kept (by_number.0 reached))),
       )

@@ -4,7 +4,7 @@ use Rattle.std.proofs.lemmas.Option.{slice_get_cases}
 use Rattle.spec_grammar.specs.Grammars.{Grammar, symbol_count}
 use Rattle.cell_sets.specs.Cells.{Adds}
 use Rattle.binary_form.specs.Symbols.{BinarySymbol, suffix, symbol_number}
-use Rattle.binary_form.specs.UnitSteps.{stay}
+use Rattle.number_graph.specs.Graphs.{stay}
 use Rattle.binary_form.specs.BinaryForm.{IsNumberOf, IsReachedNumber, MakesNumber, IsProductNumber, IsProductOf, AddsProductOf, HasProduct}
 use Rattle.number_graph.specs.Graphs.{HasLink}
 use Rattle.binary_form.specs.LongerSuffixes.{IsLongerSuffix, AreLongerSuffixes}

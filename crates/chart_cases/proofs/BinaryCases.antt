@@ -5,7 +5,8 @@ use Rattle.spec_grammar.specs.declared.rule.Symbol.TheVariants.{Category, Kind}
 use Rattle.spec_grammar.specs.declared.rule.Rule.{Rule}
 use Rattle.spec_grammar.specs.Grammars.{rule_of}
 use Rattle.binary_form.specs.Symbols.{plain, suffix, BinaryDerives}
-use Rattle.binary_form.specs.UnitSteps.{HasItem, whole_side, last_item, Reaches, stay, step}
+use Rattle.binary_form.specs.UnitSteps.{HasItem, whole_side, last_item, Reaches}
+use Rattle.number_graph.specs.Graphs.{stay, step}
 use Rattle.binary_form.specs.BinaryForm.{IsNumberOf, IsNullableNumber, IsTokenCell, IsProductOf}
 use Rattle.chart_cases.specs.BinaryCases.{triples, brackets, SmallForms}
 use Rattle.binary_form.proofs.EmptySpanLemmas.{none_nullable}

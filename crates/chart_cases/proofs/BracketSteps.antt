@@ -10,7 +10,7 @@ use Rattle.spec_grammar.specs.Grammars.{HasOwnSymbols}
 use Rattle.binary_form.specs.Symbols.{BinarySymbol, plain, suffix, symbol_number}
 use Rattle.binary_form.specs.UnitSteps.{HasItem, AreNullable, UnitStep, whole_side, last_item, passed_item}
 use Rattle.binary_form.specs.NumberSteps.{StepNumber}
-use Rattle.number_graph.specs.Graphs.{NumberReaches, stay as stay_number, step as step_number}
+use Rattle.number_graph.specs.Graphs.{ReachesBy, stay, step}
 use Rattle.chart_cases.specs.BinaryCases.{brackets}
 use Rattle.binary_form.proofs.ItemLemmas.{drop_within, items_from}
 use Rattle.numbered_grammar.proofs.NullableLemmas.{kind_not_nullable}
@@ -143,7 +143,7 @@ bracket_steps m n x = by_step x.0 x.1 x.2.1 x.3.1 x.4
 
 -- what reaches within brackets, by number
 abbrev BracketReaches : ℕ → ℕ → Type 0
-BracketReaches = NumberReaches (StepNumber brackets)
+BracketReaches = ReachesBy (StepNumber brackets)
 
 -- the whole right side is `S`
 whole_is_category : StepNumber brackets 3 0
@@ -173,7 +173,7 @@ category_is_passed =
 pub open_reached : HasReached brackets (plain (Kind 0)) (1 ∷ [])
 open_reached =
     has_reached brackets (plain (Kind 0)) 1 (1 ∷ []) own_brackets (omega arith, refl) (inl refl)
-    (λ k l next. closed k l (bracket_steps k l next)) (stay_number, tt)
+    (λ k l next. closed k l (bracket_steps k l next)) (stay, tt)
   where
     closed : (k l : ℕ) → IsBracketStep k l → IsOneOf (1 ∷ []) k → IsOneOf (1 ∷ []) l
     closed k l next within = grind arith
@@ -183,21 +183,21 @@ pub close_reached : HasReached brackets (plain (Kind 1)) (2 ∷ 5 ∷ 4 ∷ [])
 close_reached =
     has_reached brackets (plain (Kind 1)) 2 (2 ∷ 5 ∷ 4 ∷ []) own_brackets (omega arith, refl)
     (inl refl) (λ k l next. closed k l (bracket_steps k l next))
-    (stay_number, (last, (step_number last category_is_passed, tt)))
+    (stay, (last, (step last category_is_passed, tt)))
   where
     closed :
         (k l : ℕ) → IsBracketStep k l → IsOneOf (2 ∷ 5 ∷ 4 ∷ []) k → IsOneOf (2 ∷ 5 ∷ 4 ∷ []) l
     closed k l next within = grind arith
 
     last : BracketReaches 2 5
-    last = step_number stay_number close_is_last
+    last = step stay close_is_last
 
 -- the whole right side reaches itself and `S`
 pub whole_reached : HasReached brackets (suffix 0 0) (3 ∷ 0 ∷ [])
 whole_reached =
     has_reached brackets (suffix 0 0) 3 (3 ∷ 0 ∷ []) own_brackets ((_, refl, omega arith), refl)
     (inl refl) (λ k l next. closed k l (bracket_steps k l next))
-    (stay_number, (step_number stay_number whole_is_category, tt))
+    (stay, (step stay whole_is_category, tt))
   where
     closed : (k l : ℕ) → IsBracketStep k l → IsOneOf (3 ∷ 0 ∷ []) k → IsOneOf (3 ∷ 0 ∷ []) l
     closed k l next within = grind arith

@@ -10,7 +10,7 @@ use Rattle.spec_grammar.specs.Grammars.{HasOwnSymbols}
 use Rattle.binary_form.specs.Symbols.{BinarySymbol, plain, suffix, symbol_number}
 use Rattle.binary_form.specs.UnitSteps.{HasItem, AreNullable, UnitStep, whole_side, last_item, passed_item}
 use Rattle.binary_form.specs.NumberSteps.{StepNumber}
-use Rattle.number_graph.specs.Graphs.{NumberReaches, stay as stay_number, step as step_number}
+use Rattle.number_graph.specs.Graphs.{ReachesBy, stay, step}
 use Rattle.chart_cases.specs.BinaryCases.{triples}
 use Rattle.binary_form.proofs.ItemLemmas.{drop_within, items_from}
 use Rattle.binary_form.proofs.EmptySpanLemmas.{none_nullable, some_nullable}
@@ -115,7 +115,7 @@ triple_steps m n x = by_step x.0 x.1 x.2.1 x.3.1 x.4
 
 -- what reaches within triples, by number
 abbrev TripleReaches : ℕ → ℕ → Type 0
-TripleReaches = NumberReaches (StepNumber triples)
+TripleReaches = ReachesBy (StepNumber triples)
 
 -- the whole of three is `S`
 three_is_category : StepNumber triples 2 0
@@ -152,7 +152,7 @@ pub word_reached : HasReached triples (plain (Kind 0)) (1 ∷ 5 ∷ 0 ∷ 4 ∷ 
 word_reached =
     has_reached triples (plain (Kind 0)) 1 (1 ∷ 5 ∷ 0 ∷ 4 ∷ []) own_triples (omega arith, refl)
     (inl refl) (λ k l next. closed k l (triple_steps k l next))
-    (itself, (whole, (category, (step_number category category_is_last, tt))))
+    (itself, (whole, (category, (step category category_is_last, tt))))
   where
     closed :
         (k l : ℕ)
@@ -160,13 +160,13 @@ word_reached =
     closed k l next within = grind arith
 
     itself : TripleReaches 1 1
-    itself = stay_number
+    itself = stay
 
     whole : TripleReaches 1 5
-    whole = step_number itself kind_is_word
+    whole = step itself kind_is_word
 
     category : TripleReaches 1 0
-    category = step_number whole word_is_category
+    category = step whole word_is_category
 
 -- the whole of three reaches itself, `S`, and the last of three
 pub three_reached : HasReached triples (suffix 0 0) (0 ∷ 2 ∷ 4 ∷ [])
@@ -174,20 +174,20 @@ three_reached =
     has_reached triples (suffix 0 0) 2 (0 ∷ 2 ∷ 4 ∷ []) own_triples
     ((_, refl, omega arith), refl) (inr (inl refl))
     (λ k l next. closed k l (triple_steps k l next))
-    (category, (stay_number, (step_number category category_is_last, tt)))
+    (category, (stay, (step category category_is_last, tt)))
   where
     closed :
         (k l : ℕ) → IsTripleStep k l → IsOneOf (0 ∷ 2 ∷ 4 ∷ []) k → IsOneOf (0 ∷ 2 ∷ 4 ∷ []) l
     closed k l next within = grind arith
 
     category : TripleReaches 2 0
-    category = step_number stay_number three_is_category
+    category = step stay three_is_category
 
 -- the last two of three reach themselves alone
 pub two_reached : HasReached triples (suffix 0 1) (3 ∷ [])
 two_reached =
     has_reached triples (suffix 0 1) 3 (3 ∷ []) own_triples ((_, refl, omega arith), refl)
-    (inl refl) (λ k l next. closed k l (triple_steps k l next)) (stay_number, tt)
+    (inl refl) (λ k l next. closed k l (triple_steps k l next)) (stay, tt)
   where
     closed : (k l : ℕ) → IsTripleStep k l → IsOneOf (3 ∷ []) k → IsOneOf (3 ∷ []) l
     closed k l next within = grind arith

@@ -9,7 +9,8 @@ use Rattle.spec_grammar.specs.Derivation.{AreParseTrees}
 use Rattle.spec_grammar.specs.Grammars.{Grammar, IsSymbolOf, HasOwnSymbols}
 use Rattle.cell_sets.specs.Cells.{IsUnion}
 use Rattle.binary_form.specs.Symbols.{BinarySymbol, plain, suffix, BinaryDerives, IsBinarySymbolOf, symbol_number}
-use Rattle.binary_form.specs.UnitSteps.{UnitStep, whole_side, last_item, passed_item, Reaches, stay, step, IsInProduct}
+use Rattle.number_graph.specs.Graphs.{stay, step}
+use Rattle.binary_form.specs.UnitSteps.{UnitStep, whole_side, last_item, passed_item, Reaches, IsInProduct}
 use Rattle.binary_form.specs.BinaryForm.{IsNumberOf, IsTokenCell, IsProductNumber}
 use Rattle.binary_form.specs.Laws.{HasSymbol}
 use Rattle.binary_form.proofs.ItemLemmas.{item_symbol}
