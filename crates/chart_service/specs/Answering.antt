@@ -1,16 +1,16 @@
 -- Serves the proofs alone: the symbol of a constituent, and the line of each answer.
 use Rattle.std.specs.Prelude.{◌≡◌, List, ℕ, Option}
 use Rattle.spec_grammar.specs.declared.rule.Symbol.{Symbol}
-use Rattle.spec_lbnf.specs.Expansion.{Expansion}
+use Rattle.spec_grammar.specs.Grammars.{Grammar}
 use Rattle.spec_session.specs.Script.{Constituent, entry_whole, category_whole, category_span}
 use Rattle.spec_session.specs.Replies.{unknown_category_line, outside_line, yes_line, no_line}
-use Rattle.lbnf_grammar.specs.Grammars.{FindsCategory}
+use Rattle.numbered_grammar.specs.Making.{FindsCategory}
 use Rattle.chart_service.specs.declared.answering.Answer.{Answer}
 use Rattle.chart_service.specs.declared.answering.Answer.TheVariants.{UnknownCategory}
 use Rattle.chart_service.specs.declared.answering.Answer.TheVariants.{SpanOutside, Yes, No}
 
 -- the symbol that is told of the constituent: the grammar's entry, or the category of the name
-abbrev pub FindsSymbol : Expansion → Constituent → Option Symbol → Type 0
+abbrev pub FindsSymbol : Grammar → Constituent → Option Symbol → Type 0
 FindsSymbol g entry_whole found = found ≡ g.entry
 FindsSymbol g (category_whole name) found = FindsCategory g.categories name found
 FindsSymbol g (category_span name first end) found = FindsCategory g.categories name found

@@ -4,7 +4,7 @@ use Rattle.std.specs.Str.{IsAscii}
 use Rattle.std.proofs.lemmas.Bool.{cases_lt}
 use Rattle.spec_lexing.specs.declared.token.Token.{Token}
 use Rattle.spec_lexing.proofs.KindsLemmas.{some_tokens}
-use Rattle.spec_lbnf.specs.Expansion.{Expansion}
+use Rattle.spec_grammar.specs.Grammars.{Grammar}
 use Rattle.spec_session.specs.Script.{Constituent, Command, header, grammar, opens, has, line_of, block_of, text_of, IsWithinLimits, AreQuestions, IsInOrder, Begins, GoesOn, IsAtEnd, Ending, ended, broken, IsScript}
 use Rattle.spec_session.specs.Replies.{grammar_reply, version_reply, HasCategory, first_of, end_of, IsWithin, IsOutside, IsDerived, unknown_category_line, outside_line, yes_line, no_line, IsAnswer, refused_category, refused_span, yes, no, IsCurrent}
 use Rattle.spec_session.specs.Sessions.{AreReplies, last_line, last_status, IsSession, refused, whole}
@@ -110,7 +110,7 @@ module _ (input : List ℕ) where
   some_script : IsUndeniable HasScript
   some_script = script_from (suc (length input)) [] 0 input (omega arith) tt (refl, refl)
 
-module _ (g : Expansion) (tokens : List Token) (constituent : Constituent) where
+module _ (g : Grammar) (tokens : List Token) (constituent : Constituent) where
   -- the question has an answer
   abbrev HasAnswer : Type 0
   HasAnswer = (line : List ℕ) × IsAnswer g tokens constituent line
@@ -151,7 +151,7 @@ module _ (g : Expansion) (tokens : List Token) (constituent : Constituent) where
         | inr other ↦ denied (unknown_category_line, refused_category other refl)
       ])
 
-module _ (g : Expansion) where
+module _ (g : Grammar) where
   -- questions on a current text of ASCII have replies
   some_replies :
       (texts : List (List ℕ)) (text : List ℕ) → IsCurrent texts text → IsAscii text →
@@ -159,7 +159,7 @@ module _ (g : Expansion) where
       IsUndeniable ((out : List ℕ) × AreReplies g texts questions out)
   some_replies texts text current ascii [] are denied = denied ([], refl)
   some_replies texts text current ascii (has constituent ∷ questions) are denied =
-      let tokens = some_tokens g.kinds text ascii in
+      let tokens = some_tokens g.lexicon.kinds text ascii in
       some_answer g tokens.0 constituent
       (λ (answer : HasAnswer g tokens.0 constituent).
       some_replies texts text current ascii questions are
@@ -176,7 +176,7 @@ module _ (g : Expansion) where
       (questions : List Command) → AreQuestions questions →
       IsUndeniable ((out : List ℕ) × AreReplies g [] (opens text ∷ questions) out)
   replies_from_text text ascii questions are denied =
-      let tokens = some_tokens g.kinds text ascii in
+      let tokens = some_tokens g.lexicon.kinds text ascii in
       let line : List ℕ = version_reply 0 (length tokens.0) in
       some_replies (text ∷ []) text ([], refl) ascii questions are
       (λ (others : (out : List ℕ) × AreReplies g (text ∷ []) questions out).
@@ -185,7 +185,7 @@ module _ (g : Expansion) where
 -- the commands behind a grammar have replies, whatever the grammar is
 abbrev HaveReplies : List Command → Type 0
 HaveReplies commands =
-    (g : Expansion) → IsUndeniable ((out : List ℕ) × AreReplies g [] commands out)
+    (g : Grammar) → IsUndeniable ((out : List ℕ) × AreReplies g [] commands out)
 
 module _ (input : List ℕ) where
   -- a script with a grammar has a session, where the commands behind the grammar have replies

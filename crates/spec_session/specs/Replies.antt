@@ -8,7 +8,8 @@ use Rattle.spec_lexing.specs.Tokens.{AreTokensOf, kinds_of}
 use Rattle.spec_lbnf.specs.declared.definition.Def.{Def}
 use Rattle.spec_lbnf.specs.Faults.{Spells, IsFirstFault, FileFault, too_large, not_utf8, syntax}
 use Rattle.spec_lbnf.specs.Faults.{unsupported, unbuilt}
-use Rattle.spec_lbnf.specs.Expansion.{Expansion, expansion_of, symbol_count}
+use Rattle.spec_grammar.specs.Grammars.{Grammar, symbol_count}
+use Rattle.spec_lbnf.specs.Expansion.{expansion_of}
 use Rattle.spec_lbnf.specs.Checks.{AreFit, IsUnfit, Unfitness, bad_coercion, bad_list}
 use Rattle.spec_lbnf.specs.Checks.{too_many_rules, repeated_token, unknown_category, unbuilt_name}
 use Rattle.spec_lbnf.specs.Checks.{cyclic_category}
@@ -25,16 +26,16 @@ pub record AreAccepted (defs : List Def) : Type 0 where
   pub few : symbol_count (expansion_of defs) ≤ 2048
 
 -- the block is accepted as this grammar
-abbrev pub IsAccepted : List ℕ → Expansion → Type 0
+abbrev pub IsAccepted : List ℕ → Grammar → Type 0
 IsAccepted block g =
     (defs : List Def) × Spells block defs × AreAccepted defs × (g ≡ expansion_of defs)
 
 -- the reply to a grammar that is accepted: how many rules, categories and kinds it has
-abbrev pub grammar_reply : Expansion → List ℕ
+abbrev pub grammar_reply : Grammar → List ℕ
 grammar_reply g =
     codes "grammar rules " ++ (decimal (length g.rules)
     ++ (codes " categories " ++ (decimal (length g.categories)
-    ++ (codes " kinds " ++ as_line (decimal (length g.kinds))))))
+    ++ (codes " kinds " ++ as_line (decimal (length g.lexicon.kinds))))))
 
 -- the line that refuses a grammar for this reason
 abbrev pub refusal_line : List ℕ → List ℕ
@@ -96,18 +97,18 @@ version_reply number tokens =
     codes "version " ++ (decimal number ++ (codes " tokens " ++ as_line (decimal tokens)))
 
 -- the grammar's entry is this category
-abbrev pub IsEntry : Expansion → ℕ → Type 0
+abbrev pub IsEntry : Grammar → ℕ → Type 0
 IsEntry g category = g.entry ≡ Some (Category category)
 
 -- the constituent is of this category of the grammar: of its entry, or of one with the name
-abbrev pub IsOfCategory : Expansion → Constituent → ℕ → Type 0
+abbrev pub IsOfCategory : Grammar → Constituent → ℕ → Type 0
 IsOfCategory g entry_whole category = IsEntry g category
 IsOfCategory g (category_whole name) category = slice_get g.categories category ≡ Some name
 IsOfCategory g (category_span name first end) category =
     slice_get g.categories category ≡ Some name
 
 -- the constituent is of some category of the grammar
-abbrev pub HasCategory : Expansion → Constituent → Type 0
+abbrev pub HasCategory : Grammar → Constituent → Type 0
 HasCategory g constituent = (category : ℕ) × IsOfCategory g constituent category
 
 -- the place at which the constituent begins
@@ -133,7 +134,7 @@ IsOutside size constituent =
     (end_of size constituent < first_of constituent) ⊎ (size < end_of size constituent)
 
 -- a category of the constituent derives its tokens
-pub record IsDerived (g : Expansion) (tokens : List Token) (constituent : Constituent)
+pub record IsDerived (g : Grammar) (tokens : List Token) (constituent : Constituent)
     : Type 0 where
   pub category : ℕ
   pub is_category : IsOfCategory g constituent category
@@ -158,7 +159,7 @@ no_line = as_line (codes "no")
 
 -- the answer to whether a constituent is derived: yes or no by derivation,
 -- and a refusal where it is of no category, or else where it is no span of the text
-pub data IsAnswer (g : Expansion) (tokens : List Token) (constituent : Constituent)
+pub data IsAnswer (g : Grammar) (tokens : List Token) (constituent : Constituent)
     (line : List ℕ) : Type 0 where
   refused_category : (HasCategory g constituent → ⊥) → line ≡ unknown_category_line
       → IsAnswer g tokens constituent line
@@ -181,12 +182,12 @@ abbrev pub IsCurrent : List (List ℕ) → List ℕ → Type 0
 IsCurrent texts text = (older : List (List ℕ)) × (texts ≡ older ++ text ∷ [])
 
 -- the reply to a text or a question, under a grammar and with the texts so far
-abbrev pub IsReply : Expansion → List (List ℕ) → Command → List ℕ → Type 0
+abbrev pub IsReply : Grammar → List (List ℕ) → Command → List ℕ → Type 0
 IsReply g texts header line = ⊥
 IsReply g texts (grammar block) line = ⊥
 IsReply g texts (opens text) line =
-    (tokens : List Token) × AreTokensOf g.kinds text tokens
+    (tokens : List Token) × AreTokensOf g.lexicon.kinds text tokens
     × (line ≡ version_reply (length texts) (length tokens))
 IsReply g texts (has constituent) line =
-    (text : List ℕ) × (tokens : List Token) × IsCurrent texts text × AreTokensOf g.kinds text tokens
-    × IsAnswer g tokens constituent line
+    (text : List ℕ) × (tokens : List Token) × IsCurrent texts text
+    × AreTokensOf g.lexicon.kinds text tokens × IsAnswer g tokens constituent line
