@@ -7,7 +7,7 @@ use Rattle.spec_lbnf.specs.declared.definition.Def.{Def}
 use Rattle.spec_lbnf.specs.declared.token.PlacedToken.{PlacedToken}
 use Rattle.spec_lbnf.specs.GrammarFile.{is_semicolon}
 use Rattle.spec_lbnf.specs.Faults.{FileFault}
-use Rattle.spec_lbnf.specs.FileDefinitions.{piece_at, behind_piece, offset_of, piece_def, and_defs, defs_at, defs_of}
+use Rattle.lbnf_readers.specs.FileDefinitions.{piece_at, behind_piece, offset_of, piece_def, and_defs, defs_at, defs_of}
 
 -- the token ends a piece
 abbrev pub ends_piece : PlacedToken → Bool

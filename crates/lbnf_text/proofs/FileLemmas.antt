@@ -3,9 +3,9 @@ use Rattle.std.proofs.Common.{◌≡◌, ℕ, ◌+◌, ◌≤◌, List, [], ◌�
 use Rattle.spec_lbnf.specs.declared.definition.Def.{Def}
 use Rattle.spec_lbnf.specs.declared.token.PlacedToken.{PlacedToken}
 use Rattle.spec_lbnf.specs.FileTokens.{IsScan}
-use Rattle.spec_lbnf.specs.FileLaws.{RiseTo}
+use Rattle.lbnf_readers.specs.FileLaws.{RiseTo}
 use Rattle.spec_lbnf.specs.Faults.{IsFirstFault, FileFault}
-use Rattle.spec_lbnf.proofs.ScanLemmas.{offsets_rise}
+use Rattle.lbnf_readers.proofs.ScanLemmas.{offsets_rise}
 use Rattle.lbnf_text.specs.declared.fault.TextFault.{TextFault}
 use Rattle.lbnf_text.specs.Faulting.{Reads}
 use Rattle.lbnf_text.specs.Reading.{IsSmallText, ReadsFile, file_fault_of}

@@ -1,7 +1,11 @@
--- What is true of expansion and of its checks, for every list of definitions.
-use Rattle.std.specs.Prelude.{◌≡◌, ℕ, ◌↔◌, List, Some, slice_get, Contains, IfSome}
+-- What is true of expansion and of its checks, for every list of definitions, and of the size of
+-- what a file spells.
+use Rattle.std.specs.Prelude.{◌≡◌, ℕ, ◌*◌, ◌≤◌, ◌↔◌, List, length, Some, slice_get, Contains}
+use Rattle.std.specs.Prelude.{IfSome}
 use Rattle.spec_grammar.specs.Cycles.{IsAcyclic}
 use Rattle.spec_lbnf.specs.declared.definition.Def.{Def}
+use Rattle.spec_lbnf.specs.Faults.{Spells}
+use Rattle.spec_lbnf.specs.Limits.{size_of, AreWithinLimits}
 use Rattle.spec_lbnf.specs.Expansion.{Expansion, distinct, number_of, expansion_of, HasOwnSymbols}
 use Rattle.spec_lbnf.specs.Expansion.{IsSymbolOf}
 use Rattle.spec_lbnf.specs.Checks.{AreAllKnown, IsFirstCyclic, Unfitness, AreFit, IsUnfit}
@@ -50,3 +54,12 @@ pub record IsDistinctOf (names xs : List (List ℕ)) : Type 0 where
 -- the list that `distinct` gives has each name of the list once
 abbrev pub DistinctNames : Type 0
 DistinctNames = (names : List (List ℕ)) → IsDistinctOf names (distinct names)
+
+-- a file has at least two bytes for each of these
+abbrev pub TwoBytesForEach : Type 0
+TwoBytesForEach =
+    (bytes : List ℕ) (defs : List Def) → Spells bytes defs → 2 * size_of defs ≤ length bytes
+
+-- what a file spells is within the limits
+abbrev pub DefsWithinLimits : Type 0
+DefsWithinLimits = (bytes : List ℕ) (defs : List Def) → Spells bytes defs → AreWithinLimits defs

@@ -9,11 +9,11 @@ use Rattle.spec_lbnf.specs.declared.definition.Def.{Def}
 use Rattle.spec_lbnf.specs.declared.definition.Def.TheVariants.{Rule}
 use Rattle.spec_lbnf.specs.Faults.{Spells, IsFirstFault, syntax}
 use Rattle.spec_lbnf.specs.Checks.{IsUnfit, bad_coercion}
-use Rattle.spec_lbnf.specs.Scanning.{scan_of, behind_closing, behind_space, identifier_at, number_token_at, literal_from, string_at, character_at, sign_token_at, token_at, tokens_from}
-use Rattle.spec_lbnf.specs.FileReading.{next_on, take_token, sign_at, name_at, text_at, number_at, closes_at, bracketed_at, category_at, nil_at, one_at, colon_label_at, paren_label_at, sign_label_at, label_at, item_at, items_at, side_at, rule_at, macro_at, list_macro_at, coercions_at, more_entries_at, entries_at, to_end, def_by, def_at}
-use Rattle.spec_lbnf.specs.FileDefinitions.{piece_def, defs_at}
-use Rattle.spec_lbnf.proofs.ScanLemmas.{scanned}
-use Rattle.spec_lbnf.proofs.FaultLemmas.{defs_are, fault_is}
+use Rattle.lbnf_readers.specs.Scanning.{scan_of, behind_closing, behind_space, identifier_at, number_token_at, literal_from, string_at, character_at, sign_token_at, token_at, tokens_from}
+use Rattle.lbnf_readers.specs.FileReading.{next_on, take_token, sign_at, name_at, text_at, number_at, closes_at, bracketed_at, category_at, nil_at, one_at, colon_label_at, paren_label_at, sign_label_at, label_at, item_at, items_at, side_at, rule_at, macro_at, list_macro_at, coercions_at, more_entries_at, entries_at, to_end, def_by, def_at}
+use Rattle.lbnf_readers.specs.FileDefinitions.{piece_def, defs_at}
+use Rattle.lbnf_readers.proofs.ScanLemmas.{scanned}
+use Rattle.lbnf_readers.proofs.FaultLemmas.{defs_are, fault_is}
 use Rattle.spec_session.specs.Script.{Command, header, grammar, opens, has, line_of, block_of, text_of, IsWithinLimits, IsInOrder, broken, IsScript}
 use Rattle.spec_session.specs.Replies.{as_line, IsRefused, faulty, unfit, fault_reason, unfit_reason, refusal_line, with_number}
 use Rattle.spec_session.specs.Sessions.{last_line, IsSession, refused, whole}

@@ -10,7 +10,7 @@ use Rattle.spec_lbnf.specs.Checks.{IsKnown, NamesKnown, AreAllKnown, IsFirstUnkn
 use Rattle.spec_lbnf.specs.Checks.{IsWellLabelled, HasFewRules, AreFit, IsUnfit, Unfitness, AtLabels, bad_coercion, bad_list, too_many_rules, repeated_token, unknown_fault, cyclic_category}
 use Rattle.spec_lbnf.proofs.ListLemmas.{item_at}
 use Rattle.spec_lbnf.proofs.SymbolLemmas.{own_symbols}
-use Rattle.spec_lbnf.proofs.FaultLemmas.{defs_or_fault}
+use Rattle.lbnf_readers.proofs.FaultLemmas.{defs_or_fault}
 use Rattle.spec_grammar.specs.Cycles.{IsCyclic, IsAcyclic}
 use Rattle.spec_session.specs.Replies.{IsAccepted, AreAccepted, IsRefused, IsRefusedFor, faulty, unfit, too_many_symbols, fault_reason, unfit_reason, symbols_reason, refusal_line}
 use Rattle.spec_session.proofs.DenialLemmas.{IsUndeniable, decided, FirstWithout, AllOrFirst, all_or_first, first_place, holds_earlier}

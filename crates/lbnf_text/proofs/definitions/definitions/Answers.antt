@@ -2,7 +2,7 @@ use Rattle.std.proofs.Common.{◌≡◌, ◌++◌, ◌∷◌, [], ◌∙◌, Lis
 use Rattle.std.proofs.lemmas.Result.{err_from_is_err_and}
 use Rattle.std.proofs.lemmas.Option.{IfSome_then}
 use Rattle.spec_lbnf.specs.declared.token.PlacedToken.{PlacedToken}
-use Rattle.spec_lbnf.specs.FileDefinitions.{piece_at, behind_piece}
+use Rattle.lbnf_readers.specs.FileDefinitions.{piece_at, behind_piece}
 use Rattle.lbnf_text.specs.Reading.{file_fault_of}
 use Rattle.lbnf_text.proofs.DefinitionsLemmas.{AreReadDefs, skip_semicolon, shorter, no_defs, more_defs, all_read}
 use Rattle.lbnf_text.proofs.definitions.definitions.Goals as goal

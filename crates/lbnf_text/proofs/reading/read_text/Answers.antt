@@ -2,8 +2,8 @@ use Rattle.std.proofs.Common.{Vec, Global, ◌≡◌, ◌<◌, length, rules, ar
 use Rattle.std.proofs.lemmas.Result.{err_from_is_err_and}
 use Rattle.spec_lbnf.specs.declared.definition.Def.{Def}
 use Rattle.spec_lbnf.specs.FileTokens.{IsScan}
-use Rattle.spec_lbnf.specs.FileDefinitions.{defs_of}
-use Rattle.spec_lbnf.proofs.FaultLemmas.{defs_are, stop_is, fault_is}
+use Rattle.lbnf_readers.specs.FileDefinitions.{defs_of}
+use Rattle.lbnf_readers.proofs.FaultLemmas.{defs_are, stop_is, fault_is}
 use Rattle.lbnf_text.proofs.FileLemmas.{told_fault, stop_within, few_tokens}
 use Rattle.lbnf_text.proofs.reading.read_text.Goals as goal
 
