@@ -4,7 +4,7 @@ ghost use Rattle.spec_lbnf.specs.Limits.{AreWithinLimits};
 ghost use Rattle.spec_lbnf.specs.Expansion.{rules_of, categories_of, words_of, expansion_of};
 ghost use Rattle.spec_lbnf.specs.Checks.{HasFewRules, AreAllKnown};
 ghost use Rattle.spec_lexing.specs.declared.kind_def.KindDef.TheVariants.{Word as WordKind};
-ghost use Rattle.lbnf_grammar.specs.Grammars.{Expands, Tells};
+ghost use Rattle.lbnf_grammar.specs.Grammars.{Expands, IsSuchOrMemory};
 ghost use Rattle.lbnf_grammar.specs.Checking.{PassesCycles, AtCycleOf};
 ghost use Rattle.lbnf_grammar.specs.Numbering.{AreFew};
 ghost use Rattle.lbnf_grammar.specs.Ranks.{IsLeastCyclic};
@@ -13,7 +13,6 @@ use crate::checking::{check_named, check_own_names};
 use crate::counting::check_count;
 use crate::cycle_check::{CycleCheck, check_cycles};
 use crate::entry::entry_symbol;
-use crate::fault::GrammarFault;
 use crate::grammar::Grammar;
 use crate::labels::check_labels;
 use crate::macros::rules_of;
@@ -21,6 +20,7 @@ use crate::numbering::numbered_rules;
 use crate::parts::GrammarParts;
 use crate::tables::{Tables, tables_of};
 use lbnf_text::{Def, Defs, RawRule, copy_name};
+use spec_lbnf::GrammarFault;
 use spec_lexing::KindDef;
 use spec_text::Name;
 use std::alloc::{AllocError, Global};
@@ -71,7 +71,7 @@ fn numbered_parts(alloc: Global, defs: &[Def]) -> Result<GrammarParts, AllocErro
 /// That the category reaches itself, or that memory ran out.
 fn cyclic(alloc: Global, parts: &GrammarParts, category: u16) -> GrammarFault
     requires first { IsLeastCyclic parts.now category }
-    ensures { Tells (AtCycleOf parts.now) result }
+    ensures { IsSuchOrMemory (AtCycleOf parts.now) result }
 {
     match copy_name(alloc, &parts.categories()[category as usize]) {
         Ok(name) => GrammarFault::Cyclic { name },

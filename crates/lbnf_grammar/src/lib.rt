@@ -7,7 +7,6 @@ mod cycle_check;
 mod cycles;
 mod entry;
 mod expanding;
-mod fault;
 mod grammar;
 mod labels;
 mod macros;
@@ -23,7 +22,7 @@ mod tables;
 mod texts;
 
 pub use expanding::expand;
-pub use fault::GrammarFault;
+pub use spec_lbnf::GrammarFault;
 pub use grammar::Grammar;
 pub use nullable::nullable_categories;
 pub use spec_grammar::{Rule, Symbol};

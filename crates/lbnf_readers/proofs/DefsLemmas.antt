@@ -10,7 +10,9 @@ use Rattle.spec_lbnf.specs.declared.token.FileToken.TheVariants.{Identifier}
 use Rattle.spec_lbnf.specs.declared.token.FileToken.TheVariants.{Sign as SignToken}
 use Rattle.spec_lbnf.specs.declared.token.PlacedToken.{PlacedToken}
 use Rattle.spec_lbnf.specs.GrammarFile.{category_tokens, SpellsDef, is_semicolon, pieces_of, AreSpelledBy, SpellsDefs}
-use Rattle.spec_lbnf.specs.Faults.{FileFault, syntax, bare, CanGoOn, HasLongCategory, last_piece, piece_fault, token_fault, at_token, at_bytes, at_end, IsFirstLong, FaultsAt, at_long, behind as goes_no_further}
+use Rattle.spec_lbnf.specs.declared.fault.TextFault.{TextFault}
+use Rattle.spec_lbnf.specs.declared.fault.TextFault.TheVariants.{Syntax}
+use Rattle.spec_lbnf.specs.Faults.{bare, CanGoOn, HasLongCategory, last_piece, piece_fault, token_fault, at_token, at_bytes, at_end, IsFirstLong, FaultsAt, at_long, behind as goes_no_further}
 use Rattle.lbnf_readers.specs.FileReading.{Read, got, stuck, long, def_at}
 use Rattle.lbnf_readers.specs.FileDefinitions.{piece_at, behind_piece, offset_of, def_or_fault, piece_def, and_defs, defs_at, defs_of}
 use Rattle.spec_lbnf.proofs.BoundaryLemmas.{IsClosed, IsOpenFront, LacksLong, closed_both, lacks_both, long_of_one, one_closed, nothing_closed}
@@ -21,7 +23,7 @@ use Rattle.lbnf_readers.proofs.DefLemmas.{DefOf, def_tells, def_some}
 use Rattle.spec_lbnf.proofs.PieceLemmas.{AreWithin, within_front, within_def, pieces_behind, one_piece, pieces_semicolon, pieces_ended, last_within, last_behind, semicolon_is, spelled_both, spelled_within, spelled_count}
 
 -- a semicolon that cannot stand is a fault of syntax
-semicolon_fault : (number : ℕ) (piece : List FileToken) (at : ℕ) → piece_fault number piece (SignToken Semicolon) at ≡ syntax at
+semicolon_fault : (number : ℕ) (piece : List FileToken) (at : ℕ) → piece_fault number piece (SignToken Semicolon) at ≡ Syntax at
 semicolon_fault number [] at = refl
 semicolon_fault number (Identifier first ∷ []) at = refl
 semicolon_fault number (Identifier first ∷ Identifier label ∷ []) at = refl
@@ -159,7 +161,7 @@ cut_parts all earlier piece after front rest whole e =
 
 module _ (bytes : List ℕ) (all : List PlacedToken) (stop : ℕ) where
   -- the tokens have a first fault
-  pub record HasFault (fault : FileFault) : Type 0 where
+  pub record HasFault (fault : TextFault) : Type 0 where
     pub front : List PlacedToken
     pub rest : List PlacedToken
     pub split : all ≡ front ++ rest
@@ -167,7 +169,7 @@ module _ (bytes : List ℕ) (all : List PlacedToken) (stop : ℕ) where
     pub faults : FaultsAt bytes all stop front fault
 
   -- the tokens spell the definitions with these behind them, or have this fault
-  abbrev pub Outcome : List Def → Result (List Def) FileFault → Type 0
+  abbrev pub Outcome : List Def → Result (List Def) TextFault → Type 0
   Outcome defs (Ok more) = SpellsDefs (defs ++ more) (bare all) × LacksLong (bare all)
   Outcome defs (Err fault) = HasFault fault
 
@@ -246,7 +248,7 @@ module _ (bytes : List ℕ) (all : List PlacedToken) (stop : ℕ) where
             is.blocked (token.token ∷ begun.0) one.0 [] (begun.0, refl) (one.1, refl)
 
     -- the piece ends too early
-    stuck_behind : IsStuckAt IsNothing DefOf piece [] → Fits false (bare after) → HasFault (syntax (offset_of after stop))
+    stuck_behind : IsStuckAt IsNothing DefOf piece [] → Fits false (bare after) → HasFault (Syntax (offset_of after stop))
     stuck_behind is fits = by after whole fits
       where
         front_is : is.front ≡ piece
@@ -274,7 +276,7 @@ module _ (bytes : List ℕ) (all : List PlacedToken) (stop : ℕ) where
             no_def one.0 one.1
 
         by : (after : List PlacedToken) → all ≡ earlier ++ (piece ++ after) → Fits false (bare after)
-            → HasFault (syntax (offset_of after stop))
+            → HasFault (Syntax (offset_of after stop))
         by [] whole fits = record {
           front = earlier ++ piece;
           rest = [];
@@ -302,14 +304,14 @@ module _ (bytes : List ℕ) (all : List PlacedToken) (stop : ℕ) where
         }
 
     -- the piece has a category that is too long
-    too_long : (rest : List PlacedToken) → IsLongAt IsNothing DefOf piece rest → HasFault (syntax (offset_of rest (offset_of after stop)))
+    too_long : (rest : List PlacedToken) → IsLongAt IsNothing DefOf piece rest → HasFault (Syntax (offset_of rest (offset_of after stop)))
     too_long rest is = by is.begins.own is.begins.whole is.begins.spelled is.goes_on
       where
         before_closed : IsClosed (bare (earlier ++ is.front))
         before_closed = rw (bare-append earlier is.front) (closed_both (bare earlier) (bare is.front) done.closed is.closed)
 
         by : (own : List PlacedToken) → rest ≡ own ++ is.begins.behind → bare own ≡ category_tokens is.begins.cat
-            → GoesOn IsNothing DefOf (bare is.front ++ bare own) → HasFault (syntax (offset_of rest (offset_of after stop)))
+            → GoesOn IsNothing DefOf (bare is.front ++ bare own) → HasFault (Syntax (offset_of rest (offset_of after stop)))
         by [] e spelled goes =
             absurd (category_some is.begins.cat [] (append-nil (category_tokens is.begins.cat) ∙ sym spelled))
         by (token ∷ own) e spelled goes = record {
@@ -318,7 +320,7 @@ module _ (bytes : List ℕ) (all : List PlacedToken) (stop : ℕ) where
           split = cut_parts all earlier piece after (is.front ++ token ∷ own) is.begins.behind whole
               (is.whole ∙ ap (λ ts. is.front ++ ts) e ∙ sym (append_assoc is.front (token ∷ own) is.begins.behind));
           viable = viable_front (is.front ++ token ∷ own) (rw (bare-append is.front (token ∷ own)) goes);
-          faults = at_long token.offset first_long (ap (λ ts. syntax (offset_of ts (offset_of after stop))) e);
+          faults = at_long token.offset first_long (ap (λ ts. Syntax (offset_of ts (offset_of after stop))) e);
         }
           where
             split_long : earlier ++ (is.front ++ token ∷ own) ≡ (earlier ++ is.front) ++ token ∷ own
@@ -372,7 +374,7 @@ module _ (bytes : List ℕ) (all : List PlacedToken) (stop : ℕ) where
         none (token ∷ rest) e = absurd (cc e)
 
     -- what is read of a piece, and of the tokens behind it
-    read_piece : (x : Read Def) → Tells IsNothing DefOf piece x → Fits false (bare after) → (behind : Result (List Def) FileFault)
+    read_piece : (x : Read Def) → Tells IsNothing DefOf piece x → Fits false (bare after) → (behind : Result (List Def) TextFault)
         → ((def : Def) → IsDone false (earlier ++ piece) (defs ++ def ∷ []) → Outcome (defs ++ def ∷ []) behind)
         → Outcome defs (and_defs (def_or_fault number piece (offset_of after stop) x) behind)
     read_piece (got def rest) is fits (Ok more) behind_is =

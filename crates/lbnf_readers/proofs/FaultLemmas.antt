@@ -14,7 +14,9 @@ use Rattle.spec_lbnf.specs.declared.token.FileToken.TheVariants.{Sign as SignTok
 use Rattle.spec_lbnf.specs.declared.token.PlacedToken.{PlacedToken}
 use Rattle.spec_lbnf.specs.FileTokens.{IsScan, AreTokensTo, BeginsWith}
 use Rattle.spec_lbnf.specs.GrammarFile.{category_tokens, SpellsDefs, AreSpelledBy, pieces_of}
-use Rattle.spec_lbnf.specs.Faults.{FileFault, too_large, not_utf8, syntax, bare, CanGoOn, HasLongCategory, token_fault, StopsBehind, at_token, at_bytes, at_end, IsFirstLong, FaultsAt, at_long, behind as goes_no_further, Spells, IsTokenFault, IsFirstFault, is_large, is_not_utf8, in_tokens}
+use Rattle.spec_lbnf.specs.declared.fault.TextFault.{TextFault}
+use Rattle.spec_lbnf.specs.declared.fault.TextFault.TheVariants.{NotUtf8, Syntax, TooLarge}
+use Rattle.spec_lbnf.specs.Faults.{bare, CanGoOn, HasLongCategory, token_fault, StopsBehind, at_token, at_bytes, at_end, IsFirstLong, FaultsAt, at_long, behind as goes_no_further, Spells, IsTokenFault, IsFirstFault, is_large, is_not_utf8, in_tokens}
 use Rattle.lbnf_readers.specs.FileDefinitions.{defs_of}
 use Rattle.lbnf_readers.specs.ReadingLaws.{OneListOfDefs, OneFileOfDefs, OneFirstFault, SpelledOrFaulty, DefsOrFault}
 use Rattle.spec_lbnf.proofs.BoundaryLemmas.{LacksLong, two_cuts, long_before, long_of_one, IsShort}
@@ -102,7 +104,7 @@ no_longer front gap rest token whole =
 
 module _ (bytes : List ℕ) (all : List PlacedToken) (stop : ℕ) where
   -- where a front goes no further, no longer front can go on
-  no_gap : (front gap rest : List PlacedToken) (fault : FileFault) → StopsBehind bytes all stop front fault
+  no_gap : (front gap rest : List PlacedToken) (fault : TextFault) → StopsBehind bytes all stop front fault
       → all ≡ (front ++ gap) ++ rest → CanGoOn (bare (front ++ gap)) → gap ≡ []
   no_gap front [] rest fault stops split can = refl
   no_gap front (token ∷ gap) rest fault (at_token next others whole stuck is) split can =
@@ -122,7 +124,7 @@ module _ (bytes : List ℕ) (all : List PlacedToken) (stop : ℕ) where
       omega (arith, ap length (sym end ∙ whole), length-append front (token ∷ others))
 
   -- a front goes no further by one fault
-  same_stop : (front : List PlacedToken) (a b : FileFault) → StopsBehind bytes all stop front a → StopsBehind bytes all stop front b → a ≡ b
+  same_stop : (front : List PlacedToken) (a b : TextFault) → StopsBehind bytes all stop front a → StopsBehind bytes all stop front b → a ≡ b
   same_stop front a b (at_token s u whole_s stuck_s is_a) (at_token t v whole_t stuck_t is_b) =
       let e : s ∷ u ≡ t ∷ v = append_cancel_left front (s ∷ u) (t ∷ v) (sym whole_s ∙ whole_t) in
       let same : s ≡ t = cc e in
@@ -137,10 +139,10 @@ module _ (bytes : List ℕ) (all : List PlacedToken) (stop : ℕ) where
   same_stop front a b (at_end whole_s end_s is_a none_s) (at_end whole_t end_t is_b none_t) = is_a ∙ sym is_b
 
   -- faults at a front and at a longer one are one
-  same_fault : (front gap rest : List PlacedToken) (a b : FileFault) → FaultsAt bytes all stop front a → FaultsAt bytes all stop (front ++ gap) b
+  same_fault : (front gap rest : List PlacedToken) (a b : TextFault) → FaultsAt bytes all stop front a → FaultsAt bytes all stop (front ++ gap) b
       → all ≡ (front ++ gap) ++ rest → CanGoOn (bare (front ++ gap)) → a ≡ b
   same_fault front gap rest a b (at_long p first is_a) (at_long q second is_b) split can =
-      is_a ∙ ap syntax (same_long front gap p q first second) ∙ sym is_b
+      is_a ∙ ap Syntax (same_long front gap p q first second) ∙ sym is_b
   same_fault front gap rest a b (at_long p first is_a) (goes_no_further lacks stops) split can =
       absurd (lacks (bare first.before) (rw (bare-append front gap) (long_before (bare front) (bare gap) (bare first.before) first.long)))
   same_fault front gap rest a b (goes_no_further lacks stops) (at_long q second is_b) split can =
@@ -153,7 +155,7 @@ module _ (bytes : List ℕ) (all : List PlacedToken) (stop : ℕ) where
       same_stop front a b stops (subst (λ ts. StopsBehind bytes all stop ts b) is_front other_stops)
 
   -- the tokens have at most one first fault
-  pub one_of_tokens : (a b : FileFault) → HasFault bytes all stop a → HasFault bytes all stop b → a ≡ b
+  pub one_of_tokens : (a b : TextFault) → HasFault bytes all stop a → HasFault bytes all stop b → a ≡ b
   one_of_tokens a b first second = elim (two_cuts first.front first.rest second.front second.rest (sym first.split ∙ second.split)) [
     | inl cut ↦
         same_fault first.front cut.0 second.rest a b first.faults
@@ -235,7 +237,7 @@ module _ (bytes : List ℕ) (tokens : List PlacedToken) (stop : ℕ) (scan : IsS
   -- where the tokens spell definitions, and do not reach the end of the file, it has a fault where
   -- they end
   pub stop_is : (defs : List Def) → length bytes ≤ 65536 → IsUtf8 bytes → stop < length bytes → defs_of tokens stop ≡ Ok defs
-      → IsFirstFault bytes (syntax stop)
+      → IsFirstFault bytes (Syntax stop)
   stop_is defs few utf8 early read =
       let is : SpellsDefs defs (bare tokens) × LacksLong (bare tokens) = subst (Outcome bytes tokens stop []) read scanned_tell in
       in_tokens few utf8 (record {
@@ -250,7 +252,7 @@ module _ (bytes : List ℕ) (tokens : List PlacedToken) (stop : ℕ) (scan : IsS
       })
 
   -- the fault that is read of the tokens is that of the file
-  pub fault_is : (fault : FileFault) → length bytes ≤ 65536 → IsUtf8 bytes → defs_of tokens stop ≡ Err fault → IsFirstFault bytes fault
+  pub fault_is : (fault : TextFault) → length bytes ≤ 65536 → IsUtf8 bytes → defs_of tokens stop ≡ Err fault → IsFirstFault bytes fault
   fault_is fault few utf8 read =
       let is : HasFault bytes tokens stop fault = subst (Outcome bytes tokens stop []) read scanned_tell in
       in_tokens few utf8 (record {
@@ -275,11 +277,11 @@ utf8_whole : (bytes : List ℕ) → utf8_valid_len bytes < length bytes → IsUt
 utf8_whole bytes early utf8 = omega (arith, early, utf8_valid_len-IsUtf8 bytes utf8)
 
 -- the fault of tokens, with the scan set apart
-has_fault : (bytes : List ℕ) (fault : FileFault) → (is : IsTokenFault bytes fault) → HasFault bytes is.tokens is.stop fault
+has_fault : (bytes : List ℕ) (fault : TextFault) → (is : IsTokenFault bytes fault) → HasFault bytes is.tokens is.stop fault
 has_fault bytes fault is = record { front = is.front; rest = is.behind; split = is.split; viable = is.viable; faults = is.faults }
 
 -- a file's tokens have at most one first fault
-one_token_fault : (bytes : List ℕ) (a b : FileFault) → IsTokenFault bytes a → IsTokenFault bytes b → a ≡ b
+one_token_fault : (bytes : List ℕ) (a b : TextFault) → IsTokenFault bytes a → IsTokenFault bytes b → a ≡ b
 one_token_fault bytes a b first second =
     let same = one_list (length bytes) first.tokens second.tokens bytes first.stop second.stop first.scan second.scan in
     one_of_tokens bytes second.tokens second.stop a b
@@ -300,7 +302,7 @@ one_first_fault bytes a b (in_tokens few utf8 is_a) (is_not_utf8 also early is_b
 one_first_fault bytes a b (in_tokens few utf8 is_a) (in_tokens also again is_b) = one_token_fault bytes a b is_a is_b
 
 -- tokens that spell definitions up to the end of the file have no fault
-no_fault_of_spelled : (bytes : List ℕ) (tokens : List PlacedToken) (stop : ℕ) (defs : List Def) (fault : FileFault)
+no_fault_of_spelled : (bytes : List ℕ) (tokens : List PlacedToken) (stop : ℕ) (defs : List Def) (fault : TextFault)
     → stop ≡ length bytes → SpellsDefs defs (bare tokens) → LacksLong (bare tokens) → HasFault bytes tokens stop fault → ⊥
 no_fault_of_spelled bytes tokens stop defs fault end spelled lacks has = by has.faults
   where
@@ -327,7 +329,7 @@ spelled_or_faulty bytes defs fault spelled (in_tokens few utf8 is) =
 
 -- a file spells definitions, or has a fault
 abbrev HasAnswer : List ℕ → Type 0
-HasAnswer bytes = ((defs : List Def) × Spells bytes defs) ⊎ ((fault : FileFault) × IsFirstFault bytes fault)
+HasAnswer bytes = ((defs : List Def) × Spells bytes defs) ⊎ ((fault : TextFault) × IsFirstFault bytes fault)
 
 -- a file of UTF-8 that is not too large has one of the two
 utf8_answer : (bytes : List ℕ) → length bytes ≤ 65536 → IsUtf8 bytes → HasAnswer bytes
@@ -342,18 +344,18 @@ utf8_answer bytes few utf8 = by (defs_of tokens stop) refl (before_or_at stop (l
     scan : IsScan bytes tokens stop
     scan = scanned bytes
 
-    by : (x : Result (List Def) FileFault) → defs_of tokens stop ≡ x → (stop < length bytes) ⊎ (stop ≡ length bytes) → HasAnswer bytes
-    by (Ok defs) read (inl early) = inr (syntax stop, stop_is bytes tokens stop scan defs few utf8 early read)
+    by : (x : Result (List Def) TextFault) → defs_of tokens stop ≡ x → (stop < length bytes) ⊎ (stop ≡ length bytes) → HasAnswer bytes
+    by (Ok defs) read (inl early) = inr (Syntax stop, stop_is bytes tokens stop scan defs few utf8 early read)
     by (Ok defs) read (inr end) = inl (defs, defs_are bytes tokens stop scan defs few utf8 end read)
     by (Err fault) read ends = inr (fault, fault_is bytes tokens stop scan fault few utf8 read)
 
 -- each file spells definitions or has a first fault
 pub defs_or_fault : DefsOrFault
 defs_or_fault bytes = elim (cases_lt 65536 (length bytes)) [
-  | inl large ↦ inr (too_large (length bytes), is_large large refl)
+  | inl large ↦ inr (TooLarge (length bytes), is_large large refl)
   | inr few ↦ by few (is_utf8 bytes) refl
 ]
   where
     by : length bytes ≤ 65536 → (b : Bool) → is_utf8 bytes ≡ b → HasAnswer bytes
     by few true utf8 = utf8_answer bytes few (IsUtf8-from_is_utf8 bytes utf8)
-    by few false none = inr (not_utf8 (utf8_valid_len bytes), is_not_utf8 few (stops_early bytes none) refl)
+    by few false none = inr (NotUtf8 (utf8_valid_len bytes), is_not_utf8 few (stops_early bytes none) refl)

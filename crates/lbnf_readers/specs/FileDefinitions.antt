@@ -4,7 +4,9 @@ use Rattle.std.specs.Prelude.{ℕ, zero, suc, ◌-◌, List, [], ◌∷◌, leng
 use Rattle.spec_lbnf.specs.declared.definition.Def.{Def}
 use Rattle.spec_lbnf.specs.declared.token.PlacedToken.{PlacedToken}
 use Rattle.spec_lbnf.specs.GrammarFile.{is_semicolon}
-use Rattle.spec_lbnf.specs.Faults.{FileFault, syntax, bare, piece_fault}
+use Rattle.spec_lbnf.specs.declared.fault.TextFault.{TextFault}
+use Rattle.spec_lbnf.specs.declared.fault.TextFault.TheVariants.{Syntax}
+use Rattle.spec_lbnf.specs.Faults.{bare, piece_fault}
 use Rattle.lbnf_readers.specs.FileReading.{Read, got, stuck, long, def_at}
 
 -- the tokens before the first semicolon
@@ -24,27 +26,27 @@ offset_of (token ∷ rest) stop = token.offset
 
 -- the fault of a piece that cannot go on with its last tokens, these, by its number and by the
 -- offset of what stands behind it
-abbrev pub stuck_fault : (number : ℕ) → (piece rest : List PlacedToken) → (stop : ℕ) → FileFault
-stuck_fault number piece [] stop = syntax stop
+abbrev pub stuck_fault : (number : ℕ) → (piece rest : List PlacedToken) → (stop : ℕ) → TextFault
+stuck_fault number piece [] stop = Syntax stop
 stuck_fault number piece (token ∷ rest) stop =
     piece_fault number (bare (take (length piece - length (token ∷ rest)) piece))
     token.token token.offset
 
 -- the definition that was read of a piece, or its fault
 abbrev pub def_or_fault : (number : ℕ) → (piece : List PlacedToken) → (stop : ℕ) → Read Def
-    → Result Def FileFault
+    → Result Def TextFault
 def_or_fault number piece stop (got def rest) = Ok def
 def_or_fault number piece stop (stuck rest) = Err (stuck_fault number piece rest stop)
-def_or_fault number piece stop (long rest) = Err (syntax (offset_of rest stop))
+def_or_fault number piece stop (long rest) = Err (Syntax (offset_of rest stop))
 
 -- the definition of a piece, or its fault
 unfoldable pub piece_def : (number : ℕ) → (piece : List PlacedToken) → (stop : ℕ)
-    → Result Def FileFault
+    → Result Def TextFault
 piece_def number piece stop = def_or_fault number piece stop (def_at piece)
 
 -- a definition, and those behind it
-abbrev pub and_defs : Result Def FileFault → Result (List Def) FileFault
-    → Result (List Def) FileFault
+abbrev pub and_defs : Result Def TextFault → Result (List Def) TextFault
+    → Result (List Def) TextFault
 and_defs (Ok def) (Ok defs) = Ok (def ∷ defs)
 and_defs (Ok def) (Err fault) = Err fault
 and_defs (Err fault) others = Err fault
@@ -52,7 +54,7 @@ and_defs (Err fault) others = Err fault
 -- the definitions of the tokens, or their first fault, where there are no more tokens than turns;
 -- so many definitions stand before them, and this offset is behind them
 unfoldable pub defs_at : (turns number : ℕ) → (tokens : List PlacedToken) → (stop : ℕ)
-    → Result (List Def) FileFault
+    → Result (List Def) TextFault
 defs_at turns number [] stop = Ok []
 defs_at zero number (token ∷ rest) stop = Ok []
 defs_at (suc turns) number (token ∷ rest) stop =
@@ -62,5 +64,5 @@ defs_at (suc turns) number (token ∷ rest) stop =
     (defs_at turns (suc number) (behind_piece (token ∷ rest)) stop))
 
 -- the definitions that all of the tokens are, or their first fault
-abbrev pub defs_of : (tokens : List PlacedToken) → (stop : ℕ) → Result (List Def) FileFault
+abbrev pub defs_of : (tokens : List PlacedToken) → (stop : ℕ) → Result (List Def) TextFault
 defs_of tokens stop = defs_at (length tokens) 0 tokens stop

@@ -3,7 +3,8 @@ use Rattle.std.specs.Prelude.{◌≡◌, ℕ, ◌⊎◌, List}
 use Rattle.spec_lbnf.specs.declared.definition.Def.{Def}
 use Rattle.spec_lbnf.specs.declared.token.FileToken.{FileToken}
 use Rattle.spec_lbnf.specs.GrammarFile.{SpellsDefs}
-use Rattle.spec_lbnf.specs.Faults.{FileFault, Spells, IsFirstFault}
+use Rattle.spec_lbnf.specs.declared.fault.TextFault.{TextFault}
+use Rattle.spec_lbnf.specs.Faults.{Spells, IsFirstFault}
 
 -- tokens spell at most one list of definitions
 abbrev pub OneListOfDefs : Type 0
@@ -17,16 +18,16 @@ OneFileOfDefs = (bytes : List ℕ) (a b : List Def) → Spells bytes a → Spell
 -- a file has at most one first fault
 abbrev pub OneFirstFault : Type 0
 OneFirstFault =
-    (bytes : List ℕ) (a b : FileFault) → IsFirstFault bytes a → IsFirstFault bytes b → a ≡ b
+    (bytes : List ℕ) (a b : TextFault) → IsFirstFault bytes a → IsFirstFault bytes b → a ≡ b
 
 -- no file both spells definitions and has a first fault
 abbrev pub SpelledOrFaulty : Type 0
 SpelledOrFaulty =
-    (bytes : List ℕ) (defs : List Def) (fault : FileFault) → Spells bytes defs
+    (bytes : List ℕ) (defs : List Def) (fault : TextFault) → Spells bytes defs
     → IsFirstFault bytes fault → ⊥
 
 -- each file spells definitions or has a first fault
 abbrev pub DefsOrFault : Type 0
 DefsOrFault =
     (bytes : List ℕ)
-    → ((defs : List Def) × Spells bytes defs) ⊎ ((fault : FileFault) × IsFirstFault bytes fault)
+    → ((defs : List Def) × Spells bytes defs) ⊎ ((fault : TextFault) × IsFirstFault bytes fault)

@@ -4,10 +4,9 @@ ghost use Rattle.spec_lbnf.specs.GrammarFile.{is_semicolon};
 ghost use Rattle.lbnf_readers.specs.FileDefinitions.{piece_at, behind_piece, piece_def, defs_of};
 ghost use Rattle.lbnf_text.specs.Faulting.{Reads};
 
-use crate::fault::TextFault;
 use crate::faults::{offset_of, stuck_fault};
 use crate::parser::{Parser, Stop, first_of, is_sign};
-use spec_lbnf::{Def, FileToken, PlacedToken, Sign};
+use spec_lbnf::{Def, FileToken, PlacedToken, Sign, TextFault};
 use std::alloc::Global;
 
 fn is_semicolon(token: &FileToken) -> bool

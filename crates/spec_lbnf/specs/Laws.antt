@@ -4,11 +4,12 @@ use Rattle.std.specs.Prelude.{◌≡◌, ℕ, ◌*◌, ◌≤◌, ◌↔◌, Lis
 use Rattle.std.specs.Prelude.{IfSome}
 use Rattle.spec_grammar.specs.Cycles.{IsAcyclic}
 use Rattle.spec_lbnf.specs.declared.definition.Def.{Def}
+use Rattle.spec_lbnf.specs.declared.fault.GrammarFault.{GrammarFault}
 use Rattle.spec_lbnf.specs.Faults.{Spells}
 use Rattle.spec_lbnf.specs.Limits.{size_of, AreWithinLimits}
 use Rattle.spec_lbnf.specs.Expansion.{Expansion, distinct, number_of, expansion_of, HasOwnSymbols}
 use Rattle.spec_lbnf.specs.Expansion.{IsSymbolOf}
-use Rattle.spec_lbnf.specs.Checks.{AreAllKnown, IsFirstCyclic, Unfitness, AreFit, IsUnfit}
+use Rattle.spec_lbnf.specs.Checks.{AreAllKnown, IsFirstCyclic, AreFit, IsUnfit}
 
 -- the rules that definitions give have symbols of their grammar alone
 abbrev pub OwnSymbols : Type 0
@@ -22,12 +23,12 @@ OwnEntry =
 
 -- no definitions are fit and unfit
 abbrev pub FitOrUnfit : Type 0
-FitOrUnfit = (defs : List Def) (fault : Unfitness) → AreFit defs → IsUnfit defs fault → ⊥
+FitOrUnfit = (defs : List Def) (fault : GrammarFault) → AreFit defs → IsUnfit defs fault → ⊥
 
 -- definitions are unfit for one reason
 abbrev pub OneUnfitness : Type 0
 OneUnfitness =
-    (defs : List Def) (a b : Unfitness) → IsUnfit defs a → IsUnfit defs b → a ≡ b
+    (defs : List Def) (a b : GrammarFault) → IsUnfit defs a → IsUnfit defs b → a ≡ b
 
 -- no grammar both is without a cycle and has a first cyclic category
 abbrev pub AcyclicOrCyclic : Type 0

@@ -20,9 +20,11 @@ use Rattle.spec_lbnf.specs.declared.definition.RawRule.{RawRule}
 use Rattle.spec_lbnf.specs.declared.definition.Def.{Def}
 use Rattle.spec_lbnf.specs.declared.definition.Def.TheVariants.{Rule, Coercions}
 use Rattle.spec_lbnf.specs.Expansion.{level_rule, bracket_rule, rules_of, expansion_of}
+use Rattle.spec_lbnf.specs.declared.fault.GrammarFault.{GrammarFault}
+use Rattle.spec_lbnf.specs.declared.fault.GrammarFault.TheVariants.{BadCoercion, BadList, Cyclic, RepeatedToken, TooManyRules, Unbuilt, UnknownCategory}
 use Rattle.spec_lbnf.specs.Checks.{IsBadCoercion, IsBadList, IsWellLabelled, predefined_names, IsFree, IsKnown, NamesKnown}
 use Rattle.spec_lbnf.specs.Checks.{IsFirstBad, IsFirstUnknown, IsFirstRepeated, HasOwnNames, IsFirstCyclic, unknown_fault}
-use Rattle.spec_lbnf.specs.Checks.{Unfitness, IsUnfit, AreFit, bad_coercion, bad_list, too_many_rules, repeated_token, unknown_category, unbuilt_name, cyclic_category}
+use Rattle.spec_lbnf.specs.Checks.{IsUnfit, AreFit}
 use Rattle.spec_lbnf_cases.specs.ExpansionExamples.{rule, category}
 use Rattle.spec_lbnf_cases.specs.CheckExamples.{word_rule, passing_rule, element, double_rule, named_list, internal_rule, SmallChecks}
 use Rattle.spec_lbnf.proofs.NameLemmas.{found_there, there_found}
@@ -68,7 +70,7 @@ levels_label name levels some = ((λ bad. omega (arith, some, bad)), (λ bad. ba
 
 -- the second definition is the first bad coercion
 second_coercion : (first second : Def) → IsWellLabelled first → IsBadCoercion second
-    → IsUnfit (first ∷ second ∷ []) (bad_coercion 1)
+    → IsUnfit (first ∷ second ∷ []) (BadCoercion 1)
 second_coercion first second good bad =
     let is_first : IsFirstBad IsBadCoercion (first ∷ second ∷ []) 1 = record {
       def = second;
@@ -79,7 +81,7 @@ second_coercion first second good bad =
     inl (1, inl (is_first, refl))
 
 -- the first definition is a bad list
-first_list : (first : Def) (defs : List Def) → IsBadList first → IsUnfit (first ∷ defs) (bad_list 0)
+first_list : (first : Def) (defs : List Def) → IsBadList first → IsUnfit (first ∷ defs) (BadList 0)
 first_list first defs bad =
     let is_first : IsFirstBad IsBadList (first ∷ defs) 0 = record {
       def = first;
@@ -97,14 +99,14 @@ coercions_count name levels =
 
 -- 1,024 levels are too many
 many_levels : (name : List ℕ) (levels : ℕ) → levels ≡ 1024
-    → IsUnfit (Coercions name levels ∷ []) (too_many_rules (levels + 1))
+    → IsUnfit (Coercions name levels ∷ []) (TooManyRules (levels + 1))
 many_levels name levels are =
     let labelled = all_one IsWellLabelled (Coercions name levels) (levels_label name levels (omega arith)) in
     let count = coercions_count name levels in
-    inr (labelled, inl (omega (arith, are, count), ap too_many_rules (sym count)))
+    inr (labelled, inl (omega (arith, are, count), ap TooManyRules (sym count)))
 
 -- a predefined name with a rule
-own_name : IsUnfit (passing_rule (codes "Integer") (codes "T") ∷ []) (repeated_token (codes "Integer"))
+own_name : IsUnfit (passing_rule (codes "Integer") (codes "T") ∷ []) (RepeatedToken (codes "Integer"))
 own_name =
     let name : List ℕ = codes "Integer" in
     let defs : List Def = passing_rule name (codes "T") ∷ [] in
@@ -146,7 +148,7 @@ module _ (label : Label) (items : List RawItem) (name : List ℕ) (other : bytes
   }
 
   -- where the first rule is good, the category is the first unknown one
-  no_rule : (fault : Unfitness) → IsWellLabelled first_rule → NamesKnown two_rules first_rule
+  no_rule : (fault : GrammarFault) → IsWellLabelled first_rule → NamesKnown two_rules first_rule
       → fault ≡ unknown_fault name 1 → IsUnfit two_rules fault
   no_rule fault good known is =
       let second : IsWellLabelled (passing_rule (codes "S") name) = passing_label (codes "S") name in
@@ -265,7 +267,7 @@ first_cycle = record {
     ends a b step = cycle_steps step.r b step.rule step.before step.behind step.is_rule step.is_item
 
 -- the other checks are passed
-cycle : IsUnfit with_cycle (cyclic_category (codes "S"))
+cycle : IsUnfit with_cycle (Cyclic (codes "S"))
 cycle =
     let first : Def = passing_rule (codes "R") (codes "S") in
     let second : Def = passing_rule (codes "S") (codes "S") in
@@ -277,7 +279,7 @@ cycle =
     inr (labelled, inr (omega arith, inr (own_names, inr (known, (codes "S", first_cycle, refl)))))
 
 -- a word, and a category that no rule has, behind it
-behind_word : (name : List ℕ) (fault : Unfitness) → bytes_eq name (codes "S") ≡ false → fault ≡ unknown_fault name 1
+behind_word : (name : List ℕ) (fault : GrammarFault) → bytes_eq name (codes "S") ≡ false → fault ≡ unknown_fault name 1
     → IsUnfit (word_rule ∷ passing_rule (codes "S") name ∷ []) fault
 behind_word name fault other is =
     let none = All-nil (IsKnown (word_rule ∷ passing_rule (codes "S") name ∷ [])) in
@@ -285,12 +287,12 @@ behind_word name fault other is =
 
 -- a cycle, and such a category behind it
 behind_cycle :
-    IsUnfit (passing_rule (codes "S") (codes "S") ∷ passing_rule (codes "S") (codes "T") ∷ []) (unknown_category (codes "T") 1)
+    IsUnfit (passing_rule (codes "S") (codes "S") ∷ passing_rule (codes "S") (codes "T") ∷ []) (UnknownCategory (codes "T") 1)
 behind_cycle =
     let defs : List Def = passing_rule (codes "S") (codes "S") ∷ passing_rule (codes "S") (codes "T") ∷ [] in
     let is_there : IsKnown defs (codes "S") = found_there (codes "S" ∷ codes "S" ∷ []) (codes "S") refl in
     let good = passing_label (codes "S") (codes "S") in
-    no_rule Wild (element ∷ []) (codes "T") refl (unknown_category (codes "T") 1) good (all_one (IsKnown defs) (codes "S") is_there) refl
+    no_rule Wild (element ∷ []) (codes "T") refl (UnknownCategory (codes "T") 1) good (all_one (IsKnown defs) (codes "S") is_there) refl
 
 pub small_checks : SmallChecks
 small_checks = record {
@@ -309,8 +311,8 @@ small_checks = record {
       let good = levels_label (codes "E") 1024 (omega arith) in
       second_coercion (Coercions (codes "E") 1024) (Coercions (codes "E") 0) good refl;
   own_name = own_name;
-  no_rule = behind_word (codes "T") (unknown_category (codes "T") 1) refl refl;
-  predefined = behind_word (codes "Char") (unbuilt_name 1) refl refl;
+  no_rule = behind_word (codes "T") (UnknownCategory (codes "T") 1) refl refl;
+  predefined = behind_word (codes "Char") (Unbuilt 1) refl refl;
   no_rule_behind_cycle = behind_cycle;
   cycle = cycle;
 }

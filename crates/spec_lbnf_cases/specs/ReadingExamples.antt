@@ -5,7 +5,9 @@ use Rattle.spec_lbnf.specs.declared.definition.CatName.{CatName}
 use Rattle.spec_lbnf.specs.declared.definition.RawItem.TheVariants.{Cat, Word}
 use Rattle.spec_lbnf.specs.declared.definition.Def.TheVariants.{Rule, Internal, Terminator}
 use Rattle.spec_lbnf.specs.declared.definition.Def.TheVariants.{Separator, Coercions, Entry}
-use Rattle.spec_lbnf.specs.Faults.{Spells, IsFirstFault, not_utf8, syntax, unsupported, unbuilt}
+use Rattle.spec_lbnf.specs.declared.fault.TextFault.TheVariants.{NotUtf8, Syntax, Unbuilt}
+use Rattle.spec_lbnf.specs.declared.fault.TextFault.TheVariants.{Unsupported}
+use Rattle.spec_lbnf.specs.Faults.{Spells, IsFirstFault}
 
 -- the category with a name and so many brackets
 abbrev pub cat : ℕ → List ℕ → CatName
@@ -41,21 +43,21 @@ pub record SmallReadings : Type 0 where
   pub coercions : Spells (codes "coercions S 03") (Coercions (codes "S") 3 ∷ [])
   pub entries : Spells (codes "entrypoints S, [T]")
       (Entry (cat 0 (codes "S") ∷ cat 1 (codes "T") ∷ []) ∷ [])
-  pub layout : IsFirstFault (codes " layout") (unsupported (codes "layout") 1)
-  pub nonempty : IsFirstFault (codes "nonempty") (unsupported (codes "nonempty") 0)
-  pub lower_label : IsFirstFault (codes "internal a") (unsupported (codes "a") 9)
-  pub label_paren : IsFirstFault (codes "A(") (unsupported (codes "(") 1)
-  pub internal_paren : IsFirstFault (codes "internal A (") (unsupported (codes "(") 11)
-  pub sign_paren : IsFirstFault (codes "_(") (syntax 1)
-  pub second_is_token : IsFirstFault (codes ";_.S::=;token") (unbuilt 1)
-  pub lower_category : IsFirstFault (codes "_.s") (syntax 2)
-  pub no_item : IsFirstFault (codes "_.S::=S.") (syntax 7)
-  pub early_end : IsFirstFault (codes "_.S ") (syntax 4)
-  pub early_semicolon : IsFirstFault (codes "_.S;") (syntax 3)
-  pub no_token : IsFirstFault (codes "_.S::=S @") (syntax 8)
-  pub open_category : IsFirstFault (codes "_.[S::=") (syntax 4)
-  pub no_entry : IsFirstFault (codes "entrypoints") (syntax 11)
+  pub layout : IsFirstFault (codes " layout") (Unsupported (codes "layout") 1)
+  pub nonempty : IsFirstFault (codes "nonempty") (Unsupported (codes "nonempty") 0)
+  pub lower_label : IsFirstFault (codes "internal a") (Unsupported (codes "a") 9)
+  pub label_paren : IsFirstFault (codes "A(") (Unsupported (codes "(") 1)
+  pub internal_paren : IsFirstFault (codes "internal A (") (Unsupported (codes "(") 11)
+  pub sign_paren : IsFirstFault (codes "_(") (Syntax 1)
+  pub second_is_token : IsFirstFault (codes ";_.S::=;token") (Unbuilt 1)
+  pub lower_category : IsFirstFault (codes "_.s") (Syntax 2)
+  pub no_item : IsFirstFault (codes "_.S::=S.") (Syntax 7)
+  pub early_end : IsFirstFault (codes "_.S ") (Syntax 4)
+  pub early_semicolon : IsFirstFault (codes "_.S;") (Syntax 3)
+  pub no_token : IsFirstFault (codes "_.S::=S @") (Syntax 8)
+  pub open_category : IsFirstFault (codes "_.[S::=") (Syntax 4)
+  pub no_entry : IsFirstFault (codes "entrypoints") (Syntax 11)
   pub deep_category : Spells (one_category 63 (codes "SS"))
       (Rule (record { label = Wild; cat = cat 63 (codes "SS"); items = [] }) ∷ [])
-  pub too_long_category : IsFirstFault (one_category 63 (codes "SSS")) (syntax 2)
-  pub no_utf8 : IsFirstFault (95 ∷ 255 ∷ []) (not_utf8 1)
+  pub too_long_category : IsFirstFault (one_category 63 (codes "SSS")) (Syntax 2)
+  pub no_utf8 : IsFirstFault (95 ∷ 255 ∷ []) (NotUtf8 1)

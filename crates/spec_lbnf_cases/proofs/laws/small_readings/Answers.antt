@@ -6,7 +6,9 @@ use Rattle.std.specs.Str.Lossy.{utf8_valid_len}
 use Rattle.std.proofs.lemmas.Str.{IsUtf8-from_is_utf8}
 use Rattle.spec_lbnf.specs.declared.definition.Def.{Def}
 use Rattle.lbnf_readers.specs.Scanning.{scan_of, behind_closing, behind_space, identifier_at, number_token_at, literal_from, string_at, character_at, sign_token_at, token_at, tokens_from}
-use Rattle.spec_lbnf.specs.Faults.{FileFault, syntax, Spells, IsFirstFault, is_not_utf8}
+use Rattle.spec_lbnf.specs.declared.fault.TextFault.{TextFault}
+use Rattle.spec_lbnf.specs.declared.fault.TextFault.TheVariants.{Syntax}
+use Rattle.spec_lbnf.specs.Faults.{Spells, IsFirstFault, is_not_utf8}
 use Rattle.spec_lbnf_cases.specs.ReadingExamples.{one_category}
 use Rattle.lbnf_readers.specs.FileReading.{next_on, take_token, sign_at, name_at, text_at, number_at, closes_at, bracketed_at, category_at, nil_at, one_at, colon_label_at, paren_label_at, sign_label_at, label_at, item_at, items_at, side_at, rule_at, macro_at, list_macro_at, coercions_at, more_entries_at, entries_at, to_end, def_by, def_at}
 use Rattle.lbnf_readers.specs.FileDefinitions.{piece_def, defs_at, defs_of}
@@ -21,14 +23,14 @@ spelled bytes defs few utf8 end read =
     defs_are bytes (scan_of bytes).0 (scan_of bytes).1 (scanned bytes) defs few (IsUtf8-from_is_utf8 bytes utf8) end read
 
 -- and where they have a fault
-faulty : (bytes : List ℕ) (fault : FileFault) → length bytes ≤ 65536 → is_utf8 bytes ≡ true
+faulty : (bytes : List ℕ) (fault : TextFault) → length bytes ≤ 65536 → is_utf8 bytes ≡ true
     → defs_of (scan_of bytes).0 (scan_of bytes).1 ≡ Err fault → IsFirstFault bytes fault
 faulty bytes fault few utf8 read =
     fault_is bytes (scan_of bytes).0 (scan_of bytes).1 (scanned bytes) fault few (IsUtf8-from_is_utf8 bytes utf8) read
 
 -- and where the tokens end before the file
 cut_off : (bytes : List ℕ) (defs : List Def) → length bytes ≤ 65536 → is_utf8 bytes ≡ true → (scan_of bytes).1 < length bytes
-    → defs_of (scan_of bytes).0 (scan_of bytes).1 ≡ Ok defs → IsFirstFault bytes (syntax (scan_of bytes).1)
+    → defs_of (scan_of bytes).0 (scan_of bytes).1 ≡ Ok defs → IsFirstFault bytes (Syntax (scan_of bytes).1)
 cut_off bytes defs few utf8 early read =
     stop_is bytes (scan_of bytes).0 (scan_of bytes).1 (scanned bytes) defs few (IsUtf8-from_is_utf8 bytes utf8) early read
 
