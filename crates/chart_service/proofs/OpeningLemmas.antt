@@ -1,24 +1,25 @@
 -- Accepting a grammar or refusing it, and opening a text.
 use Rattle.std.proofs.Common.{◌≡◌, ℕ, inl, inr, List, [], length, Option, Some, None, Ok, Err, ◌<◌}
 use Rattle.std.proofs.Common.{◌≤◌, arith, sym, ◌∙◌, ap, subst, option_map}
-use Rattle.std.specs.Option.{MatchOption}
 use Rattle.std.proofs.lemmas.List.{length-map}
 use Rattle.std.proofs.lemmas.Option.{same_Some, none-some}
 use Rattle.spec_lbnf.proofs.NameLemmas.{distinct_names}
 use Rattle.cyk_io.specs.Streams.{GrowsByPrefix}
 use Rattle.spec_lexing.specs.declared.token.Token.{Token}
 use Rattle.spec_lbnf.specs.declared.definition.Def.{Def}
+use Rattle.spec_lbnf.specs.declared.fault.TextFault.{TextFault}
+use Rattle.spec_lbnf.specs.declared.fault.TextFault.TheVariants.{TooLarge}
+use Rattle.spec_lbnf.specs.declared.fault.TextFault.TheVariants as file
+use Rattle.spec_lbnf.specs.declared.fault.GrammarFault.{GrammarFault}
+use Rattle.spec_lbnf.specs.declared.fault.GrammarFault.TheVariants as made
 use Rattle.spec_grammar.specs.Grammars.{Grammar, symbol_count}
 use Rattle.spec_lbnf.specs.Expansion.{expansion_of}
-use Rattle.spec_lbnf.specs.Faults.{Spells, IsFirstFault, too_large, is_large}
-use Rattle.spec_lbnf.specs.Checks.{AreFit, IsUnfit}
+use Rattle.spec_lbnf.specs.Faults.{Spells, IsFirstFault, is_large}
+use Rattle.spec_lbnf.specs.Checks.{AreFit}
 use Rattle.spec_session.specs.Script.{opens}
 use Rattle.spec_session.specs.Replies.{IsReply, IsRefused, IsRefusedFor, AreAccepted, faulty, unfit}
 use Rattle.spec_session.specs.Replies.{too_many_symbols, fault_reason, unfit_reason, symbols_reason}
 use Rattle.spec_session.specs.Replies.{version_reply}
-use Rattle.lbnf_text.specs.Reading.{IsSmallText, file_fault_of}
-use Rattle.lbnf_text.specs.declared.fault.TextFault.TheVariants.{TooLarge}
-use Rattle.lbnf_grammar.specs.Grammars.{unfitness_of, PassFirstChecks}
 use Rattle.binary_form.specs.BinaryForm.{MakesBinary}
 use Rattle.binary_form.specs.declared.fault.BinaryFault.{BinaryFault}
 use Rattle.binary_form.specs.declared.fault.BinaryFault.TheVariants.{Memory as BinaryMemory, TooManySymbols}
@@ -34,6 +35,7 @@ use Rattle.chart_service.specs.declared.status.Status.TheVariants.{OutOfMemory}
 use Rattle.chart_service.specs.Statuses.{IsWriteStop}
 use Rattle.chart_service.specs.Writing.{EndsWith}
 use Rattle.chart_service.specs.Opening.{HasDistinctNames, ReadsLanguage, reason_of, IsRefusal}
+use Rattle.chart_service.specs.Opening.{text_reason_of, grammar_reason_of}
 use Rattle.chart_service.specs.Opening.{IsGrammarLine, EndsAtGrammar, IsOpened, EndsAtText}
 
 -- no category's text stands twice in the grammar that definitions stand for
@@ -64,23 +66,38 @@ no_language block defs g fault spells fit e made =
 -- a block of too many bytes has this as its first fault
 pub too_long : (block : List ℕ) (count : ℕ) → count ≡ length block → 65536 < count
     → ReadsLanguage block (Err (Text (TooLarge count)))
-too_long block count is many = is_large (omega (arith, is, many)) (ap too_large is)
+too_long block count is many = inr (is_large (omega (arith, is, many)) (ap TooLarge is))
 
--- a reason that is told of a value is that of the value
-told : {A : Type 0} (reason_for : A → List ℕ) (Untold : Type 0) (Holds : A → Type 0) (value : Option A) (reason : List ℕ)
-    → MatchOption value Untold Holds → option_map reason_for value ≡ Some reason → (x : A) × Holds x × (reason ≡ reason_for x)
-told reason_for Untold Holds (Some x) reason holds is = (x, holds, sym (same_Some (reason_for x) reason is))
-told reason_for Untold Holds None reason holds is = absurd (none-some reason is)
+-- the reason that is told of a fault of a file is its reason
+text_reason : (fault : TextFault) (reason : List ℕ) → text_reason_of fault ≡ Some reason → reason ≡ fault_reason fault
+text_reason file.Memory reason is = absurd (none-some reason is)
+text_reason (file.TooLarge count) reason is = sym (same_Some _ reason is)
+text_reason (file.NotUtf8 at) reason is = sym (same_Some _ reason is)
+text_reason (file.Syntax at) reason is = sym (same_Some _ reason is)
+text_reason (file.Unsupported word at) reason is = sym (same_Some _ reason is)
+text_reason (file.Unbuilt number) reason is = sym (same_Some _ reason is)
+
+-- the reason that is told of unfit definitions is that of their fault
+grammar_reason : (fault : GrammarFault) (reason : List ℕ) → grammar_reason_of fault ≡ Some reason → reason ≡ unfit_reason fault
+grammar_reason made.Memory reason is = absurd (none-some reason is)
+grammar_reason (made.BadCoercion number) reason is = sym (same_Some _ reason is)
+grammar_reason (made.BadList number) reason is = sym (same_Some _ reason is)
+grammar_reason (made.TooManyRules count) reason is = sym (same_Some _ reason is)
+grammar_reason (made.RepeatedToken name) reason is = sym (same_Some _ reason is)
+grammar_reason (made.UnknownCategory name number) reason is = sym (same_Some _ reason is)
+grammar_reason (made.Unbuilt number) reason is = sym (same_Some _ reason is)
+grammar_reason (made.Cyclic name) reason is = sym (same_Some _ reason is)
 
 -- the reason that is told is one for which the block is refused
 reason_is : (block : List ℕ) (fault : LanguageFault) (reason : List ℕ) → ReadsLanguage block (Err fault)
     → reason_of fault ≡ Some reason → IsRefusedFor block reason
-reason_is block (Text fault) reason h is =
-    let first = told fault_reason (IsSmallText block) (IsFirstFault block) (file_fault_of fault) reason h is in
-    faulty first.0 first.1 first.2
-reason_is block (UnfitGrammar fault) reason h is =
-    let why = told unfit_reason (PassFirstChecks h.0) (IsUnfit h.0) (unfitness_of fault) reason h.2 is in
-    unfit h.0 why.0 h.1 why.1 why.2
+reason_is block (Text fault) reason (inl memory) is =
+    absurd (none-some reason (subst (λ (f : TextFault). text_reason_of f ≡ Some reason) memory.0 is))
+reason_is block (Text fault) reason (inr first) is = faulty fault first (text_reason fault reason is)
+reason_is block (UnfitGrammar fault) reason h is = elim h.2 [
+  | inl memory ↦ absurd (none-some reason (subst (λ (f : GrammarFault). grammar_reason_of f ≡ Some reason) memory.0 is))
+  | inr why ↦ unfit h.0 fault h.1 why (grammar_reason fault reason is)
+]
 reason_is block (Binary BinaryMemory) reason h is = absurd (none-some reason is)
 reason_is block (Binary (TooManySymbols count)) reason h is =
     let made : MakesBinary (expansion_of h.0) (Err (TooManySymbols count)) = h.3 in

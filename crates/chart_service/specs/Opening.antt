@@ -14,10 +14,12 @@ use Rattle.spec_session.specs.Replies.{IsAccepted, IsRefused, IsReply, fault_rea
 use Rattle.spec_session.specs.Replies.{symbols_reason, refusal_line}
 use Rattle.spec_session.specs.Replies.{grammar_reply, version_reply}
 use Rattle.cyk_io.specs.Streams.{Grows, GrowsByPrefix, Stays}
-use Rattle.lbnf_text.specs.declared.fault.TextFault.{TextFault}
-use Rattle.lbnf_text.specs.Reading.{file_fault_of, ReadsDefs}
-use Rattle.lbnf_grammar.specs.declared.fault.GrammarFault.{GrammarFault}
-use Rattle.lbnf_grammar.specs.Grammars.{unfitness_of, Expands}
+use Rattle.spec_lbnf.specs.declared.fault.TextFault.{TextFault}
+use Rattle.spec_lbnf.specs.declared.fault.TextFault.TheVariants.{Memory as TextMemory}
+use Rattle.lbnf_text.specs.Reading.{ReadsDefs}
+use Rattle.spec_lbnf.specs.declared.fault.GrammarFault.{GrammarFault}
+use Rattle.spec_lbnf.specs.declared.fault.GrammarFault.TheVariants.{Memory as GrammarMemory}
+use Rattle.lbnf_grammar.specs.Grammars.{Expands}
 use Rattle.binary_form.specs.BinaryForm.{MakesBinary}
 use Rattle.binary_form.specs.declared.fault.BinaryFault.TheVariants.{Memory as BinaryMemory}
 use Rattle.binary_form.specs.declared.fault.BinaryFault.TheVariants.{TooManySymbols}
@@ -58,11 +60,13 @@ pub record IsOpened (g : Grammar) (chart : ChartValue) (text : List ℕ)
 
 -- the reason that is told of a fault of a grammar file, and None for want of memory
 abbrev pub text_reason_of : TextFault → Option (List ℕ)
-text_reason_of fault = option_map fault_reason (file_fault_of fault)
+text_reason_of TextMemory = None
+text_reason_of fault = Some (fault_reason fault)
 
 -- the reason that is told of definitions that are unfit, and None for want of memory
 abbrev pub grammar_reason_of : GrammarFault → Option (List ℕ)
-grammar_reason_of fault = option_map unfit_reason (unfitness_of fault)
+grammar_reason_of GrammarMemory = None
+grammar_reason_of fault = Some (unfit_reason fault)
 
 -- the reason that is told of a fault, and None for want of memory
 abbrev pub reason_of : LanguageFault → Option (List ℕ)

@@ -6,7 +6,8 @@ use Rattle.spec_lbnf.specs.declared.definition.CatName.{CatName}
 use Rattle.spec_lbnf.specs.declared.definition.RawItem.{RawItem}
 use Rattle.spec_lbnf.specs.declared.definition.RawItem.TheVariants.{Cat, Word}
 use Rattle.spec_lbnf.specs.declared.definition.Def.{Def}
-use Rattle.spec_lbnf.specs.Checks.{categories_in, IsList, AreElementAndList, IsOneElement, IsWellLabelled, IsBadCoercion, IsBadList, AtLabels, bad_coercion, bad_list}
+use Rattle.spec_lbnf.specs.declared.fault.GrammarFault.TheVariants.{BadCoercion, BadList}
+use Rattle.spec_lbnf.specs.Checks.{categories_in, IsList, AreElementAndList, IsOneElement, IsWellLabelled, IsBadCoercion, IsBadList, AtLabels}
 use Rattle.lbnf_grammar.specs.Checking.{EndsInList}
 
 -- the categories of items side by side
@@ -85,11 +86,11 @@ module _ (defs : List Def) (number : ℕ) (def : Def) (within : number < length 
   here = slice_get_read defs (length defs) number def refl within is
 
   -- a bad coercion behind definitions that are well labelled is at fault
-  pub coercion_first : IsBadCoercion def → AtLabels defs (bad_coercion number)
+  pub coercion_first : IsBadCoercion def → AtLabels defs (BadCoercion number)
   coercion_first bad = (number, inl (record { def = def; is_def = here; bad = bad; earlier = earlier }, refl))
 
   -- so is a bad list
-  pub list_first : IsBadList def → AtLabels defs (bad_list number)
+  pub list_first : IsBadList def → AtLabels defs (BadList number)
   list_first bad = (number, inr (record { def = def; is_def = here; bad = bad; earlier = earlier }, refl))
 
   -- and where it is well labelled, the definitions up to it are

@@ -6,29 +6,27 @@ use Rattle.spec_lbnf.specs.declared.definition.CatName.{CatName}
 use Rattle.spec_lbnf.specs.declared.definition.RawRule.{RawRule}
 use Rattle.spec_lbnf.specs.declared.definition.Def.{Def}
 use Rattle.spec_grammar.specs.Grammars.{Grammar}
-use Rattle.spec_lbnf.specs.Checks.{Unfitness, cyclic_category, IsFirstCyclic}
+use Rattle.spec_lbnf.specs.declared.fault.GrammarFault.{GrammarFault}
+use Rattle.spec_lbnf.specs.declared.fault.GrammarFault.TheVariants.{Cyclic}
+use Rattle.spec_lbnf.specs.Checks.{IsFirstCyclic}
 use Rattle.spec_lbnf.specs.Checks.{IsWellLabelled, IsBadCoercion, IsBadList}
 use Rattle.spec_lbnf.specs.Checks.{IsList, IsBadWild, IsBadListRule}
-use Rattle.lbnf_grammar.specs.declared.fault.GrammarFault.{GrammarFault}
 use Rattle.lbnf_grammar.specs.declared.labels.LabelFault.{LabelFault}
 use Rattle.lbnf_grammar.specs.declared.labels.LabelFault.TheVariants.{Coercion, List as ListFault}
-use Rattle.lbnf_grammar.specs.Grammars.{unfitness_of, Tells}
+use Rattle.numbered_grammar.specs.Making.{IsWellFormed}
+use Rattle.lbnf_grammar.specs.Grammars.{IsSuchOrMemory}
 
--- the check is passed with what it gives, or the fault tells such an unfitness
-abbrev pub Checks : {A : Type 0} → (A → Type 0) → (Unfitness → Type 0)
+-- the check is passed with what it gives, or the fault is such a one, or memory ran out
+abbrev pub Checks : {A : Type 0} → (A → Type 0) → (GrammarFault → Type 0)
     → Result A GrammarFault → Type 0
 Checks Passes IsSuch (Ok given) = Passes given
-Checks Passes IsSuch (Err fault) = Tells IsSuch fault
+Checks Passes IsSuch (Err fault) = IsSuchOrMemory IsSuch fault
 
--- the fault tells such an unfitness, and is no want of memory
-abbrev pub TellsUnfitness : (Unfitness → Type 0) → GrammarFault → Type 0
-TellsUnfitness IsSuch fault = MatchOption (unfitness_of fault) ⊥ IsSuch
-
--- the check is passed with what it gives, or the fault tells such an unfitness, without memory
-abbrev pub ChecksWithoutMemory : {A : Type 0} → (A → Type 0) → (Unfitness → Type 0)
+-- the check is passed with what it gives, or the fault is such a one, without memory
+abbrev pub ChecksWithoutMemory : {A : Type 0} → (A → Type 0) → (GrammarFault → Type 0)
     → Result A GrammarFault → Type 0
 ChecksWithoutMemory Passes IsSuch (Ok given) = Passes given
-ChecksWithoutMemory Passes IsSuch (Err fault) = TellsUnfitness IsSuch fault
+ChecksWithoutMemory Passes IsSuch (Err fault) = IsSuch fault
 
 -- the last of the categories is a list
 abbrev pub EndsInList : List CatName → Type 0
@@ -57,8 +55,8 @@ abbrev pub IsUnlisted : List (List ℕ) → List ℕ → Type 0
 IsUnlisted known name = IsListed known name → ⊥
 
 -- the first cyclic category of the grammar is at fault
-abbrev pub AtCycleOf : Grammar → Unfitness → Type 0
-AtCycleOf g fault = (name : List ℕ) × IsFirstCyclic g name × (fault ≡ cyclic_category name)
+abbrev pub AtCycleOf : Grammar → GrammarFault → Type 0
+AtCycleOf g fault = (name : List ℕ) × IsFirstCyclic g name × (fault ≡ Cyclic name)
 
 -- the grammar has no cycle and is kept, or its first cyclic category is told
 abbrev pub PassesCycles : Grammar → Result Grammar GrammarFault → Type 0

@@ -5,17 +5,16 @@ ghost use Rattle.spec_lbnf.specs.Limits.{size_of};
 ghost use Rattle.spec_lbnf.specs.Checks.{predefined_names};
 ghost use Rattle.spec_lbnf.specs.Limits.{IsSmall};
 ghost use Rattle.spec_lbnf.specs.Checks.{own_categories, IsFirstName, IsPredefined, IsFree};
-ghost use Rattle.spec_lbnf.specs.Checks.{repeated_token, unknown_fault, HasOwnNames};
+ghost use Rattle.spec_lbnf.specs.Checks.{unknown_fault, HasOwnNames};
 ghost use Rattle.spec_lbnf.specs.Checks.{AtOwnName, AreAllKnown, AtUnknown};
-ghost use Rattle.lbnf_grammar.specs.Grammars.{Tells};
+ghost use Rattle.lbnf_grammar.specs.Grammars.{IsSuchOrMemory};
 ghost use Rattle.lbnf_grammar.specs.Numbering.{with_names};
 ghost use Rattle.lbnf_grammar.specs.Checking.{Checks, IsListed, IsUnlisted};
 
-use crate::fault::GrammarFault;
 use crate::names::Names;
 use crate::naming::{all_own_categories, named_categories};
 use lbnf_text::copy_name;
-use spec_lbnf::Def;
+use spec_lbnf::{Def, GrammarFault};
 use spec_text::Name;
 use std::alloc::Global;
 
@@ -44,7 +43,7 @@ fn first_predefined(names: &[Name]) -> Option<&Name>
 
 /// That rules are given for the predefined name, or that memory ran out.
 fn repeated(alloc: Global, name: &Name) -> GrammarFault
-    ensures { Tells (λ why. why ≡ repeated_token name.now) result }
+    ensures { IsSuchOrMemory (λ why. why ≡ GrammarFault.RepeatedToken name.now) result }
 {
     match copy_name(alloc, name) {
         Ok(name) => GrammarFault::RepeatedToken { name },
@@ -87,7 +86,7 @@ fn first_unlisted<'a>(known: &Names, names: &'a [Name]) -> Option<&'a Name>
 
 /// That the definition names an unknown category, or a predefined one, or that memory ran out.
 fn unknown(alloc: Global, name: &Name, def: u32) -> GrammarFault
-    ensures { Tells (λ why. why ≡ unknown_fault name.now def) result }
+    ensures { IsSuchOrMemory (λ why. why ≡ unknown_fault name.now def) result }
 {
     if is_predefined(name.as_slice()) {
         return GrammarFault::Unbuilt { def };

@@ -7,8 +7,7 @@ ghost use Rattle.spec_lbnf.specs.Expansion.{word_items, separator_rules, rules_o
 ghost use Rattle.spec_lbnf.specs.Checks.{HasFewRules, AtCount};
 ghost use Rattle.lbnf_grammar.specs.Checking.{ChecksWithoutMemory};
 
-use crate::fault::GrammarFault;
-use spec_lbnf::Def;
+use spec_lbnf::{Def, GrammarFault};
 
 /// The most rules of a grammar file.
 const MAX_RULES: usize = 1_024;

@@ -4,7 +4,7 @@ ghost use Rattle.spec_lbnf.specs.Limits.{AreWithinLimits};
 ghost use Rattle.spec_lbnf.specs.Expansion.{rules_of, categories_of, words_of, expansion_of};
 ghost use Rattle.spec_lbnf.specs.Checks.{HasFewRules, AreAllKnown};
 ghost use Rattle.spec_lexing.specs.declared.kind_def.KindDef.TheVariants.{Word as WordKind};
-ghost use Rattle.lbnf_grammar.specs.Grammars.{Expands, Tells};
+ghost use Rattle.lbnf_grammar.specs.Grammars.{Expands, IsSuchOrMemory};
 ghost use Rattle.lbnf_grammar.specs.Checking.{PassesCycles, AtCycleOf};
 ghost use Rattle.lbnf_grammar.specs.Numbering.{AreFew};
 ghost use Rattle.numbered_grammar.specs.Ranks.{IsLeastCyclic};
@@ -12,13 +12,13 @@ ghost use Rattle.numbered_grammar.specs.Ranks.{IsLeastCyclic};
 use crate::checking::{check_named, check_own_names};
 use crate::counting::check_count;
 use crate::entry::entry_symbol;
-use crate::fault::GrammarFault;
 use crate::labels::check_labels;
 use crate::macros::rules_of;
 use crate::numbering::numbered_rules;
 use crate::tables::{Tables, tables_of};
 use lbnf_text::{Def, Defs, RawRule, copy_name};
 use numbered_grammar::{CycleCheck, Grammar, GrammarParts, KindDef, check_cycles};
+use spec_lbnf::GrammarFault;
 use spec_text::Name;
 use std::alloc::{AllocError, Global};
 
@@ -68,7 +68,7 @@ fn numbered_parts(alloc: Global, defs: &[Def]) -> Result<GrammarParts, AllocErro
 /// That the category reaches itself, or that memory ran out.
 fn cyclic(alloc: Global, parts: &GrammarParts, category: u16) -> GrammarFault
     requires first { IsLeastCyclic parts.now category }
-    ensures { Tells (AtCycleOf parts.now) result }
+    ensures { IsSuchOrMemory (AtCycleOf parts.now) result }
 {
     match copy_name(alloc, &parts.categories()[category as usize]) {
         Ok(name) => GrammarFault::Cyclic { name },

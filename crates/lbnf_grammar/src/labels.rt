@@ -8,9 +8,8 @@ ghost use Rattle.lbnf_grammar.specs.Checking.{EndsInList};
 ghost use Rattle.lbnf_grammar.specs.Checking.{FindsLabelFault, FindsRuleFault};
 ghost use Rattle.lbnf_grammar.specs.Checking.{ChecksWithoutMemory};
 
-use crate::fault::GrammarFault;
 use spec_grammar::Label;
-use spec_lbnf::{Def, RawItem, RawRule};
+use spec_lbnf::{Def, GrammarFault, RawItem, RawRule};
 
 /// What is wrong with a definition's label or levels.
 #[derive(Clone, Copy, Debug)]

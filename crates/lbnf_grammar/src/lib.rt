@@ -5,7 +5,6 @@ mod checking;
 mod counting;
 mod entry;
 mod expanding;
-mod fault;
 mod labels;
 mod macros;
 mod names;
@@ -15,8 +14,8 @@ mod tables;
 mod texts;
 
 pub use expanding::expand;
-pub use fault::GrammarFault;
 pub use numbered_grammar::{Grammar, KindDef, Rule, Symbol};
+pub use spec_lbnf::GrammarFault;
 
 #[cfg(test)]
 mod tests;

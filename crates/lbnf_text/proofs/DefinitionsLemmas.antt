@@ -1,13 +1,14 @@
 -- Reading the definitions of a file one after another.
-use Rattle.std.proofs.Common.{◌≡◌, ℕ, zero, suc, ◌+◌, ◌<◌, ◌≤◌, List, [], ◌∷◌, ◌++◌, length, get_or, take, drop, Bool, true, false, Result, Ok, Err, refl, sym, ap, ◌∙◌, arith, append_assoc, append-nil, length-append, length-drop, inl, inr}
+use Rattle.std.proofs.Common.{◌≡◌, ℕ, zero, suc, ◌+◌, ◌<◌, ◌≤◌, List, [], ◌∷◌, ◌++◌, length, get_or, take, drop, Bool, true, false, Result, Ok, Err, refl, sym, ap, ◌∙◌, arith, append_assoc, append-nil, length-append, length-drop, ◌⊎◌, inl, inr}
 use Rattle.std.proofs.lemmas.Bool.{cases_Bool}
 use Rattle.std.proofs.lemmas.List.Sums.{position_or_len_is}
 use Rattle.std.specs.List.{position_or_len}
 use Rattle.spec_lbnf.specs.declared.definition.Def.{Def}
 use Rattle.spec_lbnf.specs.declared.token.PlacedToken.{PlacedToken}
 use Rattle.spec_lbnf.specs.GrammarFile.{is_semicolon}
-use Rattle.spec_lbnf.specs.Faults.{FileFault}
-use Rattle.spec_lbnf.specs.FileDefinitions.{piece_at, behind_piece, offset_of, piece_def, and_defs, defs_at, defs_of}
+use Rattle.spec_lbnf.specs.declared.fault.TextFault.{TextFault}
+use Rattle.spec_lbnf.specs.declared.fault.TextFault.TheVariants.{Memory}
+use Rattle.lbnf_readers.specs.FileDefinitions.{piece_at, behind_piece, offset_of, piece_def, and_defs, defs_at, defs_of}
 
 -- the token ends a piece
 abbrev pub ends_piece : PlacedToken → Bool
@@ -42,7 +43,7 @@ pub behind_shorter : (tokens : List PlacedToken) → length (behind_piece tokens
 behind_shorter tokens = rw (← piece_behind tokens) (omega (arith, length-drop (length (piece_at tokens)) tokens))
 
 -- what the definitions so far and those of the rest are together
-abbrev pub with_defs : List Def → Result (List Def) FileFault → Result (List Def) FileFault
+abbrev pub with_defs : List Def → Result (List Def) TextFault → Result (List Def) TextFault
 with_defs defs (Ok others) = Ok (defs ++ others)
 with_defs defs (Err fault) = Err fault
 
@@ -57,7 +58,7 @@ pub record AreReadDefs (tokens : List PlacedToken) (stop : ℕ) (defs : List Def
 pub none_read : (tokens : List PlacedToken) (stop : ℕ) → AreReadDefs tokens stop [] tokens
 none_read tokens stop = record { turns = length tokens; enough = omega arith; few = omega arith; whole = same (defs_of tokens stop) }
   where
-    same : (read : Result (List Def) FileFault) → read ≡ with_defs [] read
+    same : (read : Result (List Def) TextFault) → read ≡ with_defs [] read
     same (Ok defs) = refl
     same (Err fault) = refl
 
@@ -103,7 +104,7 @@ next_piece tokens stop defs first behind read more = by read.turns read.enough r
     by (suc less) enough whole = (less, enough, whole ∙ rw more refl)
 
 -- a definition, and then others
-def_in_front : (defs : List Def) (def : Def) (others : Result (List Def) FileFault)
+def_in_front : (defs : List Def) (def : Def) (others : Result (List Def) TextFault)
     → with_defs defs (and_defs (Ok def) others) ≡ with_defs (defs ++ def ∷ []) others
 def_in_front defs def (Ok others) = ap (λ (all : List Def). Ok all) (sym (append_assoc defs (def ∷ []) others))
 def_in_front defs def (Err fault) = refl
@@ -120,7 +121,7 @@ module _ (tokens : List PlacedToken) (stop : ℕ) (defs : List Def) (first : Pla
   next_defs = rw (is_piece, is_after) (next_piece tokens stop defs first behind read more)
 
   -- where the piece has a fault, it is the first
-  pub no_defs : (fault : FileFault) → piece_def (length defs) piece (offset_of after stop) ≡ Err fault → defs_of tokens stop ≡ Err fault
+  pub no_defs : (fault : TextFault) → piece_def (length defs) piece (offset_of after stop) ≡ Err fault → defs_of tokens stop ≡ Err fault
   no_defs fault none = next_defs.2 ∙ rw none refl
 
   -- the definition of the piece is read
@@ -134,6 +135,13 @@ module _ (tokens : List PlacedToken) (stop : ℕ) (defs : List Def) (first : Pla
         few = omega (arith, read.few, one, shorter);
         whole = next.2 ∙ rw (some, one) (def_in_front defs def (defs_at next.0 (suc (length defs)) after stop));
       }
+
+-- a fault that is told of a part is told of the whole, if it is the fault of both
+pub still_fault : {A B : Type 0} (answer : TextFault) (part : Result A TextFault) (whole : Result B TextFault)
+    → (answer ≡ Memory) ⊎ (part ≡ Err answer) → ((fault : TextFault) → part ≡ Err fault → whole ≡ Err fault)
+    → (answer ≡ Memory) ⊎ (whole ≡ Err answer)
+still_fault answer part whole (inl memory) gives = inl memory
+still_fault answer part whole (inr told) gives = inr (gives answer told)
 
 -- where no token ends the piece, it is as long as the tokens
 pub no_end : (tokens : List PlacedToken) → ((k : ℕ) (other : PlacedToken) → k < length tokens → ends_piece (get_or tokens k other) ≡ false)

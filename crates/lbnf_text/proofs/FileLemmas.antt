@@ -1,33 +1,27 @@
 -- From the tokens of a file to what is answered on it.
-use Rattle.std.proofs.Common.{◌≡◌, ℕ, ◌+◌, ◌≤◌, List, [], ◌∷◌, length, Option, Some, None, Result, Err, IfSome, MatchOption, arith}
+use Rattle.std.proofs.Common.{◌≡◌, ℕ, ◌+◌, ◌≤◌, List, [], ◌∷◌, inl, inr, length, Result, Err, arith}
 use Rattle.spec_lbnf.specs.declared.definition.Def.{Def}
 use Rattle.spec_lbnf.specs.declared.token.PlacedToken.{PlacedToken}
 use Rattle.spec_lbnf.specs.FileTokens.{IsScan}
-use Rattle.spec_lbnf.specs.FileLaws.{RiseTo}
-use Rattle.spec_lbnf.specs.Faults.{IsFirstFault, FileFault}
-use Rattle.spec_lbnf.proofs.ScanLemmas.{offsets_rise}
-use Rattle.lbnf_text.specs.declared.fault.TextFault.{TextFault}
+use Rattle.lbnf_readers.specs.FileLaws.{RiseTo}
+use Rattle.spec_lbnf.specs.declared.fault.TextFault.{TextFault}
+use Rattle.spec_lbnf.specs.Faults.{IsFirstFault}
+use Rattle.lbnf_readers.proofs.ScanLemmas.{offsets_rise}
 use Rattle.lbnf_text.specs.Faulting.{Reads}
-use Rattle.lbnf_text.specs.Reading.{IsSmallText, ReadsFile, file_fault_of}
+use Rattle.lbnf_text.specs.Reading.{IsSmallText, ReadsFile}
 
 -- offsets that rise are no more than the last of them
 few_offsets : (from : ℕ) (tokens : List PlacedToken) (stop : ℕ) → RiseTo from tokens stop → from + length tokens ≤ stop
 few_offsets from [] stop rise = omega (arith, rise)
 few_offsets from (token ∷ tokens) stop rise = omega (arith, rise.0, few_offsets (token.offset + 1) tokens stop rise.1)
 
--- where no value is told, this holds; and of a value that is told, what follows
-told_or : {X : Type 0} (value : Option X) (Untold : Type 0) (P Q : X → Type 0) → Untold → IfSome value P
-    → ((x : X) → P x → Q x) → MatchOption value Untold Q
-told_or None Untold P Q untold told more = untold
-told_or (Some x) Untold P Q untold told more = more x told
-
 -- the fault that is told of the definitions is the first of the file, which is a small text where
 -- memory ran out
-pub told_fault : {A : Type 0} (view : A → List Def) (bytes : List ℕ) (read : Result (List Def) FileFault) (answer : TextFault)
-    → IsSmallText bytes → Reads view read (Err answer) → ((fault : FileFault) → read ≡ Err fault → IsFirstFault bytes fault)
+pub told_fault : {A : Type 0} (view : A → List Def) (bytes : List ℕ) (read : Result (List Def) TextFault) (answer : TextFault)
+    → IsSmallText bytes → Reads view read (Err answer) → ((fault : TextFault) → read ≡ Err fault → IsFirstFault bytes fault)
     → ReadsFile view bytes (Err answer)
-told_fault view bytes read answer small told first =
-    told_or (file_fault_of answer) (IsSmallText bytes) (λ fault. read ≡ Err fault) (IsFirstFault bytes) small told first
+told_fault view bytes read answer small (inl memory) first = inl (memory, small)
+told_fault view bytes read answer small (inr told) first = inr (first answer told)
 
 module _ (text : List ℕ) (tokens : List PlacedToken) (stop : ℕ) (scan : IsScan text tokens stop) where
   -- the tokens stop within the text

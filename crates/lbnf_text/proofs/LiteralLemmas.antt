@@ -5,8 +5,8 @@ use Rattle.std.proofs.lemmas.Bool.{false_from_ne_true}
 use Rattle.std.proofs.lemmas.List.{append-nil}
 use Rattle.std.proofs.lemmas.Str.{encode_same, length-encode, len_utf8_bounds}
 use Rattle.spec_lbnf.specs.declared.token.FileToken.TheVariants.{Text, Character}
-use Rattle.spec_lbnf.specs.Scanning.{literal_from, string_at, is_encoded, character_of, character_at}
-use Rattle.spec_lbnf.proofs.LiteralLemmas.{is_encoded_again, is_encoded_read, first_scalar}
+use Rattle.lbnf_readers.specs.Scanning.{literal_from, string_at, is_encoded, character_of, character_at}
+use Rattle.lbnf_readers.proofs.LiteralLemmas.{is_encoded_again, is_encoded_read, first_scalar}
 use Rattle.lbnf_text.specs.declared.scanner.Part.{Part}
 use Rattle.lbnf_text.specs.declared.scanner.Part.TheVariants.{Scalar, Close, Broken}
 use Rattle.lbnf_text.specs.LiteralParts.{scalar_before, IsPartOf}

@@ -3,14 +3,14 @@ use Rattle.std.proofs.Common.{◌≡◌, ℕ, zero, suc, ◌+◌, ◌<◌, ◌�
 use Rattle.std.specs.List.{prefix_len}
 use Rattle.spec_lbnf.specs.declared.token.PlacedToken.{PlacedToken}
 use Rattle.spec_lbnf.specs.declared.token.Sign.TheVariants.{OpenBracket, CloseBracket, Comma}
-use Rattle.spec_lbnf.specs.FileReading.{Read, got, stuck, long, next_on, is_sign, sign_at, open_count, closes_at}
-use Rattle.spec_lbnf.specs.FileReading.{category_at, entries_at, more_entries_at, Reader}
+use Rattle.lbnf_readers.specs.FileReading.{Read, got, stuck, long, next_on, is_sign, sign_at, open_count, closes_at}
+use Rattle.lbnf_readers.specs.FileReading.{category_at, entries_at, more_entries_at, Reader}
 use Rattle.spec_lbnf.specs.declared.definition.CatName.{CatName}
-use Rattle.spec_lbnf.specs.FileReading.{◌>>=◌, pure, item_at, items_at, side_at}
+use Rattle.lbnf_readers.specs.FileReading.{◌>>=◌, pure, item_at, items_at, side_at}
 use Rattle.spec_lbnf.specs.declared.definition.RawItem.{RawItem}
 use Rattle.lbnf_text.specs.declared.parser.Stop.{Stop}
 use Rattle.lbnf_text.specs.declared.parser.Stop.TheVariants.{Memory, Stuck, Long}
-use Rattle.spec_lbnf.specs.FileReading.{is_word, def_by, list_macro_at}
+use Rattle.lbnf_readers.specs.FileReading.{is_word, def_by, list_macro_at}
 use Rattle.lbnf_text.specs.declared.definition.ListMacro.TheVariants.{Separator}
 use Rattle.lbnf_text.specs.Parsing.{stopped, list_def}
 

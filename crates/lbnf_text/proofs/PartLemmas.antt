@@ -8,8 +8,8 @@ use Rattle.std.proofs.lemmas.List.{append-nil}
 use Rattle.std.proofs.lemmas.List.Elements.{All-from_get_or, recursion_from_All}
 use Rattle.std.proofs.lemmas.Str.{encode_ascii, inside_one, length-encode, len_utf8_bounds}
 use Rattle.spec_lbnf.specs.FileTokens.{escaped}
-use Rattle.spec_lbnf.specs.Scanning.{is_escape, byte_before, literal_from}
-use Rattle.spec_lbnf.proofs.LiteralLemmas.{StandsPlain}
+use Rattle.lbnf_readers.specs.Scanning.{is_escape, byte_before, literal_from}
+use Rattle.lbnf_readers.proofs.LiteralLemmas.{StandsPlain}
 use Rattle.lbnf_text.specs.declared.scanner.Part.{Part}
 use Rattle.lbnf_text.specs.declared.scanner.Part.TheVariants.{Scalar, Close, Broken}
 use Rattle.lbnf_text.specs.LiteralParts.{scalar_before, IsPartOf}

@@ -11,7 +11,7 @@ use Rattle.std.proofs.lemmas.Str.{IsCharBoundary-start, IsCharBoundary-after_asc
 use Rattle.std.proofs.lemmas.Str.Parse.{IsDigitsTest, IsNumeralModel, numerals_by_value, digits_value_short, parse_gives}
 use Rattle.spec_lbnf.specs.FileBytes.{is_name_byte}
 use Rattle.spec_lbnf.specs.FileTokens.{is_digit, Begins}
-use Rattle.spec_lbnf.proofs.RunLemmas.{run_passes}
+use Rattle.lbnf_readers.proofs.RunLemmas.{run_passes}
 
 -- a text may be cut behind a run of ASCII bytes
 run_boundary : (passes : ℕ → Bool) (text : List ℕ) → ((byte : ℕ) → passes byte ≡ true → byte < 128) → IsUtf8 text

@@ -3,9 +3,9 @@ use Rattle.std.proofs.Common.{◌≡◌, ℕ, ◌-◌, ◌<◌, ◌≤◌, List,
 use Rattle.spec_lbnf.specs.declared.token.FileToken.{FileToken}
 use Rattle.spec_lbnf.specs.declared.token.PlacedToken.{PlacedToken}
 use Rattle.spec_lbnf.specs.FileTokens.{Skips, nothing, goes_on, AreTokensTo}
-use Rattle.spec_lbnf.specs.Scanning.{behind_space, token_at}
-use Rattle.spec_lbnf.proofs.SpaceLemmas.{space_read}
-use Rattle.spec_lbnf.proofs.ScanLemmas.{space_some, skip_shorter, token_read, token_some, nothing_read}
+use Rattle.lbnf_readers.specs.Scanning.{behind_space, token_at}
+use Rattle.lbnf_readers.proofs.SpaceLemmas.{space_read}
+use Rattle.lbnf_readers.proofs.ScanLemmas.{space_some, skip_shorter, token_read, token_some, nothing_read}
 
 -- what is behind a space is shorter
 pub behind_is_shorter : (bytes behind : List ℕ) → Some behind ≡ behind_space bytes → length behind < length bytes

@@ -5,7 +5,7 @@ use Rattle.std.proofs.lemmas.Bool.{ne_eqb, cases_lt}
 use Rattle.std.proofs.lemmas.Option.{none-some}
 use Rattle.std.proofs.lemmas.Str.{IsCharBoundary-after_ascii}
 use Rattle.spec_lbnf.specs.declared.token.Sign.{Sign}
-use Rattle.spec_lbnf.specs.Scanning.{byte_sign}
+use Rattle.lbnf_readers.specs.Scanning.{byte_sign}
 
 -- a byte that is not ASCII is no sign
 high_no_sign : (byte : ℕ) → 128 ≤ byte → byte_sign byte ≡ None

@@ -1,22 +1,22 @@
 -- Telling the fault of a definition. Serves the proofs alone: which fault it is, is said in Faults
 -- of spec_lbnf.
-use Rattle.std.specs.Prelude.{◌≡◌, ℕ, List, [], ◌∷◌, Option, Some, None, Result, Ok, Err, IfSome}
+use Rattle.std.specs.Prelude.{◌≡◌, ℕ, List, [], ◌∷◌, ◌⊎◌, Option, Some, None, Result, Ok, Err}
 use Rattle.spec_lbnf.specs.declared.token.FileToken.{FileToken}
 use Rattle.spec_lbnf.specs.declared.token.FileToken.TheVariants.{Identifier}
-use Rattle.spec_lbnf.specs.Faults.{FileFault, syntax, piece_fault}
-use Rattle.lbnf_text.specs.declared.fault.TextFault.{TextFault}
+use Rattle.spec_lbnf.specs.declared.fault.TextFault.{TextFault}
+use Rattle.spec_lbnf.specs.declared.fault.TextFault.TheVariants.{Memory, Syntax}
+use Rattle.spec_lbnf.specs.Faults.{piece_fault}
 use Rattle.lbnf_text.specs.declared.faults.Start.{Start}
 use Rattle.lbnf_text.specs.declared.faults.Start.TheVariants.{Nothing, Word, TwoWords, Other}
-use Rattle.lbnf_text.specs.Reading.{file_fault_of}
 
--- this is the fault that is told, unless memory ran out
-abbrev pub IsFault : FileFault → TextFault → Type 0
-IsFault fault answer = IfSome (file_fault_of answer) (λ told. fault ≡ told)
+-- the answer is this fault, or that memory ran out
+abbrev pub IsFault : TextFault → TextFault → Type 0
+IsFault fault answer = (answer ≡ Memory) ⊎ (answer ≡ fault)
 
--- the answer, as it is seen, is what was to be read, or its fault; want of memory is free
-abbrev pub Reads : {A B : Type 0} → (A → B) → Result B FileFault → Result A TextFault → Type 0
+-- the answer, as it is seen, is what was to be read, or its fault, or that memory ran out
+abbrev pub Reads : {A B : Type 0} → (A → B) → Result B TextFault → Result A TextFault → Type 0
 Reads view read (Ok value) = read ≡ Ok (view value)
-Reads view read (Err answer) = IfSome (file_fault_of answer) (λ fault. read ≡ Err fault)
+Reads view read (Err answer) = (answer ≡ Memory) ⊎ (read ≡ Err answer)
 
 -- the bytes of the identifier that the token is
 abbrev pub identifier : FileToken → Option (List ℕ)
@@ -24,11 +24,11 @@ identifier (Identifier name) = Some name
 identifier other = None
 
 -- the fault of a token behind a first word
-abbrev pub second_fault : (number : ℕ) → (first : List ℕ) → FileToken → (at : ℕ) → FileFault
+abbrev pub second_fault : (number : ℕ) → (first : List ℕ) → FileToken → (at : ℕ) → TextFault
 second_fault number first token at = piece_fault number (Identifier first ∷ []) token at
 
 -- the fault of a token behind two words
-abbrev pub third_fault : (number : ℕ) → (first second : List ℕ) → FileToken → ℕ → FileFault
+abbrev pub third_fault : (number : ℕ) → (first second : List ℕ) → FileToken → ℕ → TextFault
 third_fault number first second token at =
     piece_fault number (Identifier first ∷ Identifier second ∷ []) token at
 
@@ -38,4 +38,4 @@ IsStart front Nothing = front ≡ []
 IsStart front (Word word) = front ≡ Identifier word.now ∷ []
 IsStart front (TwoWords word other) = front ≡ Identifier word.now ∷ Identifier other.now ∷ []
 IsStart front Other =
-    (number : ℕ) (token : FileToken) (at : ℕ) → piece_fault number front token at ≡ syntax at
+    (number : ℕ) (token : FileToken) (at : ℕ) → piece_fault number front token at ≡ Syntax at

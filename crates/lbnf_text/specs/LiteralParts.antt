@@ -2,7 +2,7 @@
 use Rattle.std.specs.Prelude.{◌≡◌, ℕ, List, [], ◌++◌, ◌<◌, length, Bool, false, Some, None}
 use Rattle.std.specs.Prelude.{option_map, encode_utf8}
 use Rattle.std.specs.Char.{IsScalar}
-use Rattle.spec_lbnf.specs.Scanning.{literal_from}
+use Rattle.lbnf_readers.specs.Scanning.{literal_from}
 use Rattle.lbnf_text.specs.declared.scanner.Part.{Part}
 use Rattle.lbnf_text.specs.declared.scanner.Part.TheVariants.{Scalar, Close, Broken}
 

@@ -2,8 +2,8 @@
 use Rattle.std.specs.Prelude.{◌≡◌, ◌≢◌, ℕ, List, [], ◌∷◌, Bool, Option, Some, None, Result, Ok, Err}
 use Rattle.std.specs.Borrow.{Bor}
 use Rattle.spec_lbnf.specs.declared.token.PlacedToken.{PlacedToken}
-use Rattle.spec_lbnf.specs.FileReading.{Read, Reader, got, stuck, long, next_on, pure}
-use Rattle.spec_lbnf.specs.FileReading.{sign_at, category_at}
+use Rattle.lbnf_readers.specs.FileReading.{Read, Reader, got, stuck, long, next_on, pure}
+use Rattle.lbnf_readers.specs.FileReading.{sign_at, category_at}
 use Rattle.spec_lbnf.specs.declared.token.Sign.TheVariants.{Comma}
 use Rattle.spec_lbnf.specs.declared.definition.RawItem.{RawItem}
 use Rattle.spec_lbnf.specs.declared.definition.RawItem.TheVariants.{Cat}

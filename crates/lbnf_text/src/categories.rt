@@ -1,6 +1,6 @@
 //! Reading categories.
 ghost use Rattle.std.specs.Prelude.{◌≡◌, ◌+◌, ◌<◌, ◌≤◌, length, drop, nat_le, OnOk};
-ghost use Rattle.spec_lbnf.specs.FileReading.{open_count, closes_at, category_at};
+ghost use Rattle.lbnf_readers.specs.FileReading.{open_count, closes_at, category_at};
 ghost use Rattle.lbnf_text.specs.Parsing.{Gives};
 
 use crate::parser::{Parser, Stop, is_sign};
@@ -55,7 +55,7 @@ impl<'a> Parser<'a> {
     }
 
     /// Reads a category of at most 128 bytes; where it is longer, the parser stays before it.
-    #[tactic(auto, unfolding(spec_lbnf::specs::FileReading::category_at, spec_lbnf::specs::FileReading::bracketed_at, spec_lbnf::specs::FileReading::next_on))]
+    #[tactic(auto, unfolding(lbnf_readers::specs::FileReading::category_at, lbnf_readers::specs::FileReading::bracketed_at, lbnf_readers::specs::FileReading::next_on))]
     pub fn category(&mut self, alloc: Global) -> Result<CatName, Stop>
         ensures read { Gives (category_at self.old) result self.new }
         ensures shorter { OnOk result (length self.new < length self.old) }

@@ -1,7 +1,7 @@
 //! Reading one definition.
 ghost use Rattle.std.specs.Prelude.{◌≡◌, ◌∷◌, ◌<◌, length, OnOk};
-ghost use Rattle.spec_lbnf.specs.FileReading.{rule_at, macro_at, list_macro_at, coercions_at};
-ghost use Rattle.spec_lbnf.specs.FileReading.{entries_at, to_end, def_by, def_at};
+ghost use Rattle.lbnf_readers.specs.FileReading.{rule_at, macro_at, list_macro_at, coercions_at};
+ghost use Rattle.lbnf_readers.specs.FileReading.{entries_at, to_end, def_by, def_at};
 ghost use Rattle.lbnf_text.specs.Parsing.{Gives, list_def, next_entry_at};
 
 use crate::parser::{Parser, Stop, is_word};
@@ -39,7 +39,7 @@ impl ListMacro {
 
 impl<'a> Parser<'a> {
     /// Reads a rule, to the end of the tokens.
-    #[tactic(auto, unfolding(spec_lbnf::specs::FileReading::rule_at, spec_lbnf::specs::FileReading::next_on))]
+    #[tactic(auto, unfolding(lbnf_readers::specs::FileReading::rule_at, lbnf_readers::specs::FileReading::next_on))]
     fn rule(&mut self, alloc: Global) -> Result<RawRule, Stop>
         ensures { Gives (rule_at self.old) result self.new }
     {
@@ -52,7 +52,7 @@ impl<'a> Parser<'a> {
     }
 
     /// Reads the category and the string of a macro.
-    #[tactic(auto, unfolding(spec_lbnf::specs::FileReading::macro_at, spec_lbnf::specs::FileReading::next_on))]
+    #[tactic(auto, unfolding(lbnf_readers::specs::FileReading::macro_at, lbnf_readers::specs::FileReading::next_on))]
     fn macro_parts(&mut self, alloc: Global, list: ListMacro, nonempty: bool) -> Result<Def, Stop>
         ensures { Gives (macro_at (list_def list nonempty) self.old) result self.new }
     {
@@ -62,7 +62,7 @@ impl<'a> Parser<'a> {
     }
 
     /// Reads a macro behind its first word.
-    #[tactic(auto, unfolding(spec_lbnf::specs::FileReading::list_macro_at))]
+    #[tactic(auto, unfolding(lbnf_readers::specs::FileReading::list_macro_at))]
     fn list_macro(&mut self, alloc: Global, list: ListMacro) -> Result<Def, Stop>
         ensures { Gives (list_macro_at (list_def list) self.old) result self.new }
     {
@@ -75,7 +75,7 @@ impl<'a> Parser<'a> {
     }
 
     /// Reads the name and the number of coercions.
-    #[tactic(auto, unfolding(spec_lbnf::specs::FileReading::coercions_at, spec_lbnf::specs::FileReading::next_on))]
+    #[tactic(auto, unfolding(lbnf_readers::specs::FileReading::coercions_at, lbnf_readers::specs::FileReading::next_on))]
     fn coercions(&mut self, alloc: Global) -> Result<Def, Stop>
         ensures { Gives (coercions_at self.old) result self.new }
     {
@@ -85,7 +85,7 @@ impl<'a> Parser<'a> {
     }
 
     /// Reads a comma and a category.
-    #[tactic(auto, unfolding(spec_lbnf::specs::FileReading::next_on))]
+    #[tactic(auto, unfolding(lbnf_readers::specs::FileReading::next_on))]
     fn next_entry(&mut self, alloc: Global) -> Result<CatName, Stop>
         ensures read { Gives (next_entry_at self.old) result self.new }
         ensures shorter { OnOk result (length self.new < length self.old) }
@@ -107,7 +107,7 @@ impl<'a> Parser<'a> {
     }
 
     /// Sees that no token is left.
-    #[tactic(auto, unfolding(spec_lbnf::specs::FileReading::to_end))]
+    #[tactic(auto, unfolding(lbnf_readers::specs::FileReading::to_end))]
     fn end(&mut self, def: Def) -> Result<Def, Stop>
         ensures { Gives (to_end def self.old) result self.new }
     {
@@ -119,7 +119,7 @@ impl<'a> Parser<'a> {
     }
 
     /// Reads a definition by its first word; this and the tokens behind it come next.
-    #[tactic(auto, unfolding(spec_lbnf::specs::FileReading::def_by, spec_lbnf::specs::FileReading::next_on))]
+    #[tactic(auto, unfolding(lbnf_readers::specs::FileReading::def_by, lbnf_readers::specs::FileReading::next_on))]
     fn def_by(
         &mut self,
         alloc: Global,
@@ -153,7 +153,7 @@ impl<'a> Parser<'a> {
     }
 
     /// Reads a definition that all of the tokens are.
-    #[tactic(auto, unfolding(spec_lbnf::specs::FileReading::def_at, spec_lbnf::specs::FileReading::next_on))]
+    #[tactic(auto, unfolding(lbnf_readers::specs::FileReading::def_at, lbnf_readers::specs::FileReading::next_on))]
     pub fn definition(&mut self, alloc: Global) -> Result<Def, Stop>
         ensures { Gives (def_at self.old) result self.new }
     {

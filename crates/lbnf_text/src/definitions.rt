@@ -1,13 +1,12 @@
 //! Reading the definitions of a file from its tokens.
 ghost use Rattle.std.specs.Prelude.{◌≡◌, ◌≤◌, length};
 ghost use Rattle.spec_lbnf.specs.GrammarFile.{is_semicolon};
-ghost use Rattle.spec_lbnf.specs.FileDefinitions.{piece_at, behind_piece, piece_def, defs_of};
+ghost use Rattle.lbnf_readers.specs.FileDefinitions.{piece_at, behind_piece, piece_def, defs_of};
 ghost use Rattle.lbnf_text.specs.Faulting.{Reads};
 
-use crate::fault::TextFault;
 use crate::faults::{offset_of, stuck_fault};
 use crate::parser::{Parser, Stop, first_of, is_sign};
-use spec_lbnf::{Def, FileToken, PlacedToken, Sign};
+use spec_lbnf::{Def, FileToken, PlacedToken, Sign, TextFault};
 use std::alloc::Global;
 
 fn is_semicolon(token: &FileToken) -> bool
@@ -39,7 +38,7 @@ fn cut(tokens: &[PlacedToken]) -> (&[PlacedToken], &[PlacedToken])
 
 /// The definition that all of the tokens of a piece are, or their fault. The stop is the offset of
 /// what stands behind the piece.
-#[tactic(auto, unfolding(spec_lbnf::specs::FileDefinitions::piece_def))]
+#[tactic(auto, unfolding(lbnf_readers::specs::FileDefinitions::piece_def))]
 fn piece_def(alloc: Global, number: u32, piece: &[PlacedToken], stop: u32) -> Result<Def, TextFault>
     ensures { Reads (λ def. def) (piece_def number piece.now stop) result }
 {

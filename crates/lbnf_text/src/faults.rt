@@ -3,13 +3,12 @@ ghost use Rattle.std.specs.Prelude.{◌≡◌, ℕ, [], None, bytes_eq};
 ghost use Rattle.std.specs.List.{list_any};
 ghost use Rattle.std.specs.Option.{option_copied};
 ghost use Rattle.spec_lbnf.specs.declared.token.FileToken.TheVariants.{Identifier};
-ghost use Rattle.spec_lbnf.specs.Faults.{bare, unbuilt_words, word_fault, piece_fault, unsupported};
-ghost use Rattle.spec_lbnf.specs.FileDefinitions.{offset_of, stuck_fault};
+ghost use Rattle.spec_lbnf.specs.Faults.{bare, unbuilt_words, word_fault, piece_fault};
+ghost use Rattle.lbnf_readers.specs.FileDefinitions.{offset_of, stuck_fault};
 ghost use Rattle.lbnf_text.specs.Faulting.{identifier, second_fault, third_fault, IsFault, IsStart};
 
-use crate::fault::TextFault;
 use crate::parser::{first_of, is_sign, starts_upper};
-use spec_lbnf::{FileToken, PlacedToken, Sign};
+use spec_lbnf::{FileToken, PlacedToken, Sign, TextFault};
 use spec_text::Name;
 use std::alloc::Global;
 
@@ -69,7 +68,7 @@ fn is_unbuilt(word: &[u8]) -> bool
 
 /// That the word, which is copied, is not supported.
 fn unsupported(alloc: Global, word: &str, at: u32) -> TextFault
-    ensures { IsFault (unsupported word.now at) result }
+    ensures { IsFault (TextFault.Unsupported word.now at) result }
 {
     match Vec::from_slice(alloc, word.as_bytes()) {
         Ok(bytes) => {

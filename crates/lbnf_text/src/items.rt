@@ -1,6 +1,6 @@
 //! Reading the items of a right side.
 ghost use Rattle.std.specs.Prelude.{◌<◌, length, OnOk};
-ghost use Rattle.spec_lbnf.specs.FileReading.{item_at, side_at};
+ghost use Rattle.lbnf_readers.specs.FileReading.{item_at, side_at};
 ghost use Rattle.lbnf_text.specs.Parsing.{Gives, category_item_at};
 
 use crate::parser::{Parser, Stop, text_value};
@@ -11,7 +11,7 @@ use std::alloc::Global;
 
 impl<'a> Parser<'a> {
     /// Reads a category, as the items that it gives.
-    #[tactic(auto, unfolding(spec_lbnf::specs::FileReading::next_on))]
+    #[tactic(auto, unfolding(lbnf_readers::specs::FileReading::next_on))]
     fn category_item(&mut self, alloc: Global) -> Result<Items<RawItem>, Stop>
         ensures read { Gives (category_item_at self.old) result self.new }
         ensures shorter { OnOk result (length self.new < length self.old) }
@@ -23,7 +23,7 @@ impl<'a> Parser<'a> {
     }
 
     /// Reads the items that one category or string gives.
-    #[tactic(auto, unfolding(spec_lbnf::specs::FileReading::item_at))]
+    #[tactic(auto, unfolding(lbnf_readers::specs::FileReading::item_at))]
     fn item(&mut self, alloc: Global) -> Result<Items<RawItem>, Stop>
         ensures read { Gives (item_at self.old) result self.new }
         ensures shorter { OnOk result (length self.new < length self.old) }

@@ -1,7 +1,7 @@
 //! Reading labels.
 ghost use Rattle.std.specs.Prelude.{◌≡◌, ◌∷◌};
-ghost use Rattle.spec_lbnf.specs.FileReading.{nil_at, one_at, colon_label_at, paren_label_at};
-ghost use Rattle.spec_lbnf.specs.FileReading.{sign_label_at, label_at};
+ghost use Rattle.lbnf_readers.specs.FileReading.{nil_at, one_at, colon_label_at, paren_label_at};
+ghost use Rattle.lbnf_readers.specs.FileReading.{sign_label_at, label_at};
 ghost use Rattle.lbnf_text.specs.Parsing.{Gives};
 
 use crate::parser::{Parser, Stop, is_sign, upper_name};
@@ -12,7 +12,7 @@ use std::alloc::Global;
 
 impl<'a> Parser<'a> {
     /// Reads `]`, the rest of the label `[]`.
-    #[tactic(auto, unfolding(spec_lbnf::specs::FileReading::nil_at, spec_lbnf::specs::FileReading::next_on))]
+    #[tactic(auto, unfolding(lbnf_readers::specs::FileReading::nil_at, lbnf_readers::specs::FileReading::next_on))]
     fn nil(&mut self) -> Result<Label, Stop>
         ensures { Gives (nil_at self.old) result self.new }
     {
@@ -21,7 +21,7 @@ impl<'a> Parser<'a> {
     }
 
     /// Reads `])`, the rest of the label `(:[])`.
-    #[tactic(auto, unfolding(spec_lbnf::specs::FileReading::one_at, spec_lbnf::specs::FileReading::next_on))]
+    #[tactic(auto, unfolding(lbnf_readers::specs::FileReading::one_at, lbnf_readers::specs::FileReading::next_on))]
     fn one(&mut self) -> Result<Label, Stop>
         ensures { Gives (one_at self.old) result self.new }
     {
@@ -31,7 +31,7 @@ impl<'a> Parser<'a> {
     }
 
     /// Reads the rest of the label `(:)` or `(:[])`, behind its colon.
-    #[tactic(auto, unfolding(spec_lbnf::specs::FileReading::colon_label_at))]
+    #[tactic(auto, unfolding(lbnf_readers::specs::FileReading::colon_label_at))]
     fn colon_label(&mut self) -> Result<Label, Stop>
         ensures { Gives (colon_label_at self.old) result self.new }
     {
@@ -48,7 +48,7 @@ impl<'a> Parser<'a> {
     }
 
     /// Reads the rest of a label, behind its open parenthesis.
-    #[tactic(auto, unfolding(spec_lbnf::specs::FileReading::paren_label_at, spec_lbnf::specs::FileReading::next_on))]
+    #[tactic(auto, unfolding(lbnf_readers::specs::FileReading::paren_label_at, lbnf_readers::specs::FileReading::next_on))]
     fn paren_label(&mut self) -> Result<Label, Stop>
         ensures { Gives (paren_label_at self.old) result self.new }
     {
@@ -57,7 +57,7 @@ impl<'a> Parser<'a> {
     }
 
     /// Reads a label that is no name: its first token and the tokens behind it come next.
-    #[tactic(auto, unfolding(spec_lbnf::specs::FileReading::sign_label_at))]
+    #[tactic(auto, unfolding(lbnf_readers::specs::FileReading::sign_label_at))]
     fn sign_label(&mut self, first: &PlacedToken, behind: &'a [PlacedToken]) -> Result<Label, Stop>
         requires { self.old ≡ first.now ∷ behind.now }
         ensures { Gives (sign_label_at first.now behind.now) result self.new }
@@ -78,7 +78,7 @@ impl<'a> Parser<'a> {
     }
 
     /// Reads a label.
-    #[tactic(auto, unfolding(spec_lbnf::specs::FileReading::label_at))]
+    #[tactic(auto, unfolding(lbnf_readers::specs::FileReading::label_at))]
     pub fn label(&mut self, alloc: Global) -> Result<Label, Stop>
         ensures { Gives (label_at self.old) result self.new }
     {

@@ -5,7 +5,6 @@ mod categories;
 mod definition;
 mod definitions;
 mod defs;
-mod fault;
 mod faults;
 mod items;
 mod labels;
@@ -15,10 +14,9 @@ mod scanner;
 mod texts;
 
 pub use defs::Defs;
-pub use fault::TextFault;
 pub use reading::{MAX_FILE, read_defs};
 pub use spec_grammar::Label;
-pub use spec_lbnf::{CatName, Def, RawItem, RawRule};
+pub use spec_lbnf::{CatName, Def, RawItem, RawRule, TextFault};
 pub use spec_text::Name;
 pub use texts::{copy_name, word_item, words};
 

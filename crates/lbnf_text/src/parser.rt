@@ -3,9 +3,9 @@ ghost use Rattle.std.specs.Prelude.{◌≡◌, ◌<◌, ◌↔◌, [], length, I
 ghost use Rattle.std.specs.Option.{option_copied};
 ghost use Rattle.spec_lbnf.specs.FileBytes.{starts_upper};
 ghost use Rattle.spec_lbnf.specs.FileTokens.{sign_bytes};
-ghost use Rattle.spec_lbnf.specs.FileReading.{is_sign, is_word};
-ghost use Rattle.spec_lbnf.specs.FileReading.{upper_name, text_value, number_value};
-ghost use Rattle.spec_lbnf.specs.FileReading.{sign_at, name_at, text_at, number_at};
+ghost use Rattle.lbnf_readers.specs.FileReading.{is_sign, is_word};
+ghost use Rattle.lbnf_readers.specs.FileReading.{upper_name, text_value, number_value};
+ghost use Rattle.lbnf_readers.specs.FileReading.{sign_at, name_at, text_at, number_at};
 ghost use Rattle.lbnf_text.specs.Parsing.{Gives, IsFirst, Splits};
 
 use crate::texts::copy_name;
@@ -84,7 +84,7 @@ impl<'a> Parser<'a> {
     }
 
     /// Reads this sign.
-    #[tactic(auto, unfolding(spec_lbnf::specs::FileReading::sign_at, spec_lbnf::specs::FileReading::take_token))]
+    #[tactic(auto, unfolding(lbnf_readers::specs::FileReading::sign_at, lbnf_readers::specs::FileReading::take_token))]
     pub fn sign(&mut self, sign: Sign) -> Result<(), Stop>
         ensures read { Gives (sign_at sign self.old) result self.new }
         ensures shorter { OnOk result (length self.new < length self.old) }
@@ -98,7 +98,7 @@ impl<'a> Parser<'a> {
     }
 
     /// Reads an upper-case name.
-    #[tactic(auto, unfolding(spec_lbnf::specs::FileReading::name_at, spec_lbnf::specs::FileReading::take_token))]
+    #[tactic(auto, unfolding(lbnf_readers::specs::FileReading::name_at, lbnf_readers::specs::FileReading::take_token))]
     pub fn name(&mut self, alloc: Global) -> Result<Name, Stop>
         ensures read { Gives (name_at self.old) result self.new }
         ensures shorter { OnOk result (length self.new < length self.old) }
@@ -111,7 +111,7 @@ impl<'a> Parser<'a> {
     }
 
     /// Reads a string.
-    #[tactic(auto, unfolding(spec_lbnf::specs::FileReading::text_at, spec_lbnf::specs::FileReading::take_token))]
+    #[tactic(auto, unfolding(lbnf_readers::specs::FileReading::text_at, lbnf_readers::specs::FileReading::take_token))]
     pub fn text(&mut self, alloc: Global) -> Result<Name, Stop>
         ensures { Gives (text_at self.old) result self.new }
     {
@@ -123,7 +123,7 @@ impl<'a> Parser<'a> {
     }
 
     /// Reads a number.
-    #[tactic(auto, unfolding(spec_lbnf::specs::FileReading::number_at, spec_lbnf::specs::FileReading::take_token))]
+    #[tactic(auto, unfolding(lbnf_readers::specs::FileReading::number_at, lbnf_readers::specs::FileReading::take_token))]
     pub fn number(&mut self) -> Result<u16, Stop>
         ensures { Gives (number_at self.old) result self.new }
     {

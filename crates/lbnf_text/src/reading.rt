@@ -4,9 +4,8 @@ ghost use Rattle.lbnf_text.specs.Reading.{ReadsFile, ReadsDefs};
 
 use crate::definitions::definitions;
 use crate::defs::Defs;
-use crate::fault::TextFault;
 use crate::scanner::scan_file;
-use spec_lbnf::Def;
+use spec_lbnf::{Def, TextFault};
 use std::alloc::Global;
 
 /// The most bytes of a file.

@@ -7,10 +7,10 @@ ghost use Rattle.std.specs.Option.{option_map};
 ghost use Rattle.spec_lbnf.specs.FileBytes.{is_name_byte};
 ghost use Rattle.spec_lbnf.specs.FileTokens.{Begins, is_letter, is_digit, escaped, longer_by};
 ghost use Rattle.spec_lbnf.specs.FileTokens.{Skips, IsScan};
-ghost use Rattle.spec_lbnf.specs.Scanning.{behind_line, behind_closing, behind_white, behind_space};
-ghost use Rattle.spec_lbnf.specs.Scanning.{is_escape, string_at, character_at, identifier_at};
-ghost use Rattle.spec_lbnf.specs.Scanning.{number_token_at, byte_sign, has_more, sign_token_at};
-ghost use Rattle.spec_lbnf.specs.Scanning.{token_at};
+ghost use Rattle.lbnf_readers.specs.Scanning.{behind_line, behind_closing, behind_white, behind_space};
+ghost use Rattle.lbnf_readers.specs.Scanning.{is_escape, string_at, character_at, identifier_at};
+ghost use Rattle.lbnf_readers.specs.Scanning.{number_token_at, byte_sign, has_more, sign_token_at};
+ghost use Rattle.lbnf_readers.specs.Scanning.{token_at};
 ghost use Rattle.lbnf_text.specs.LiteralParts.{IsPartOf, IsScalarPart, LeavesFewer};
 
 use spec_lbnf::{FileToken, PlacedToken, Sign};
@@ -83,7 +83,7 @@ fn behind_white(text: &str) -> Option<&str>
 }
 
 /// What is behind the white byte or the comment at the front.
-#[tactic(auto, unfolding(spec_lbnf::specs::Scanning::behind_space))]
+#[tactic(auto, unfolding(lbnf_readers::specs::Scanning::behind_space))]
 fn behind_space(text: &str) -> Option<&str>
     ensures { option_map (λ x. x.now) result ≡ behind_space text.now }
 {
@@ -205,7 +205,7 @@ fn name_len(bytes: &[u8]) -> usize
 }
 
 /// The identifier at the front of a text that begins with a letter, and what is behind it.
-#[tactic(auto, unfolding(spec_lbnf::specs::Scanning::identifier_at))]
+#[tactic(auto, unfolding(lbnf_readers::specs::Scanning::identifier_at))]
 fn identifier(alloc: Global, text: &str) -> Result<Option<(FileToken, &str)>, AllocError>
     requires { Begins is_letter text.now }
     ensures { IfOk result (λ read. option_map (λ x. (x.0, x.1.now)) read ≡ identifier_at text.now) }
@@ -229,7 +229,7 @@ fn digit_count(bytes: &[u8]) -> usize
 }
 
 /// The number at the front of a text that begins with a digit, and what is behind it.
-#[tactic(auto, unfolding(spec_lbnf::specs::Scanning::number_token_at))]
+#[tactic(auto, unfolding(lbnf_readers::specs::Scanning::number_token_at))]
 fn number(text: &str) -> Option<(FileToken, &str)>
     requires { Begins is_digit text.now }
     ensures { option_map (λ x. (x.0, x.1.now)) result ≡ number_token_at text.now }
@@ -279,7 +279,7 @@ fn goes_on(sign: Sign, text: &str) -> bool
 }
 
 /// The longest sign at the front, and what is behind it.
-#[tactic(auto, unfolding(spec_lbnf::specs::Scanning::sign_token_at))]
+#[tactic(auto, unfolding(lbnf_readers::specs::Scanning::sign_token_at))]
 fn sign(text: &str) -> Option<(FileToken, &str)>
     ensures { option_map (λ x. (x.0, x.1.now)) result ≡ sign_token_at text.now }
 {
@@ -299,7 +299,7 @@ fn sign(text: &str) -> Option<(FileToken, &str)>
 }
 
 /// The token at the front, by its first byte, and what is behind it.
-#[tactic(auto, unfolding(spec_lbnf::specs::Scanning::token_at))]
+#[tactic(auto, unfolding(lbnf_readers::specs::Scanning::token_at))]
 fn token(alloc: Global, text: &str) -> Result<Option<(FileToken, &str)>, AllocError>
     ensures { IfOk result (λ read. option_map (λ x. (x.0, x.1.now)) read ≡ token_at text.now) }
 {

@@ -10,10 +10,11 @@ use Rattle.spec_lbnf.specs.declared.definition.RawRule.{RawRule}
 use Rattle.spec_lbnf.specs.declared.definition.Def.{Def}
 use Rattle.spec_lbnf.specs.declared.definition.Def.TheVariants.{Rule as RuleDef, Internal, Terminator, Separator, Coercions, Entry}
 use Rattle.spec_lbnf.specs.Expansion.{expansion_of}
+use Rattle.spec_lbnf.specs.declared.fault.GrammarFault.{GrammarFault}
+use Rattle.spec_lbnf.specs.declared.fault.GrammarFault.TheVariants.{BadCoercion, BadList, Cyclic, RepeatedToken}
 use Rattle.spec_lbnf.specs.Checks.{IsFirstName, IsPredefined, IsFree, IsUnknown, IsKnown, NamesKnown, IsFirstUnknown, named_categories, AreAllKnown}
 use Rattle.spec_lbnf.specs.Checks.{categories_in, IsBadWild, IsBadCoercion, IsOneElement, IsBadLabel, IsBadListRule, IsBadList, IsWellLabelled, IsFirstBad}
 use Rattle.spec_lbnf.specs.Checks.{HasFewRules, HasOwnNames, AtLabels, AtCount, AtOwnName, AtUnknown, AtCycle, unknown_fault}
-use Rattle.spec_lbnf.specs.Checks.{Unfitness, bad_coercion, bad_list, repeated_token, cyclic_category}
 use Rattle.spec_lbnf.specs.Laws.{FitOrUnfit, OneUnfitness}
 use Rattle.spec_lbnf.proofs.CycleLemmas.{acyclic_or_cyclic, one_cyclic}
 
@@ -124,7 +125,7 @@ bad_once (Coercions name levels) coercion bad = bad
 bad_once (Entry cats) coercion bad = bad
 
 -- definitions that are all well labelled have no first that is not
-labels_pass : (defs : List Def) (fault : Unfitness) → All IsWellLabelled defs → AtLabels defs fault → ⊥
+labels_pass : (defs : List Def) (fault : GrammarFault) → All IsWellLabelled defs → AtLabels defs fault → ⊥
 labels_pass defs fault all (number, inl (first, is)) = coercion_ill first.def first.bad (each_def IsWellLabelled defs number first.def all first.is_def)
 labels_pass defs fault all (number, inr (first, is)) = list_ill first.def first.bad (each_def IsWellLabelled defs number first.def all first.is_def)
 
@@ -136,21 +137,21 @@ not_both defs i j first second =
     bad_once second.def (subst IsBadCoercion same first.bad) second.bad
 
 -- definitions have one fault of labels
-one_at_labels : (defs : List Def) (a b : Unfitness) → AtLabels defs a → AtLabels defs b → a ≡ b
+one_at_labels : (defs : List Def) (a b : GrammarFault) → AtLabels defs a → AtLabels defs b → a ≡ b
 one_at_labels defs a b (i, inl (first, is)) (j, inl (second, is')) =
-    is ∙ ap bad_coercion (one_bad defs IsBadCoercion IsBadCoercion coercion_ill coercion_ill i j first second) ∙ sym is'
+    is ∙ ap BadCoercion (one_bad defs IsBadCoercion IsBadCoercion coercion_ill coercion_ill i j first second) ∙ sym is'
 one_at_labels defs a b (i, inl (first, is)) (j, inr (second, is')) = absurd (not_both defs i j first second)
 one_at_labels defs a b (i, inr (first, is)) (j, inl (second, is')) = absurd (not_both defs j i second first)
 one_at_labels defs a b (i, inr (first, is)) (j, inr (second, is')) =
-    is ∙ ap bad_list (one_bad defs IsBadList IsBadList list_ill list_ill i j first second) ∙ sym is'
+    is ∙ ap BadList (one_bad defs IsBadList IsBadList list_ill list_ill i j first second) ∙ sym is'
 
 -- definitions that are all known have no first category that is not
-known_pass : (defs : List Def) (fault : Unfitness) → AreAllKnown defs → AtUnknown defs fault → ⊥
+known_pass : (defs : List Def) (fault : GrammarFault) → AreAllKnown defs → AtUnknown defs fault → ⊥
 known_pass defs fault all (name, number, first, is) =
     names_unknown defs name number first (each_def (NamesKnown defs) defs number first.def all first.is_def)
 
 -- names that are all free have no first that is not
-names_pass : (defs : List Def) (fault : Unfitness) → HasOwnNames defs → AtOwnName defs fault → ⊥
+names_pass : (defs : List Def) (fault : GrammarFault) → HasOwnNames defs → AtOwnName defs fault → ⊥
 names_pass defs fault all (name, first, is) = not_all IsPredefined IsFree not_free _ name first all
 
 -- definitions that pass all checks fail none
@@ -163,7 +164,7 @@ fit_or_unfit defs fault fit (inr (all, inr (few, inr (own, inr (known, (name, cy
     acyclic_or_cyclic (expansion_of defs) name fit.acyclic cyclic
 
 -- a fault behind the labels
-abbrev BehindLabels : List Def → Unfitness → Type 0
+abbrev BehindLabels : List Def → GrammarFault → Type 0
 BehindLabels defs fault =
     AtCount defs fault
     ⊎ (HasFewRules defs × (AtOwnName defs fault
@@ -171,34 +172,34 @@ BehindLabels defs fault =
     ⊎ (AreAllKnown defs × AtCycle defs fault)))))
 
 -- a fault behind the count of rules
-abbrev BehindCount : List Def → Unfitness → Type 0
+abbrev BehindCount : List Def → GrammarFault → Type 0
 BehindCount defs fault =
     AtOwnName defs fault
     ⊎ (HasOwnNames defs × (AtUnknown defs fault ⊎ (AreAllKnown defs × AtCycle defs fault)))
 
 -- a fault behind the names that rules are given for
-abbrev BehindNames : List Def → Unfitness → Type 0
+abbrev BehindNames : List Def → GrammarFault → Type 0
 BehindNames defs fault = AtUnknown defs fault ⊎ (AreAllKnown defs × AtCycle defs fault)
 
 -- definitions have one fault behind the names
-one_behind_names : (defs : List Def) (a b : Unfitness) → BehindNames defs a → BehindNames defs b → a ≡ b
+one_behind_names : (defs : List Def) (a b : GrammarFault) → BehindNames defs a → BehindNames defs b → a ≡ b
 one_behind_names defs a b (inl (name, i, first, is)) (inl (other, j, second, is')) =
     is ∙ (λ k. unknown_fault (one_name defs name other i j first second k) (one_number defs name other i j first second k)) ∙ sym is'
 one_behind_names defs a b (inl unknown) (inr (known, cycle)) = absurd (known_pass defs a known unknown)
 one_behind_names defs a b (inr (known, cycle)) (inl unknown) = absurd (known_pass defs b known unknown)
 one_behind_names defs a b (inr (known, (name, cyclic, is))) (inr (known', (other, cyclic', is'))) =
-    is ∙ ap cyclic_category (one_cyclic (expansion_of defs) name other cyclic cyclic') ∙ sym is'
+    is ∙ ap Cyclic (one_cyclic (expansion_of defs) name other cyclic cyclic') ∙ sym is'
 
 -- and one behind the count of rules
-one_behind_count : (defs : List Def) (a b : Unfitness) → BehindCount defs a → BehindCount defs b → a ≡ b
+one_behind_count : (defs : List Def) (a b : GrammarFault) → BehindCount defs a → BehindCount defs b → a ≡ b
 one_behind_count defs a b (inl (name, first, is)) (inl (other, second, is')) =
-    is ∙ ap repeated_token (one_first IsPredefined IsFree not_free _ name other first second) ∙ sym is'
+    is ∙ ap RepeatedToken (one_first IsPredefined IsFree not_free _ name other first second) ∙ sym is'
 one_behind_count defs a b (inl names) (inr (own, more)) = absurd (names_pass defs a own names)
 one_behind_count defs a b (inr (own, more)) (inl names) = absurd (names_pass defs b own names)
 one_behind_count defs a b (inr (own, more)) (inr (own', more')) = one_behind_names defs a b more more'
 
 -- and one behind the labels
-one_behind_labels : (defs : List Def) (a b : Unfitness) → BehindLabels defs a → BehindLabels defs b → a ≡ b
+one_behind_labels : (defs : List Def) (a b : GrammarFault) → BehindLabels defs a → BehindLabels defs b → a ≡ b
 one_behind_labels defs a b (inl (many, is)) (inl (many', is')) = is ∙ sym is'
 one_behind_labels defs a b (inl (many, is)) (inr (few, more)) = absurd (omega (arith, many, few))
 one_behind_labels defs a b (inr (few, more)) (inl (many, is)) = absurd (omega (arith, many, few))

@@ -19,8 +19,8 @@ use Rattle.spec_lbnf.specs.Words.{is_empty, words_in}
 use Rattle.spec_lbnf.specs.GrammarFile.{IsCategory, IsLabel, category_tokens, label_tokens, WrittenItem, category, string, IsWritten, written_tokens, written_items, SpellsRule, entry_tokens, nonempty_tokens, SpellsDef, is_semicolon, pieces_of, AreSpelledBy}
 use Rattle.spec_lbnf.specs.Faults.{bare}
 use Rattle.spec_lbnf.specs.Limits.{def_size, size_of}
-use Rattle.spec_lbnf.specs.ReadingLaws.{TwoBytesForEach}
-use Rattle.spec_lbnf.proofs.TokenTestLemmas.{name_has_byte}
+use Rattle.spec_lbnf.specs.Laws.{TwoBytesForEach}
+use Rattle.spec_lbnf.proofs.BracketLemmas.{name_has_byte}
 use Rattle.spec_lbnf.proofs.BoundaryLemmas.{is_name, bracketed, category_bracketed}
 use Rattle.spec_lbnf.proofs.LeastLemmas.{least, tokens_take}
 use Rattle.std.specs.List.{AllByRecursion}

@@ -19,11 +19,11 @@ use Rattle.spec_lbnf.specs.Words.{is_empty, words_in}
 use Rattle.spec_lbnf.specs.GrammarFile.{IsCategory, category_tokens, label_tokens, WrittenItem, category, string, IsWritten, written_tokens, written_items, SpellsRule, entry_tokens, nonempty_tokens, keyword, SpellsDef, is_semicolon, pieces_of, AreSpelledBy}
 use Rattle.spec_lbnf.specs.Faults.{bare, EndsOpen, Spells}
 use Rattle.spec_lbnf.specs.Limits.{IsShallow, IsSmallItem, IsSmall}
-use Rattle.spec_lbnf.specs.ReadingLaws.{DefsWithinLimits}
+use Rattle.spec_lbnf.specs.Laws.{DefsWithinLimits}
 use Rattle.spec_lbnf.proofs.DefSizeLemmas.{two_bytes_for_each}
-use Rattle.spec_lbnf.proofs.TokenTestLemmas.{name_has_byte}
+use Rattle.spec_lbnf.proofs.BracketLemmas.{name_has_byte}
 use Rattle.spec_lbnf.proofs.BoundaryLemmas.{LacksLong, long_behind, long_before, nothing_of, nothing_closed, category_len}
-use Rattle.spec_lbnf.proofs.CategoryLemmas.{category_no_open}
+use Rattle.spec_lbnf.proofs.BracketLemmas.{category_no_open}
 use Rattle.spec_lbnf.proofs.PieceLemmas.{cut_of}
 
 -- the last of tokens that end with an open bracket is one

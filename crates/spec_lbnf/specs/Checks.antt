@@ -12,6 +12,11 @@ use Rattle.spec_lbnf.specs.declared.definition.RawRule.{RawRule}
 use Rattle.spec_lbnf.specs.declared.definition.Def.{Def}
 use Rattle.spec_lbnf.specs.declared.definition.Def.TheVariants.{Rule as RuleDef, Internal}
 use Rattle.spec_lbnf.specs.declared.definition.Def.TheVariants.{Coercions, Entry}
+use Rattle.spec_lbnf.specs.declared.fault.GrammarFault.{GrammarFault}
+use Rattle.spec_lbnf.specs.declared.fault.GrammarFault.TheVariants.{BadCoercion, BadList}
+use Rattle.spec_lbnf.specs.declared.fault.GrammarFault.TheVariants.{TooManyRules, RepeatedToken}
+use Rattle.spec_lbnf.specs.declared.fault.GrammarFault.TheVariants.{UnknownCategory, Unbuilt}
+use Rattle.spec_lbnf.specs.declared.fault.GrammarFault.TheVariants.{Cyclic}
 use Rattle.spec_grammar.specs.Grammars.{Grammar}
 use Rattle.spec_lbnf.specs.Expansion.{category_text, rules_of_def, rules_of}
 use Rattle.spec_lbnf.specs.Expansion.{item_categories, internal_category, expansion_of}
@@ -157,51 +162,38 @@ pub record IsFirstCyclic (g : Grammar) (name : List ℕ) : Type 0 where
   pub cyclic : IsCyclic g.rules category
   pub earlier : (c : ℕ) → c < category → IsCyclic g.rules c → ⊥
 
--- why definitions are unfit: a bad coercion or a bad list, by its number; too many rules, so many;
--- a predefined name that rules are given for; a category that is not known, and the number of the
--- definition that names it; such a definition alone, where the name is predefined, since predefined
--- kinds are not built; a category that reaches itself
-pub data Unfitness : Type 0 where
-  bad_coercion : (number : ℕ) → Unfitness
-  bad_list : (number : ℕ) → Unfitness
-  too_many_rules : (count : ℕ) → Unfitness
-  repeated_token : (name : List ℕ) → Unfitness
-  unknown_category : (name : List ℕ) → (number : ℕ) → Unfitness
-  unbuilt_name : (number : ℕ) → Unfitness
-  cyclic_category : (name : List ℕ) → Unfitness
-
 -- the first definition that is not well labelled is at fault
-abbrev pub AtLabels : List Def → Unfitness → Type 0
+abbrev pub AtLabels : List Def → GrammarFault → Type 0
 AtLabels defs fault =
     (number : ℕ)
-    × ((IsFirstBad IsBadCoercion defs number × (fault ≡ bad_coercion number))
-    ⊎ (IsFirstBad IsBadList defs number × (fault ≡ bad_list number)))
+    × ((IsFirstBad IsBadCoercion defs number × (fault ≡ BadCoercion number))
+    ⊎ (IsFirstBad IsBadList defs number × (fault ≡ BadList number)))
 
 -- the number of rules is at fault
-abbrev pub AtCount : List Def → Unfitness → Type 0
+abbrev pub AtCount : List Def → GrammarFault → Type 0
 AtCount defs fault =
-    (1024 < length (rules_of defs)) × (fault ≡ too_many_rules (length (rules_of defs)))
+    (1024 < length (rules_of defs)) × (fault ≡ TooManyRules (length (rules_of defs)))
 
 -- a predefined name is at fault
-abbrev pub AtOwnName : List Def → Unfitness → Type 0
-AtOwnName defs fault = (name : List ℕ) × IsFirstRepeated defs name × (fault ≡ repeated_token name)
+abbrev pub AtOwnName : List Def → GrammarFault → Type 0
+AtOwnName defs fault = (name : List ℕ) × IsFirstRepeated defs name × (fault ≡ RepeatedToken name)
 
 -- the fault of a category that is not known
-abbrev pub unknown_fault : List ℕ → ℕ → Unfitness
+abbrev pub unknown_fault : List ℕ → ℕ → GrammarFault
 unknown_fault name number =
-    cond (list_any (bytes_eq name) predefined_names) (unbuilt_name number)
-    (unknown_category name number)
+    cond (list_any (bytes_eq name) predefined_names) (Unbuilt number)
+    (UnknownCategory name number)
 
 -- a category that is not known is at fault
-abbrev pub AtUnknown : List Def → Unfitness → Type 0
+abbrev pub AtUnknown : List Def → GrammarFault → Type 0
 AtUnknown defs fault =
     (name : List ℕ) × (number : ℕ) × IsFirstUnknown defs name number
     × (fault ≡ unknown_fault name number)
 
 -- a cyclic category is at fault
-abbrev pub AtCycle : List Def → Unfitness → Type 0
+abbrev pub AtCycle : List Def → GrammarFault → Type 0
 AtCycle defs fault =
-    (name : List ℕ) × IsFirstCyclic (expansion_of defs) name × (fault ≡ cyclic_category name)
+    (name : List ℕ) × IsFirstCyclic (expansion_of defs) name × (fault ≡ Cyclic name)
 
 -- the definitions pass all checks
 pub record AreFit (defs : List Def) : Type 0 where
@@ -212,7 +204,7 @@ pub record AreFit (defs : List Def) : Type 0 where
   pub acyclic : IsAcyclic (expansion_of defs).rules
 
 -- the first check that the definitions do not pass gives this fault
-abbrev pub IsUnfit : List Def → Unfitness → Type 0
+abbrev pub IsUnfit : List Def → GrammarFault → Type 0
 IsUnfit defs fault =
     AtLabels defs fault
     ⊎ (All IsWellLabelled defs × (AtCount defs fault

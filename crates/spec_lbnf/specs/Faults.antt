@@ -5,6 +5,9 @@ use Rattle.std.specs.List.{list_any}
 use Rattle.std.specs.Str.Lossy.{utf8_valid_len}
 use Rattle.spec_lbnf.specs.declared.definition.CatName.{CatName}
 use Rattle.spec_lbnf.specs.declared.definition.Def.{Def}
+use Rattle.spec_lbnf.specs.declared.fault.TextFault.{TextFault}
+use Rattle.spec_lbnf.specs.declared.fault.TextFault.TheVariants.{TooLarge, NotUtf8, Syntax}
+use Rattle.spec_lbnf.specs.declared.fault.TextFault.TheVariants.{Unsupported, Unbuilt}
 use Rattle.spec_lbnf.specs.declared.token.Sign.TheVariants.{OpenBracket, OpenParen}
 use Rattle.spec_lbnf.specs.declared.token.FileToken.{FileToken}
 use Rattle.spec_lbnf.specs.declared.token.FileToken.TheVariants.{Identifier}
@@ -15,17 +18,6 @@ use Rattle.spec_lbnf.specs.Expansion.{category_text}
 use Rattle.spec_lbnf.specs.FileTokens.{IsScan}
 use Rattle.spec_lbnf.specs.GrammarFile.{SpellsDefs, IsCategory, category_tokens, is_semicolon}
 use Rattle.spec_lbnf.specs.GrammarFile.{pieces_of}
-
--- what keeps a grammar file from being read: it has too many bytes, so many; it stops being UTF-8
--- at a byte; a token cannot go on, at its first byte, or the file ends too early; a word of
--- labelled BNF that this profile leaves out, at its first byte; a definition whose form is not
--- built, by its number
-pub data FileFault : Type 0 where
-  too_large : (count : ℕ) → FileFault
-  not_utf8 : (at : ℕ) → FileFault
-  syntax : (at : ℕ) → FileFault
-  unsupported : (word : List ℕ) → (at : ℕ) → FileFault
-  unbuilt : (number : ℕ) → FileFault
 
 -- the tokens without their offsets
 abbrev pub bare : List PlacedToken → List FileToken
@@ -70,34 +62,34 @@ abbrev pub unbuilt_words : List (List ℕ)
 unbuilt_words = codes "token" ∷ codes "position" ∷ codes "comment" ∷ []
 
 -- the fault of a word that cannot begin a definition, at this offset behind so many definitions
-abbrev pub word_fault : ℕ → List ℕ → ℕ → FileFault
+abbrev pub word_fault : ℕ → List ℕ → ℕ → TextFault
 word_fault number word at =
-    cond (list_any (bytes_eq word) unbuilt_words) (unbuilt number) (unsupported word at)
+    cond (list_any (bytes_eq word) unbuilt_words) (Unbuilt number) (Unsupported word at)
 
 -- the fault of a token at which a definition that has begun with these cannot go on: a lower-case
 -- word at its beginning is not built or not supported; a lower-case label behind `internal` and a
 -- bracket behind a label's name are not supported; all else is a fault of syntax
-abbrev pub piece_fault : ℕ → List FileToken → FileToken → ℕ → FileFault
+abbrev pub piece_fault : ℕ → List FileToken → FileToken → ℕ → TextFault
 piece_fault number [] (Identifier word) at =
-    cond (starts_upper word) (syntax at) (word_fault number word at)
+    cond (starts_upper word) (Syntax at) (word_fault number word at)
 piece_fault number (Identifier first ∷ []) (Identifier word) at =
     cond (bytes_eq first (codes "internal"))
-    (cond (starts_upper word) (syntax at) (unsupported word at))
-    (syntax at)
+    (cond (starts_upper word) (Syntax at) (Unsupported word at))
+    (Syntax at)
 piece_fault number (Identifier first ∷ []) (SignToken OpenParen) at =
-    cond (starts_upper first) (unsupported (codes "(") at) (syntax at)
+    cond (starts_upper first) (Unsupported (codes "(") at) (Syntax at)
 piece_fault number (Identifier first ∷ Identifier label ∷ []) (SignToken OpenParen) at =
-    cond (bytes_eq first (codes "internal")) (unsupported (codes "(") at) (syntax at)
-piece_fault number piece token at = syntax at
+    cond (bytes_eq first (codes "internal")) (Unsupported (codes "(") at) (Syntax at)
+piece_fault number piece token at = Syntax at
 
 -- the fault of a token at which the file cannot go on behind these
-abbrev pub token_fault : List FileToken → FileToken → ℕ → FileFault
+abbrev pub token_fault : List FileToken → FileToken → ℕ → TextFault
 token_fault front token at =
     piece_fault (length (pieces_of front)) (last_piece front) token at
 
 -- the file goes on no further than this front of its tokens, and what comes next is this fault
 pub data StopsBehind (bytes : List ℕ) (tokens : List PlacedToken) (stop : ℕ)
-    (front : List PlacedToken) (fault : FileFault) : Type 0 where
+    (front : List PlacedToken) (fault : TextFault) : Type 0 where
   -- a token cannot go on
   at_token : (token : PlacedToken) (behind : List PlacedToken) →
       tokens ≡ front ++ token ∷ behind →
@@ -105,10 +97,10 @@ pub data StopsBehind (bytes : List ℕ) (tokens : List PlacedToken) (stop : ℕ)
       fault ≡ token_fault (bare front) token.token token.offset →
       StopsBehind bytes tokens stop front fault
   -- the tokens end before the file, at bytes that begin no token
-  at_bytes : tokens ≡ front → stop < length bytes → fault ≡ syntax stop →
+  at_bytes : tokens ≡ front → stop < length bytes → fault ≡ Syntax stop →
       StopsBehind bytes tokens stop front fault
   -- the file ends within a definition
-  at_end : tokens ≡ front → stop ≡ length bytes → fault ≡ syntax stop →
+  at_end : tokens ≡ front → stop ≡ length bytes → fault ≡ Syntax stop →
       ((defs : List Def) → SpellsDefs defs (bare tokens) → ⊥) →
       StopsBehind bytes tokens stop front fault
 
@@ -126,16 +118,16 @@ pub record IsFirstLong (tokens : List PlacedToken) (offset : ℕ) : Type 0 where
 -- the front of the tokens can go on, and there is a fault in it or behind it: its first category
 -- that is too long, or else what comes next, which cannot go on
 pub data FaultsAt (bytes : List ℕ) (tokens : List PlacedToken) (stop : ℕ)
-    (front : List PlacedToken) (fault : FileFault) : Type 0 where
+    (front : List PlacedToken) (fault : TextFault) : Type 0 where
   -- a category is too long
-  at_long : (offset : ℕ) → IsFirstLong front offset → fault ≡ syntax offset →
+  at_long : (offset : ℕ) → IsFirstLong front offset → fault ≡ Syntax offset →
       FaultsAt bytes tokens stop front fault
   -- what comes next cannot go on
   behind : ((before : List FileToken) → HasLongCategory (bare front) before → ⊥) →
       StopsBehind bytes tokens stop front fault → FaultsAt bytes tokens stop front fault
 
 -- the first fault of the tokens of a file
-pub record IsTokenFault (bytes : List ℕ) (fault : FileFault) : Type 0 where
+pub record IsTokenFault (bytes : List ℕ) (fault : TextFault) : Type 0 where
   pub tokens : List PlacedToken
   pub stop : ℕ
   pub scan : IsScan bytes tokens stop
@@ -147,9 +139,9 @@ pub record IsTokenFault (bytes : List ℕ) (fault : FileFault) : Type 0 where
 
 -- the first fault of a file: its size, then its encoding, then the least offset at which it cannot
 -- go on
-pub data IsFirstFault (bytes : List ℕ) (fault : FileFault) : Type 0 where
-  is_large : 65536 < length bytes → fault ≡ too_large (length bytes) → IsFirstFault bytes fault
+pub data IsFirstFault (bytes : List ℕ) (fault : TextFault) : Type 0 where
+  is_large : 65536 < length bytes → fault ≡ TooLarge (length bytes) → IsFirstFault bytes fault
   is_not_utf8 : length bytes ≤ 65536 → utf8_valid_len bytes < length bytes →
-      fault ≡ not_utf8 (utf8_valid_len bytes) → IsFirstFault bytes fault
+      fault ≡ NotUtf8 (utf8_valid_len bytes) → IsFirstFault bytes fault
   in_tokens : length bytes ≤ 65536 → IsUtf8 bytes → IsTokenFault bytes fault →
       IsFirstFault bytes fault

@@ -1,11 +1,16 @@
--- What is true of expansion and of its checks, for every list of definitions.
-use Rattle.std.specs.Prelude.{◌≡◌, ℕ, ◌↔◌, List, Some, slice_get, Contains, IfSome}
+-- What is true of expansion and of its checks, for every list of definitions, and of the size of
+-- what a file spells.
+use Rattle.std.specs.Prelude.{◌≡◌, ℕ, ◌*◌, ◌≤◌, ◌↔◌, List, length, Some, slice_get, Contains}
+use Rattle.std.specs.Prelude.{IfSome}
 use Rattle.spec_grammar.specs.Cycles.{IsAcyclic}
 use Rattle.spec_lbnf.specs.declared.definition.Def.{Def}
+use Rattle.spec_lbnf.specs.declared.fault.GrammarFault.{GrammarFault}
+use Rattle.spec_lbnf.specs.Faults.{Spells}
+use Rattle.spec_lbnf.specs.Limits.{size_of, AreWithinLimits}
 use Rattle.spec_grammar.specs.Grammars.{Grammar, name_number, HasOwnSymbols}
 use Rattle.spec_lbnf.specs.Expansion.{distinct, expansion_of}
 use Rattle.spec_grammar.specs.Grammars.{IsSymbolOf}
-use Rattle.spec_lbnf.specs.Checks.{AreAllKnown, IsFirstCyclic, Unfitness, AreFit, IsUnfit}
+use Rattle.spec_lbnf.specs.Checks.{AreAllKnown, IsFirstCyclic, AreFit, IsUnfit}
 
 -- the rules that definitions give have symbols of their grammar alone
 abbrev pub OwnSymbols : Type 0
@@ -19,12 +24,12 @@ OwnEntry =
 
 -- no definitions are fit and unfit
 abbrev pub FitOrUnfit : Type 0
-FitOrUnfit = (defs : List Def) (fault : Unfitness) → AreFit defs → IsUnfit defs fault → ⊥
+FitOrUnfit = (defs : List Def) (fault : GrammarFault) → AreFit defs → IsUnfit defs fault → ⊥
 
 -- definitions are unfit for one reason
 abbrev pub OneUnfitness : Type 0
 OneUnfitness =
-    (defs : List Def) (a b : Unfitness) → IsUnfit defs a → IsUnfit defs b → a ≡ b
+    (defs : List Def) (a b : GrammarFault) → IsUnfit defs a → IsUnfit defs b → a ≡ b
 
 -- no grammar both is without a cycle and has a first cyclic category
 abbrev pub AcyclicOrCyclic : Type 0
@@ -51,3 +56,12 @@ pub record IsDistinctOf (names xs : List (List ℕ)) : Type 0 where
 -- the list that `distinct` gives has each name of the list once
 abbrev pub DistinctNames : Type 0
 DistinctNames = (names : List (List ℕ)) → IsDistinctOf names (distinct names)
+
+-- a file has at least two bytes for each of these
+abbrev pub TwoBytesForEach : Type 0
+TwoBytesForEach =
+    (bytes : List ℕ) (defs : List Def) → Spells bytes defs → 2 * size_of defs ≤ length bytes
+
+-- what a file spells is within the limits
+abbrev pub DefsWithinLimits : Type 0
+DefsWithinLimits = (bytes : List ℕ) (defs : List Def) → Spells bytes defs → AreWithinLimits defs

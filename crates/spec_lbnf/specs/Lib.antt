@@ -6,13 +6,4 @@ pub mod Faults
 pub mod Limits
 pub mod Expansion
 pub mod Checks
-pub mod FileLaws
-pub mod ReadingLaws
 pub mod Laws
-pub mod ScanExamples
-pub mod ReadingExamples
-pub mod ExpansionExamples
-pub mod CheckExamples
-pub mod Scanning
-pub mod FileReading
-pub mod FileDefinitions

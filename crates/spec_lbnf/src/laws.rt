@@ -2,8 +2,7 @@
 ghost use Rattle.spec_lbnf.specs.Laws.{OwnSymbols, OwnEntry, FitOrUnfit, OneUnfitness};
 ghost use Rattle.spec_lbnf.specs.Laws.{NumbersNameBack};
 ghost use Rattle.spec_lbnf.specs.Laws.{AcyclicOrCyclic, OneCyclic, DistinctNames};
-ghost use Rattle.spec_lbnf.specs.ExpansionExamples.{SmallExpansions};
-ghost use Rattle.spec_lbnf.specs.CheckExamples.{SmallChecks};
+ghost use Rattle.spec_lbnf.specs.Laws.{TwoBytesForEach, DefsWithinLimits};
 
 /// Each rule of the grammar that definitions stand for is of a category of that grammar, and its
 /// items are categories and kinds of it, whether or not each category has a rule.
@@ -40,12 +39,15 @@ pub fn distinct_names()
     ensures { DistinctNames }
 {}
 
-/// What small definitions stand for, by hand.
-pub fn small_expansions()
-    ensures { SmallExpansions }
+/// A file has at least two bytes for each definition, item, entry category and word of a terminator
+/// or separator that it spells.
+pub fn two_bytes_for_each()
+    ensures { TwoBytesForEach }
 {}
 
-/// That small definitions are fit, or why they are unfit, by hand.
-pub fn small_checks()
-    ensures { SmallChecks }
+/// What a file spells has at most 32,768 definitions, items, entry categories and words of
+/// terminators and separators together, no category has more than 63 brackets on a side, and no
+/// word of an item is empty.
+pub fn defs_within_limits()
+    ensures { DefsWithinLimits }
 {}

@@ -7,13 +7,15 @@ use Rattle.std.proofs.lemmas.Str.{IsUtf8-from_is_utf8}
 use Rattle.spec_grammar.specs.declared.rule.Label.TheVariants.{Wild}
 use Rattle.spec_lbnf.specs.declared.definition.Def.{Def}
 use Rattle.spec_lbnf.specs.declared.definition.Def.TheVariants.{Rule}
-use Rattle.spec_lbnf.specs.Faults.{Spells, IsFirstFault, syntax}
-use Rattle.spec_lbnf.specs.Checks.{IsUnfit, bad_coercion}
-use Rattle.spec_lbnf.specs.Scanning.{scan_of, behind_closing, behind_space, identifier_at, number_token_at, literal_from, string_at, character_at, sign_token_at, token_at, tokens_from}
-use Rattle.spec_lbnf.specs.FileReading.{next_on, take_token, sign_at, name_at, text_at, number_at, closes_at, bracketed_at, category_at, nil_at, one_at, colon_label_at, paren_label_at, sign_label_at, label_at, item_at, items_at, side_at, rule_at, macro_at, list_macro_at, coercions_at, more_entries_at, entries_at, to_end, def_by, def_at}
-use Rattle.spec_lbnf.specs.FileDefinitions.{piece_def, defs_at}
-use Rattle.spec_lbnf.proofs.ScanLemmas.{scanned}
-use Rattle.spec_lbnf.proofs.FaultLemmas.{defs_are, fault_is}
+use Rattle.spec_lbnf.specs.declared.fault.TextFault.TheVariants.{Syntax}
+use Rattle.spec_lbnf.specs.declared.fault.GrammarFault.TheVariants.{BadCoercion}
+use Rattle.spec_lbnf.specs.Faults.{Spells, IsFirstFault}
+use Rattle.spec_lbnf.specs.Checks.{IsUnfit}
+use Rattle.lbnf_readers.specs.Scanning.{scan_of, behind_closing, behind_space, identifier_at, number_token_at, literal_from, string_at, character_at, sign_token_at, token_at, tokens_from}
+use Rattle.lbnf_readers.specs.FileReading.{next_on, take_token, sign_at, name_at, text_at, number_at, closes_at, bracketed_at, category_at, nil_at, one_at, colon_label_at, paren_label_at, sign_label_at, label_at, item_at, items_at, side_at, rule_at, macro_at, list_macro_at, coercions_at, more_entries_at, entries_at, to_end, def_by, def_at}
+use Rattle.lbnf_readers.specs.FileDefinitions.{piece_def, defs_at}
+use Rattle.lbnf_readers.proofs.ScanLemmas.{scanned}
+use Rattle.lbnf_readers.proofs.FaultLemmas.{defs_are, fault_is}
 use Rattle.spec_session.specs.Script.{Command, header, grammar, opens, has, line_of, block_of, text_of, IsWithinLimits, IsInOrder, broken, IsScript}
 use Rattle.spec_session.specs.Replies.{as_line, IsRefused, faulty, unfit, fault_reason, unfit_reason, refusal_line, with_number}
 use Rattle.spec_session.specs.Sessions.{last_line, IsSession, refused, whole}
@@ -125,14 +127,14 @@ module _ (block more word : List ℕ) (digit : ℕ) (short : length block < 10) 
       (subst (IsRefused block) (ap (λ digits. refusal_line (word ++ (codes " " ++ digits))) (decimal_digit digit small)) refusal) refl
 
 -- a bracket is a fault of syntax
-faulty_block : IsFirstFault (codes ")") (syntax 0)
+faulty_block : IsFirstFault (codes ")") (Syntax 0)
 unfolding encode_utf8 chars is_utf8 behind_closing behind_space identifier_at number_token_at literal_from string_at character_at sign_token_at token_at tokens_from next_on take_token sign_at name_at text_at number_at closes_at bracketed_at category_at nil_at one_at colon_label_at paren_label_at sign_label_at label_at item_at items_at side_at rule_at macro_at list_macro_at coercions_at more_entries_at entries_at to_end def_by def_at piece_def defs_at
 faulty_block =
     let bytes : List ℕ = codes ")" in
-    fault_is bytes (scan_of bytes).0 (scan_of bytes).1 (scanned bytes) (syntax 0) (omega arith) (IsUtf8-from_is_utf8 bytes refl) refl
+    fault_is bytes (scan_of bytes).0 (scan_of bytes).1 (scanned bytes) (Syntax 0) (omega arith) (IsUtf8-from_is_utf8 bytes refl) refl
 
 pub faulty_refused : IsRefused (codes ")") (refusal_line (with_number (codes "syntax") 0))
-faulty_refused = (fault_reason (syntax 0), faulty (syntax 0) faulty_block refl, refl)
+faulty_refused = (fault_reason (Syntax 0), faulty (Syntax 0) faulty_block refl, refl)
 
 -- the definition of an unlabelled rule without items
 abbrev wild_rule : Def
@@ -145,7 +147,7 @@ wild_block =
     defs_are bytes (scan_of bytes).0 (scan_of bytes).1 (scanned bytes) (wild_rule ∷ []) (omega arith) (IsUtf8-from_is_utf8 bytes refl) refl refl
 
 -- which is a bad coercion
-wild_unfit : IsUnfit (wild_rule ∷ []) (bad_coercion 0)
+wild_unfit : IsUnfit (wild_rule ∷ []) (BadCoercion 0)
 wild_unfit = inl (
   0,
   inl (
@@ -161,4 +163,4 @@ wild_unfit = inl (
 
 pub unfit_refused : IsRefused (codes "_.S::=") (refusal_line (with_number (codes "coercion") 0))
 unfit_refused =
-    (unfit_reason (bad_coercion 0), unfit (wild_rule ∷ []) (bad_coercion 0) wild_block wild_unfit refl, refl)
+    (unfit_reason (BadCoercion 0), unfit (wild_rule ∷ []) (BadCoercion 0) wild_block wild_unfit refl, refl)

@@ -25,11 +25,11 @@ use Rattle.spec_lbnf.specs.Faults.{Spells}
 use Rattle.spec_grammar.specs.Grammars.{Grammar}
 use Rattle.spec_lbnf.specs.Expansion.{expansion_of}
 use Rattle.spec_lbnf.specs.Checks.{IsPredefined, IsFree, IsKnown, IsWellLabelled, NamesKnown, AreFit}
-use Rattle.spec_lbnf.specs.Scanning.{scan_of, behind_closing, behind_space, identifier_at, number_token_at, literal_from, string_at, character_at, sign_token_at, token_at, tokens_from}
-use Rattle.spec_lbnf.specs.FileReading.{next_on, take_token, sign_at, name_at, text_at, number_at, closes_at, bracketed_at, category_at, nil_at, one_at, colon_label_at, paren_label_at, sign_label_at, label_at, item_at, items_at, side_at, rule_at, macro_at, list_macro_at, coercions_at, more_entries_at, entries_at, to_end, def_by, def_at}
-use Rattle.spec_lbnf.specs.FileDefinitions.{piece_def, defs_at}
-use Rattle.spec_lbnf.proofs.ScanLemmas.{scanned}
-use Rattle.spec_lbnf.proofs.FaultLemmas.{defs_are}
+use Rattle.lbnf_readers.specs.Scanning.{scan_of, behind_closing, behind_space, identifier_at, number_token_at, literal_from, string_at, character_at, sign_token_at, token_at, tokens_from}
+use Rattle.lbnf_readers.specs.FileReading.{next_on, take_token, sign_at, name_at, text_at, number_at, closes_at, bracketed_at, category_at, nil_at, one_at, colon_label_at, paren_label_at, sign_label_at, label_at, item_at, items_at, side_at, rule_at, macro_at, list_macro_at, coercions_at, more_entries_at, entries_at, to_end, def_by, def_at}
+use Rattle.lbnf_readers.specs.FileDefinitions.{piece_def, defs_at}
+use Rattle.lbnf_readers.proofs.ScanLemmas.{scanned}
+use Rattle.lbnf_readers.proofs.FaultLemmas.{defs_are}
 use Rattle.spec_session.specs.Script.{Constituent, entry_whole, category_whole, category_span, has}
 use Rattle.spec_session.specs.Replies.{as_line, IsAccepted, IsDerived, IsAnswer, refused_category, refused_span, yes, no, IsReply}
 

@@ -8,7 +8,7 @@ use Rattle.spec_grammar.specs.Grammars.{Grammar, symbol_count}
 use Rattle.spec_lbnf.specs.Expansion.{expansion_of}
 use Rattle.spec_lbnf.specs.declared.definition.Def.{Def}
 use Rattle.spec_lbnf.specs.Checks.{IsUnfit}
-use Rattle.spec_lbnf.proofs.FaultLemmas.{one_file_of_defs, one_first_fault, spelled_or_faulty}
+use Rattle.lbnf_readers.proofs.FaultLemmas.{one_file_of_defs, one_first_fault, spelled_or_faulty}
 use Rattle.spec_lbnf.proofs.CheckLemmas.{fit_or_unfit, one_unfitness}
 use Rattle.spec_session.specs.Script.{Constituent, Command, header, grammar, opens, has}
 use Rattle.spec_session.specs.Replies.{IsAccepted, IsRefused, IsRefusedFor, faulty, unfit, too_many_symbols, fault_reason, unfit_reason, symbols_reason, refusal_line, version_reply, HasCategory, IsWithin, IsOutside, IsDerived, IsAnswer, refused_category, refused_span, yes, no, IsCurrent, IsReply}

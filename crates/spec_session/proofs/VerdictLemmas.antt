@@ -4,34 +4,36 @@ use Rattle.std.specs.Prelude.{All, flat_map}
 use Rattle.std.proofs.lemmas.Bool.{cases_lt}
 use Rattle.std.proofs.lemmas.List.Elements.{All-from_recursion}
 use Rattle.spec_lbnf.specs.declared.definition.Def.{Def}
+use Rattle.spec_lbnf.specs.declared.fault.GrammarFault.{GrammarFault}
+use Rattle.spec_lbnf.specs.declared.fault.GrammarFault.TheVariants.{BadCoercion, BadList, Cyclic, RepeatedToken, TooManyRules}
 use Rattle.spec_lbnf.specs.Faults.{Spells}
 use Rattle.spec_grammar.specs.Grammars.{Grammar, HasOwnSymbols, symbol_count}
 use Rattle.spec_lbnf.specs.Expansion.{expansion_of, rules_of}
 use Rattle.spec_lbnf.specs.Checks.{IsKnown, NamesKnown, AreAllKnown, IsFirstUnknown, IsFirstCyclic, named_categories, IsFree, IsFirstRepeated, HasOwnNames, own_categories}
-use Rattle.spec_lbnf.specs.Checks.{IsWellLabelled, HasFewRules, AreFit, IsUnfit, Unfitness, AtLabels, bad_coercion, bad_list, too_many_rules, repeated_token, unknown_fault, cyclic_category}
+use Rattle.spec_lbnf.specs.Checks.{IsWellLabelled, HasFewRules, AreFit, IsUnfit, AtLabels, unknown_fault}
 use Rattle.spec_lbnf.proofs.ListLemmas.{item_at}
 use Rattle.spec_lbnf.proofs.SymbolLemmas.{own_symbols}
-use Rattle.spec_lbnf.proofs.FaultLemmas.{defs_or_fault}
+use Rattle.lbnf_readers.proofs.FaultLemmas.{defs_or_fault}
 use Rattle.spec_grammar.specs.Cycles.{IsCyclic, IsAcyclic}
 use Rattle.spec_session.specs.Replies.{IsAccepted, AreAccepted, IsRefused, IsRefusedFor, faulty, unfit, too_many_symbols, fault_reason, unfit_reason, symbols_reason, refusal_line}
 use Rattle.spec_session.proofs.DenialLemmas.{IsUndeniable, decided, FirstWithout, AllOrFirst, all_or_first, first_place, holds_earlier}
 
 module _ (defs : List Def) where
   -- a first definition that is not well labelled is a bad coercion or a bad list
-  bad_so : (first : FirstWithout IsWellLabelled defs) → IsUndeniable ((fault : Unfitness) × AtLabels defs fault)
+  bad_so : (first : FirstWithout IsWellLabelled defs) → IsUndeniable ((fault : GrammarFault) × AtLabels defs fault)
   bad_so first denied =
       let number : ℕ = length first.before in
       let is_def : slice_get defs number ≡ Some first.item = first_place IsWellLabelled defs first in
       let earlier : (k : ℕ) (other : Def) → k < number → slice_get defs k ≡ Some other → IsWellLabelled other
       = holds_earlier IsWellLabelled defs first in
       first.without (
-        (λ coercion. denied (bad_coercion number, (number, inl (record { def = first.item; is_def = is_def; bad = coercion; earlier = earlier }, refl)))),
-        (λ list. denied (bad_list number, (number, inr (record { def = first.item; is_def = is_def; bad = list; earlier = earlier }, refl)))),
+        (λ coercion. denied (BadCoercion number, (number, inl (record { def = first.item; is_def = is_def; bad = coercion; earlier = earlier }, refl)))),
+        (λ list. denied (BadList number, (number, inr (record { def = first.item; is_def = is_def; bad = list; earlier = earlier }, refl)))),
       )
 
   -- all definitions are well labelled, or there is a fault of labels
   abbrev AreLabelledOrNot : Type 0
-  AreLabelledOrNot = All IsWellLabelled defs ⊎ ((fault : Unfitness) × AtLabels defs fault)
+  AreLabelledOrNot = All IsWellLabelled defs ⊎ ((fault : GrammarFault) × AtLabels defs fault)
 
   -- that one of the two is so cannot be denied
   labelled_or_not : IsUndeniable AreLabelledOrNot
@@ -39,7 +41,7 @@ module _ (defs : List Def) where
       all_or_first IsWellLabelled defs
       (λ (split : AllOrFirst IsWellLabelled defs). elim split [
         | inl all ↦ denied (inl (All-from_recursion IsWellLabelled defs all))
-        | inr first ↦ bad_so first (λ (found : (fault : Unfitness) × AtLabels defs fault). denied (inr found))
+        | inr first ↦ bad_so first (λ (found : (fault : GrammarFault) × AtLabels defs fault). denied (inr found))
       ])
 
   -- no rules are given for predefined names, or there is a first one
@@ -167,7 +169,7 @@ module _ (g : Grammar) where
 
 -- the definitions are fit or unfit
 abbrev AreFitOrNot : List Def → Type 0
-AreFitOrNot defs = AreFit defs ⊎ ((why : Unfitness) × IsUnfit defs why)
+AreFitOrNot defs = AreFit defs ⊎ ((why : GrammarFault) × IsUnfit defs why)
 
 -- that one of the two is so cannot be denied
 fit_or_not : (defs : List Def) → IsUndeniable (AreFitOrNot defs)
@@ -192,7 +194,7 @@ fit_or_not defs denied =
           }))
           | inr least ↦
               let first = first_cyclic g least.0 least.1 least.2 in
-              denied (inr (cyclic_category first.0, inr (labelled, inr (few, inr (own_names, inr (known, (first.0, first.1, refl)))))))
+              denied (inr (Cyclic first.0, inr (labelled, inr (few, inr (own_names, inr (known, (first.0, first.1, refl)))))))
         ])
 
     by_categories : All IsWellLabelled defs → HasFewRules defs → HasOwnNames defs → ⊥
@@ -206,12 +208,12 @@ fit_or_not defs denied =
     by_names labelled few =
         free_or_not defs (λ (split : AreFreeOrNot defs). elim split [
           | inl own_names ↦ by_categories labelled few own_names
-          | inr first ↦ denied (inr (repeated_token first.0, inr (labelled, inr (few, inl (first.0, first.1, refl)))))
+          | inr first ↦ denied (inr (RepeatedToken first.0, inr (labelled, inr (few, inl (first.0, first.1, refl)))))
         ])
 
     by_count : All IsWellLabelled defs → ⊥
     by_count labelled = elim (cases_lt 1024 (length (rules_of defs))) [
-      | inl many ↦ denied (inr (too_many_rules (length (rules_of defs)), inr (labelled, inl (many, refl))))
+      | inl many ↦ denied (inr (TooManyRules (length (rules_of defs)), inr (labelled, inl (many, refl))))
       | inr few ↦ by_names labelled few
     ]
 

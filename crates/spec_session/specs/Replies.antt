@@ -6,13 +6,14 @@ use Rattle.spec_grammar.specs.Derivation.{Derives}
 use Rattle.spec_lexing.specs.declared.token.Token.{Token}
 use Rattle.spec_lexing.specs.Tokens.{AreTokensOf, kinds_of}
 use Rattle.spec_lbnf.specs.declared.definition.Def.{Def}
-use Rattle.spec_lbnf.specs.Faults.{Spells, IsFirstFault, FileFault, too_large, not_utf8, syntax}
-use Rattle.spec_lbnf.specs.Faults.{unsupported, unbuilt}
+use Rattle.spec_lbnf.specs.declared.fault.TextFault.{TextFault}
+use Rattle.spec_lbnf.specs.declared.fault.TextFault.TheVariants as file
+use Rattle.spec_lbnf.specs.declared.fault.GrammarFault.{GrammarFault}
+use Rattle.spec_lbnf.specs.declared.fault.GrammarFault.TheVariants as made
+use Rattle.spec_lbnf.specs.Faults.{Spells, IsFirstFault}
 use Rattle.spec_grammar.specs.Grammars.{Grammar, symbol_count}
 use Rattle.spec_lbnf.specs.Expansion.{expansion_of}
-use Rattle.spec_lbnf.specs.Checks.{AreFit, IsUnfit, Unfitness, bad_coercion, bad_list}
-use Rattle.spec_lbnf.specs.Checks.{too_many_rules, repeated_token, unknown_category, unbuilt_name}
-use Rattle.spec_lbnf.specs.Checks.{cyclic_category}
+use Rattle.spec_lbnf.specs.Checks.{AreFit, IsUnfit}
 use Rattle.spec_session.specs.Script.{Constituent, entry_whole, category_whole, category_span}
 use Rattle.spec_session.specs.Script.{Command, header, grammar, opens, has}
 
@@ -53,23 +54,25 @@ with_name word name = word ++ (codes " " ++ name)
 abbrev pub with_both : List ℕ → List ℕ → ℕ → List ℕ
 with_both word name number = word ++ (codes " " ++ with_number name number)
 
--- the reason of a fault of a grammar file
-abbrev pub fault_reason : FileFault → List ℕ
-fault_reason (too_large count) = with_number (codes "large") count
-fault_reason (not_utf8 at) = with_number (codes "utf8") at
-fault_reason (syntax at) = with_number (codes "syntax") at
-fault_reason (unsupported word at) = with_both (codes "unsupported") word at
-fault_reason (unbuilt number) = with_number (codes "unbuilt") number
+-- the reason of a fault of a grammar file; want of memory is none, and has no word
+abbrev pub fault_reason : TextFault → List ℕ
+fault_reason file.Memory = []
+fault_reason (file.TooLarge count) = with_number (codes "large") count
+fault_reason (file.NotUtf8 at) = with_number (codes "utf8") at
+fault_reason (file.Syntax at) = with_number (codes "syntax") at
+fault_reason (file.Unsupported word at) = with_both (codes "unsupported") word at
+fault_reason (file.Unbuilt number) = with_number (codes "unbuilt") number
 
--- the reason why definitions are unfit
-abbrev pub unfit_reason : Unfitness → List ℕ
-unfit_reason (bad_coercion number) = with_number (codes "coercion") number
-unfit_reason (bad_list number) = with_number (codes "list") number
-unfit_reason (too_many_rules count) = with_number (codes "rules") count
-unfit_reason (repeated_token name) = with_name (codes "token") name
-unfit_reason (unknown_category name number) = with_both (codes "category") name number
-unfit_reason (unbuilt_name number) = with_number (codes "unbuilt") number
-unfit_reason (cyclic_category name) = with_name (codes "cyclic") name
+-- the reason why definitions are unfit; want of memory is none, and has no word
+abbrev pub unfit_reason : GrammarFault → List ℕ
+unfit_reason made.Memory = []
+unfit_reason (made.BadCoercion number) = with_number (codes "coercion") number
+unfit_reason (made.BadList number) = with_number (codes "list") number
+unfit_reason (made.TooManyRules count) = with_number (codes "rules") count
+unfit_reason (made.RepeatedToken name) = with_name (codes "token") name
+unfit_reason (made.UnknownCategory name number) = with_both (codes "category") name number
+unfit_reason (made.Unbuilt number) = with_number (codes "unbuilt") number
+unfit_reason (made.Cyclic name) = with_name (codes "cyclic") name
 
 -- the reason where there are too many symbols, so many
 abbrev pub symbols_reason : ℕ → List ℕ
@@ -78,9 +81,9 @@ symbols_reason count = with_number (codes "symbols") count
 -- the block is refused for this reason: for the first fault of the file; or else since its
 -- definitions are unfit; or else for too many symbols
 pub data IsRefusedFor (block reason : List ℕ) : Type 0 where
-  faulty : (fault : FileFault) → IsFirstFault block fault → reason ≡ fault_reason fault
+  faulty : (fault : TextFault) → IsFirstFault block fault → reason ≡ fault_reason fault
       → IsRefusedFor block reason
-  unfit : (defs : List Def) (why : Unfitness) → Spells block defs → IsUnfit defs why
+  unfit : (defs : List Def) (why : GrammarFault) → Spells block defs → IsUnfit defs why
       → reason ≡ unfit_reason why → IsRefusedFor block reason
   too_many_symbols : (defs : List Def) → Spells block defs → AreFit defs
       → 2048 < symbol_count (expansion_of defs)
@@ -189,5 +192,5 @@ IsReply g texts (opens text) line =
     (tokens : List Token) × AreTokensOf g.lexicon.kinds text tokens
     × (line ≡ version_reply (length texts) (length tokens))
 IsReply g texts (has constituent) line =
-    (text : List ℕ) × (tokens : List Token) × IsCurrent texts text
-    × AreTokensOf g.lexicon.kinds text tokens × IsAnswer g tokens constituent line
+    (text : List ℕ) × (tokens : List Token) × IsCurrent texts text × AreTokensOf g.lexicon.kinds text tokens
+    × IsAnswer g tokens constituent line

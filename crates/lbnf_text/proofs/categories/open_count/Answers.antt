@@ -2,7 +2,7 @@ use Rattle.std.proofs.Common.{sym, ◌∙◌, arith, Bool}
 use Rattle.std.proofs.lemmas.List.Sums.{prefix_len_is}
 use Rattle.spec_lbnf.specs.declared.token.PlacedToken.{PlacedToken}
 use Rattle.spec_lbnf.specs.declared.token.Sign.TheVariants.{OpenBracket}
-use Rattle.spec_lbnf.specs.FileReading.{is_sign}
+use Rattle.lbnf_readers.specs.FileReading.{is_sign}
 use Rattle.lbnf_text.proofs.ParsingLemmas.{open_run, all_open}
 use Rattle.lbnf_text.proofs.categories.open_count.Goals as goal
 

@@ -1,10 +1,8 @@
 use Rattle.std.proofs.Common.{◌≡◌, ◌++◌, ◌∷◌, [], ◌∙◌, List, length, sym, ap, subst, arith, rules}
 use Rattle.std.proofs.lemmas.Result.{err_from_is_err_and}
-use Rattle.std.proofs.lemmas.Option.{IfSome_then}
 use Rattle.spec_lbnf.specs.declared.token.PlacedToken.{PlacedToken}
-use Rattle.spec_lbnf.specs.FileDefinitions.{piece_at, behind_piece}
-use Rattle.lbnf_text.specs.Reading.{file_fault_of}
-use Rattle.lbnf_text.proofs.DefinitionsLemmas.{AreReadDefs, skip_semicolon, shorter, no_defs, more_defs, all_read}
+use Rattle.lbnf_readers.specs.FileDefinitions.{piece_at, behind_piece}
+use Rattle.lbnf_text.proofs.DefinitionsLemmas.{AreReadDefs, skip_semicolon, shorter, still_fault, no_defs, more_defs, all_read}
 use Rattle.lbnf_text.proofs.definitions.definitions.Goals as goal
 
 pub pieces-preserved-then-is_semicolon : goal.pieces-preserved-then-is_semicolon
@@ -18,7 +16,7 @@ returns-in_err-def c =
     let split = c.in-Some.ensures in
     let read = subst (AreReadDefs c.args.tokens.now c.args.stop c.pieces.list.items) split c.pieces.invariant in
     let number : length c.pieces.list.items ≡ c.len-number.result = search rules in
-    rw (p.1, p.2) (IfSome_then (file_fault_of c.in_err-def.field-0.0) (rw (← c.offset_of.ensures, number) c.in_err-def.ensures) (no_defs c.args.tokens.now c.args.stop c.pieces.list.items c.in-Some.first.now c.in-Some.behind.now c.cut.result.0.now c.cut.result.1.now read (sym c.is_semicolon.ensures ∙ c.if-is_semicolon.false) (c.cut.ensures.piece ∙ ap piece_at split) (c.cut.ensures.behind ∙ ap behind_piece split)))
+    rw (p.1, p.2) (still_fault c.in_err-def.field-0.0 _ _ (rw (← c.offset_of.ensures, number) c.in_err-def.ensures) (no_defs c.args.tokens.now c.args.stop c.pieces.list.items c.in-Some.first.now c.in-Some.behind.now c.cut.result.0.now c.cut.result.1.now read (sym c.is_semicolon.ensures ∙ c.if-is_semicolon.false) (c.cut.ensures.piece ∙ ap piece_at split) (c.cut.ensures.behind ∙ ap behind_piece split)))
 
 pub pieces-smaller : goal.pieces-smaller
 pieces-smaller c =

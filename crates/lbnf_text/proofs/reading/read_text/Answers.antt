@@ -1,9 +1,9 @@
-use Rattle.std.proofs.Common.{Vec, Global, ◌≡◌, ◌<◌, length, rules, arith}
+use Rattle.std.proofs.Common.{Vec, Global, ◌≡◌, ◌<◌, length, rules, arith, inr}
 use Rattle.std.proofs.lemmas.Result.{err_from_is_err_and}
 use Rattle.spec_lbnf.specs.declared.definition.Def.{Def}
 use Rattle.spec_lbnf.specs.FileTokens.{IsScan}
-use Rattle.spec_lbnf.specs.FileDefinitions.{defs_of}
-use Rattle.spec_lbnf.proofs.FaultLemmas.{defs_are, stop_is, fault_is}
+use Rattle.lbnf_readers.specs.FileDefinitions.{defs_of}
+use Rattle.lbnf_readers.proofs.FaultLemmas.{defs_are, stop_is, fault_is}
 use Rattle.lbnf_text.proofs.FileLemmas.{told_fault, stop_within, few_tokens}
 use Rattle.lbnf_text.proofs.reading.read_text.Goals as goal
 
@@ -22,7 +22,7 @@ pub returns-then-scan-text : goal.returns-then-scan-text
 returns-then-scan-text c =
     let scan : IsScan c.args.text.now c.in_ok-scan.scan.tokens.items c.in_ok-scan.scan.stop = search rules in
     let early : c.in_ok-scan.scan.stop < length c.args.text.now = omega arith in
-    stop_is c.args.text.now c.in_ok-scan.scan.tokens.items c.in_ok-scan.scan.stop scan c.in_ok-defs.defs.items c.requires c.utf8.text early (rw (← c.as_slice.ensures.value) c.in_ok-defs.ensures)
+    inr (stop_is c.args.text.now c.in_ok-scan.scan.tokens.items c.in_ok-scan.scan.stop scan c.in_ok-defs.defs.items c.requires c.utf8.text early (rw (← c.as_slice.ensures.value) c.in_ok-defs.ensures))
 
 pub returns : goal.returns
 returns c =

@@ -1,7 +1,7 @@
 -- Each token that is read is the next one of the file.
 use Rattle.std.proofs.Common.{ℕ, [], length, rules, arith, append_assoc}
 use Rattle.std.proofs.lemmas.List.{append-nil}
-use Rattle.spec_lbnf.proofs.ScanLemmas.{skip_shorter}
+use Rattle.lbnf_readers.proofs.ScanLemmas.{skip_shorter}
 use Rattle.lbnf_text.proofs.ScanTextLemmas.{behind_token_is_shorter, token_then, no_token_then}
 use Rattle.lbnf_text.proofs.scanner.scan_file.Goals as goal
 

@@ -2,7 +2,7 @@
 use Rattle.std.proofs.Common.{◌≡◌, length, option_map, false, string_bytes}
 use denote.Shadow.{shadow}
 use denote.Text.{Utf8}
-use Rattle.spec_lbnf.specs.Scanning.{literal_from}
+use Rattle.lbnf_readers.specs.Scanning.{literal_from}
 use Rattle.lbnf_text.proofs.PartLemmas.{bytes_before}
 use Rattle.lbnf_text.proofs.scanner.string.Given as goal
 

@@ -1,6 +1,6 @@
 use Rattle.std.proofs.Common.{◌≡◌, codes, true, false}
 use Rattle.spec_lbnf.specs.declared.token.FileToken.{FileToken}
-use Rattle.spec_lbnf.specs.FileReading.{is_word}
+use Rattle.lbnf_readers.specs.FileReading.{is_word}
 use Rattle.lbnf_text.proofs.ParsingLemmas.{separator_by}
 use Rattle.lbnf_text.proofs.parser.Parser.def_by.Goals as goal
 

@@ -1,0 +1,361 @@
+-- A file has one first fault, or spells one list of definitions.
+use Rattle.std.proofs.Common.{◌≡◌, ℕ, zero, suc, ◌≤◌, ◌<◌, List, [], ◌∷◌, ◌++◌, length, take, Bool, true, false, cond, Result, Ok, Err, ◌⊎◌, inl, inr, refl, sym, ap, subst, ◌∙◌, append_assoc, arith, length-append}
+use Rattle.std.specs.Prelude.{IsUtf8}
+use Rattle.std.specs.Str.{is_utf8}
+use Rattle.std.specs.Str.Lossy.{utf8_valid_len, valid_len_up_to}
+use Rattle.std.proofs.Math.Seq.{take-length}
+use Rattle.std.proofs.lemmas.Bool.{false≢true, cases_lt}
+use Rattle.std.proofs.lemmas.List.{append-nil, append_cancel_left, length-map}
+use Rattle.std.proofs.lemmas.Str.{IsUtf8-from_is_utf8, is_utf8-from_IsUtf8, IsUtf8-nil, utf8_valid_len-IsUtf8}
+use Rattle.spec_lbnf.specs.declared.definition.Def.{Def}
+use Rattle.spec_lbnf.specs.declared.token.FileToken.{FileToken}
+use Rattle.spec_lbnf.specs.declared.token.FileToken.TheVariants.{Identifier, Number, Text, Character}
+use Rattle.spec_lbnf.specs.declared.token.FileToken.TheVariants.{Sign as SignToken}
+use Rattle.spec_lbnf.specs.declared.token.PlacedToken.{PlacedToken}
+use Rattle.spec_lbnf.specs.FileTokens.{IsScan, AreTokensTo, BeginsWith}
+use Rattle.spec_lbnf.specs.GrammarFile.{category_tokens, SpellsDefs, AreSpelledBy, pieces_of}
+use Rattle.spec_lbnf.specs.declared.fault.TextFault.{TextFault}
+use Rattle.spec_lbnf.specs.declared.fault.TextFault.TheVariants.{NotUtf8, Syntax, TooLarge}
+use Rattle.spec_lbnf.specs.Faults.{bare, CanGoOn, HasLongCategory, token_fault, StopsBehind, at_token, at_bytes, at_end, IsFirstLong, FaultsAt, at_long, behind as goes_no_further, Spells, IsTokenFault, IsFirstFault, is_large, is_not_utf8, in_tokens}
+use Rattle.lbnf_readers.specs.FileDefinitions.{defs_of}
+use Rattle.lbnf_readers.specs.ReadingLaws.{OneListOfDefs, OneFileOfDefs, OneFirstFault, SpelledOrFaulty, DefsOrFault}
+use Rattle.spec_lbnf.proofs.BoundaryLemmas.{LacksLong, two_cuts, long_before, long_of_one, IsShort}
+use Rattle.lbnf_readers.proofs.ReaderLemmas.{HaveShortNames, bare-append}
+use Rattle.spec_lbnf.proofs.BracketLemmas.{category_begins}
+use Rattle.lbnf_readers.proofs.DefLemmas.{one_def}
+use Rattle.lbnf_readers.proofs.DefsLemmas.{Outcome, HasFault, defs_tell}
+use Rattle.lbnf_readers.proofs.ScanLemmas.{one_list, scanned}
+use Rattle.lbnf_readers.specs.Scanning.{scan_of}
+
+-- pieces spell at most one list of definitions
+one_spelled : (a b : List Def) (pieces : List (List FileToken)) → AreSpelledBy a pieces → AreSpelledBy b pieces → a ≡ b
+one_spelled [] [] [] is_a is_b = refl
+one_spelled [] [] (x ∷ pieces) is_a is_b = absurd is_a
+one_spelled [] (d ∷ b) [] is_a is_b = absurd is_b
+one_spelled [] (d ∷ b) (x ∷ pieces) is_a is_b = absurd is_a
+one_spelled (c ∷ a) b [] is_a is_b = absurd is_a
+one_spelled (c ∷ a) [] (x ∷ pieces) is_a is_b = absurd is_b
+one_spelled (c ∷ a) (d ∷ b) (x ∷ pieces) is_a is_b =
+    let first = one_def c d x is_a.0 is_b.0 in
+    let others = one_spelled a b pieces is_a.1 is_b.1 in
+    λ i. first i ∷ others i
+
+-- tokens spell at most one list of definitions
+pub one_list_of_defs : OneListOfDefs
+one_list_of_defs tokens a b = one_spelled a b (pieces_of tokens)
+
+-- what can go on has fronts that can
+front_goes_on : (front more : List FileToken) → CanGoOn (front ++ more) → CanGoOn front
+front_goes_on front more can =
+    (more ++ can.0, can.1, subst (SpellsDefs can.1) (append_assoc front more can.0) can.2)
+
+-- what follows fronts of one length is the same
+same_next : {A : Type 0} (xs ys us vs : List A) (x u : A) → xs ++ x ∷ ys ≡ us ++ u ∷ vs → length xs ≡ length us → x ≡ u
+same_next [] ys [] vs x u e len = cc e
+same_next [] ys (v ∷ us) vs x u e len = absurd (omega (arith, len))
+same_next (y ∷ xs) ys [] vs x u e len = absurd (omega (arith, len))
+same_next (y ∷ xs) ys (v ∷ us) vs x u e len =
+    let tail : xs ++ x ∷ ys ≡ us ++ u ∷ vs = cc e in
+    same_next xs ys us vs x u tail (omega (arith, len))
+
+-- there are as many tokens without their offsets
+bare_len : (tokens : List PlacedToken) → length (bare tokens) ≡ length tokens
+bare_len tokens = length-map tokens (λ (t : PlacedToken). t.token)
+
+-- the first category that is too long in a front is the first in the whole
+same_long : (front gap : List PlacedToken) (p q : ℕ) → IsFirstLong front p → IsFirstLong (front ++ gap) q → p ≡ q
+same_long front gap p q first second =
+    first.is_offset ∙ ap (λ (t : PlacedToken). t.offset) next ∙ sym second.is_offset
+  where
+    in_whole : HasLongCategory (bare (front ++ gap)) (bare first.before)
+    in_whole = rw (bare-append front gap) (long_before (bare front) (bare gap) (bare first.before) first.long)
+
+    not_later : length second.before ≤ length first.before
+    not_later = omega (arith, second.earlier (bare first.before) in_whole, bare_len first.before)
+
+    rest : List FileToken
+    rest = category_tokens in_whole.cat ++ in_whole.behind
+
+    not_earlier : length first.before ≤ length second.before
+    not_earlier =
+        let there : HasLongCategory (bare first.before ++ (category_tokens in_whole.cat ++ in_whole.behind)) (bare second.before)
+        = subst (λ ts. HasLongCategory ts (bare second.before)) in_whole.stands second.long in
+        elim (long_of_one (bare first.before) (category_tokens in_whole.cat ++ in_whole.behind) (bare second.before)
+        in_whole.whole (category_begins in_whole.cat in_whole.behind) there) [
+          | inl has ↦
+              let in_front : HasLongCategory (bare front) (bare second.before)
+              = rw (ap bare first.split ∙ bare-append first.before (first.first ∷ first.behind))
+              (long_before (bare first.before) (bare (first.first ∷ first.behind)) (bare second.before) has) in
+              omega (arith, first.earlier (bare second.before) in_front, bare_len second.before)
+          | inr has ↦
+              omega (arith, ap length has.1, length-append (bare first.before) has.0, bare_len first.before, bare_len second.before)
+        ]
+
+    next : first.first ≡ second.first
+    next =
+        let e : first.before ++ first.first ∷ (first.behind ++ gap) ≡ second.before ++ second.first ∷ second.behind
+        = sym (append_assoc first.before (first.first ∷ first.behind) gap) ∙ ap (λ ts. ts ++ gap) (sym first.split) ∙ second.split in
+        same_next first.before (first.behind ++ gap) second.before second.behind first.first second.first e (omega (arith, not_later, not_earlier))
+
+-- a front is no longer front
+no_longer : (front gap rest : List PlacedToken) (token : PlacedToken) → front ≡ (front ++ token ∷ gap) ++ rest → ⊥
+no_longer front gap rest token whole =
+    omega (arith, ap length whole, length-append (front ++ token ∷ gap) rest, length-append front (token ∷ gap))
+
+module _ (bytes : List ℕ) (all : List PlacedToken) (stop : ℕ) where
+  -- where a front goes no further, no longer front can go on
+  no_gap : (front gap rest : List PlacedToken) (fault : TextFault) → StopsBehind bytes all stop front fault
+      → all ≡ (front ++ gap) ++ rest → CanGoOn (bare (front ++ gap)) → gap ≡ []
+  no_gap front [] rest fault stops split can = refl
+  no_gap front (token ∷ gap) rest fault (at_token next others whole stuck is) split can =
+      let e : next ∷ others ≡ token ∷ gap ++ rest
+      = append_cancel_left front (next ∷ others) (token ∷ gap ++ rest) (sym whole ∙ split ∙ append_assoc front (token ∷ gap) rest) in
+      let same : token ≡ next = cc e in
+      let parts : bare (front ++ token ∷ gap) ≡ (bare front ++ token.token ∷ []) ++ bare gap
+      = bare-append front (token ∷ gap) ∙ sym (append_assoc (bare front) (token.token ∷ []) (bare gap)) in
+      let can_next : CanGoOn (bare front ++ token.token ∷ []) = front_goes_on (bare front ++ token.token ∷ []) (bare gap) (subst CanGoOn parts can) in
+      absurd (stuck (subst (λ (t : PlacedToken). CanGoOn (bare front ++ t.token ∷ [])) same can_next))
+  no_gap front (token ∷ gap) rest fault (at_bytes whole early is) split can = absurd (no_longer front gap rest token (sym whole ∙ split))
+  no_gap front (token ∷ gap) rest fault (at_end whole end is none) split can = absurd (no_longer front gap rest token (sym whole ∙ split))
+
+  -- nothing stands behind the last token
+  nothing_behind : (front others : List PlacedToken) (token : PlacedToken) → all ≡ front ++ token ∷ others → all ≡ front → ⊥
+  nothing_behind front others token whole end =
+      omega (arith, ap length (sym end ∙ whole), length-append front (token ∷ others))
+
+  -- a front goes no further by one fault
+  same_stop : (front : List PlacedToken) (a b : TextFault) → StopsBehind bytes all stop front a → StopsBehind bytes all stop front b → a ≡ b
+  same_stop front a b (at_token s u whole_s stuck_s is_a) (at_token t v whole_t stuck_t is_b) =
+      let e : s ∷ u ≡ t ∷ v = append_cancel_left front (s ∷ u) (t ∷ v) (sym whole_s ∙ whole_t) in
+      let same : s ≡ t = cc e in
+      is_a ∙ ap (λ (x : PlacedToken). token_fault (bare front) x.token x.offset) same ∙ sym is_b
+  same_stop front a b (at_token s u whole_s stuck_s is_a) (at_bytes whole_t early is_b) = absurd (nothing_behind front u s whole_s whole_t)
+  same_stop front a b (at_token s u whole_s stuck_s is_a) (at_end whole_t end is_b none) = absurd (nothing_behind front u s whole_s whole_t)
+  same_stop front a b (at_bytes whole_s early is_a) (at_token t v whole_t stuck_t is_b) = absurd (nothing_behind front v t whole_t whole_s)
+  same_stop front a b (at_end whole_s end is_a none) (at_token t v whole_t stuck_t is_b) = absurd (nothing_behind front v t whole_t whole_s)
+  same_stop front a b (at_bytes whole_s early_s is_a) (at_bytes whole_t early_t is_b) = is_a ∙ sym is_b
+  same_stop front a b (at_bytes whole_s early_s is_a) (at_end whole_t end is_b none) = is_a ∙ sym is_b
+  same_stop front a b (at_end whole_s end is_a none) (at_bytes whole_t early is_b) = is_a ∙ sym is_b
+  same_stop front a b (at_end whole_s end_s is_a none_s) (at_end whole_t end_t is_b none_t) = is_a ∙ sym is_b
+
+  -- faults at a front and at a longer one are one
+  same_fault : (front gap rest : List PlacedToken) (a b : TextFault) → FaultsAt bytes all stop front a → FaultsAt bytes all stop (front ++ gap) b
+      → all ≡ (front ++ gap) ++ rest → CanGoOn (bare (front ++ gap)) → a ≡ b
+  same_fault front gap rest a b (at_long p first is_a) (at_long q second is_b) split can =
+      is_a ∙ ap Syntax (same_long front gap p q first second) ∙ sym is_b
+  same_fault front gap rest a b (at_long p first is_a) (goes_no_further lacks stops) split can =
+      absurd (lacks (bare first.before) (rw (bare-append front gap) (long_before (bare front) (bare gap) (bare first.before) first.long)))
+  same_fault front gap rest a b (goes_no_further lacks stops) (at_long q second is_b) split can =
+      let none = no_gap front gap rest a stops split can in
+      let is_front : bare (front ++ gap) ≡ bare front = ap (λ ts. bare (front ++ ts)) none ∙ ap bare (append-nil front) in
+      absurd (lacks (bare second.before) (subst (λ ts. HasLongCategory ts (bare second.before)) is_front second.long))
+  same_fault front gap rest a b (goes_no_further lacks stops) (goes_no_further other_lacks other_stops) split can =
+      let none = no_gap front gap rest a stops split can in
+      let is_front : front ++ gap ≡ front = ap (λ ts. front ++ ts) none ∙ append-nil front in
+      same_stop front a b stops (subst (λ ts. StopsBehind bytes all stop ts b) is_front other_stops)
+
+  -- the tokens have at most one first fault
+  pub one_of_tokens : (a b : TextFault) → HasFault bytes all stop a → HasFault bytes all stop b → a ≡ b
+  one_of_tokens a b first second = elim (two_cuts first.front first.rest second.front second.rest (sym first.split ∙ second.split)) [
+    | inl cut ↦
+        same_fault first.front cut.0 second.rest a b first.faults
+        (subst (λ ts. FaultsAt bytes all stop ts b) cut.1 second.faults)
+        (second.split ∙ ap (λ ts. ts ++ second.rest) cut.1)
+        (subst (λ ts. CanGoOn (bare ts)) cut.1 second.viable)
+    | inr cut ↦
+        let gap : List PlacedToken = cut.0 ∷ cut.1 in
+        sym (same_fault second.front gap first.rest b a second.faults
+        (subst (λ ts. FaultsAt bytes all stop ts a) cut.2 first.faults)
+        (first.split ∙ ap (λ ts. ts ++ first.rest) cut.2)
+        (subst (λ ts. CanGoOn (bare ts)) cut.2 first.viable))
+  ]
+
+-- the longest front that is UTF-8 is a front
+valid_within : (bytes : List ℕ) (n : ℕ) → valid_len_up_to bytes n ≤ n
+valid_within bytes zero = omega arith
+valid_within bytes (suc n) = by (is_utf8 (take (suc n) bytes)) (valid_within bytes n)
+  where
+    by : (b : Bool) → valid_len_up_to bytes n ≤ n → cond b (suc n) (valid_len_up_to bytes n) ≤ suc n
+    by true le = omega arith
+    by false le = omega (arith, le)
+
+-- bytes that are not UTF-8 stop being so before their end
+stops_early : (bytes : List ℕ) → is_utf8 bytes ≡ false → utf8_valid_len bytes < length bytes
+unfolding utf8_valid_len
+stops_early [] none = absurd (false≢true (sym none ∙ is_utf8-from_IsUtf8 [] IsUtf8-nil))
+stops_early (byte ∷ bytes) none =
+    let n : ℕ = length bytes in
+    let whole : is_utf8 (take (suc n) (byte ∷ bytes)) ≡ false = ap is_utf8 (take-length (byte ∷ bytes)) ∙ none in
+    rw whole (omega (arith, valid_within (byte ∷ bytes) n))
+
+-- no identifier of a scan has more than 64 bytes
+scan_short : (size : ℕ) (bytes : List ℕ) (tokens : List PlacedToken) (stop : ℕ) → AreTokensTo size bytes tokens stop → HaveShortNames tokens
+scan_short size bytes [] stop scan = tt
+scan_short size bytes (token ∷ tokens) stop scan =
+    (short token.token scan.0 scan.1 scan.4, scan_short size scan.1 tokens stop scan.5)
+  where
+    short : (t : FileToken) (here rest : List ℕ) → BeginsWith t here rest → IsShort t
+    short (Identifier name) here rest is = is.0.short
+    short (Number value) here rest is = tt
+    short (Text value) here rest is = tt
+    short (Character value) here rest is = tt
+    short (SignToken sign) here rest is = tt
+
+-- a scan stops within the file
+scan_within : (size : ℕ) (bytes : List ℕ) (tokens : List PlacedToken) (stop : ℕ) → AreTokensTo size bytes tokens stop → stop ≤ size
+scan_within size bytes [] stop scan = omega (arith, scan.3)
+scan_within size bytes (token ∷ tokens) stop scan = scan_within size scan.1 tokens stop scan.5
+
+-- an offset within the file is before its end or at it
+before_or_at : (stop size : ℕ) → stop ≤ size → (stop < size) ⊎ (stop ≡ size)
+before_or_at stop size le = elim (cases_lt stop size) [
+  | inl lt ↦ inl lt
+  | inr ge ↦ inr (omega (arith, le, ge))
+]
+
+module _ (bytes : List ℕ) (tokens : List PlacedToken) (stop : ℕ) (scan : IsScan bytes tokens stop) where
+  -- what is read of a file's tokens is the definitions that they spell, or their first fault
+  pub scanned_tell : Outcome bytes tokens stop [] (defs_of tokens stop)
+  scanned_tell =
+      defs_tell bytes tokens stop (before_or_at stop (length bytes) (scan_within (length bytes) bytes tokens stop scan))
+      (scan_short (length bytes) bytes tokens stop scan)
+
+  -- the definitions that are read of tokens that reach the end of the file are those of the file
+  pub defs_are : (defs : List Def) → length bytes ≤ 65536 → IsUtf8 bytes → stop ≡ length bytes → defs_of tokens stop ≡ Ok defs
+      → Spells bytes defs
+  defs_are defs few utf8 end read =
+      let is : SpellsDefs defs (bare tokens) × LacksLong (bare tokens) = subst (Outcome bytes tokens stop []) read scanned_tell in
+      record {
+        few = few;
+        utf8 = utf8;
+        tokens = tokens;
+        scan = subst (IsScan bytes tokens) end scan;
+        spelled = is.0;
+        short = is.1;
+      }
+
+  -- where the tokens spell definitions, and do not reach the end of the file, it has a fault where
+  -- they end
+  pub stop_is : (defs : List Def) → length bytes ≤ 65536 → IsUtf8 bytes → stop < length bytes → defs_of tokens stop ≡ Ok defs
+      → IsFirstFault bytes (Syntax stop)
+  stop_is defs few utf8 early read =
+      let is : SpellsDefs defs (bare tokens) × LacksLong (bare tokens) = subst (Outcome bytes tokens stop []) read scanned_tell in
+      in_tokens few utf8 (record {
+        tokens = tokens;
+        stop = stop;
+        scan = scan;
+        front = tokens;
+        behind = [];
+        split = sym (append-nil tokens);
+        viable = ([], defs, subst (SpellsDefs defs) (sym (append-nil (bare tokens))) is.0);
+        faults = goes_no_further is.1 (at_bytes refl early refl);
+      })
+
+  -- the fault that is read of the tokens is that of the file
+  pub fault_is : (fault : TextFault) → length bytes ≤ 65536 → IsUtf8 bytes → defs_of tokens stop ≡ Err fault → IsFirstFault bytes fault
+  fault_is fault few utf8 read =
+      let is : HasFault bytes tokens stop fault = subst (Outcome bytes tokens stop []) read scanned_tell in
+      in_tokens few utf8 (record {
+        tokens = tokens;
+        stop = stop;
+        scan = scan;
+        front = is.front;
+        behind = is.rest;
+        split = is.split;
+        viable = is.viable;
+        faults = is.faults;
+      })
+
+-- a file spells at most one list of definitions
+pub one_file_of_defs : OneFileOfDefs
+one_file_of_defs bytes a b first second =
+    let same = one_list (length bytes) first.tokens second.tokens bytes (length bytes) (length bytes) first.scan second.scan in
+    one_list_of_defs (bare second.tokens) a b (subst (λ ts. SpellsDefs a (bare ts)) same.0 first.spelled) second.spelled
+
+-- bytes that stop being UTF-8 early are not UTF-8
+utf8_whole : (bytes : List ℕ) → utf8_valid_len bytes < length bytes → IsUtf8 bytes → ⊥
+utf8_whole bytes early utf8 = omega (arith, early, utf8_valid_len-IsUtf8 bytes utf8)
+
+-- the fault of tokens, with the scan set apart
+has_fault : (bytes : List ℕ) (fault : TextFault) → (is : IsTokenFault bytes fault) → HasFault bytes is.tokens is.stop fault
+has_fault bytes fault is = record { front = is.front; rest = is.behind; split = is.split; viable = is.viable; faults = is.faults }
+
+-- a file's tokens have at most one first fault
+one_token_fault : (bytes : List ℕ) (a b : TextFault) → IsTokenFault bytes a → IsTokenFault bytes b → a ≡ b
+one_token_fault bytes a b first second =
+    let same = one_list (length bytes) first.tokens second.tokens bytes first.stop second.stop first.scan second.scan in
+    one_of_tokens bytes second.tokens second.stop a b
+    (subst (λ n. HasFault bytes second.tokens n a) same.1
+    (subst (λ ts. HasFault bytes ts first.stop a) same.0 (has_fault bytes a first)))
+    (has_fault bytes b second)
+
+-- a file has at most one first fault
+pub one_first_fault : OneFirstFault
+one_first_fault bytes a b (is_large large is_a) (is_large more is_b) = is_a ∙ sym is_b
+one_first_fault bytes a b (is_large large is_a) (is_not_utf8 few early is_b) = absurd (omega (arith, large, few))
+one_first_fault bytes a b (is_large large is_a) (in_tokens few utf8 is_b) = absurd (omega (arith, large, few))
+one_first_fault bytes a b (is_not_utf8 few early is_a) (is_large large is_b) = absurd (omega (arith, large, few))
+one_first_fault bytes a b (is_not_utf8 few early is_a) (is_not_utf8 also more is_b) = is_a ∙ sym is_b
+one_first_fault bytes a b (is_not_utf8 few early is_a) (in_tokens also utf8 is_b) = absurd (utf8_whole bytes early utf8)
+one_first_fault bytes a b (in_tokens few utf8 is_a) (is_large large is_b) = absurd (omega (arith, large, few))
+one_first_fault bytes a b (in_tokens few utf8 is_a) (is_not_utf8 also early is_b) = absurd (utf8_whole bytes early utf8)
+one_first_fault bytes a b (in_tokens few utf8 is_a) (in_tokens also again is_b) = one_token_fault bytes a b is_a is_b
+
+-- tokens that spell definitions up to the end of the file have no fault
+no_fault_of_spelled : (bytes : List ℕ) (tokens : List PlacedToken) (stop : ℕ) (defs : List Def) (fault : TextFault)
+    → stop ≡ length bytes → SpellsDefs defs (bare tokens) → LacksLong (bare tokens) → HasFault bytes tokens stop fault → ⊥
+no_fault_of_spelled bytes tokens stop defs fault end spelled lacks has = by has.faults
+  where
+    by : FaultsAt bytes tokens stop has.front fault → ⊥
+    by (at_long p first is) =
+        lacks (bare first.before)
+        (rw (ap bare has.split ∙ bare-append has.front has.rest) (long_before (bare has.front) (bare has.rest) (bare first.before) first.long))
+    by (goes_no_further short (at_token token others whole stuck is)) =
+        let parts : bare tokens ≡ (bare has.front ++ token.token ∷ []) ++ bare others
+        = ap bare whole ∙ bare-append has.front (token ∷ others) ∙ sym (append_assoc (bare has.front) (token.token ∷ []) (bare others)) in
+        stuck (bare others, defs, subst (SpellsDefs defs) parts spelled)
+    by (goes_no_further short (at_bytes whole early is)) = omega (arith, early, end)
+    by (goes_no_further short (at_end whole end is none)) = none defs spelled
+
+-- no file both spells definitions and has a first fault
+pub spelled_or_faulty : SpelledOrFaulty
+spelled_or_faulty bytes defs fault spelled (is_large large is) = omega (arith, large, spelled.few)
+spelled_or_faulty bytes defs fault spelled (is_not_utf8 few early is) = utf8_whole bytes early spelled.utf8
+spelled_or_faulty bytes defs fault spelled (in_tokens few utf8 is) =
+    let same = one_list (length bytes) spelled.tokens is.tokens bytes (length bytes) is.stop spelled.scan is.scan in
+    no_fault_of_spelled bytes is.tokens is.stop defs fault (sym same.1)
+    (subst (λ ts. SpellsDefs defs (bare ts)) same.0 spelled.spelled)
+    (subst (λ ts. LacksLong (bare ts)) same.0 spelled.short) (has_fault bytes fault is)
+
+-- a file spells definitions, or has a fault
+abbrev HasAnswer : List ℕ → Type 0
+HasAnswer bytes = ((defs : List Def) × Spells bytes defs) ⊎ ((fault : TextFault) × IsFirstFault bytes fault)
+
+-- a file of UTF-8 that is not too large has one of the two
+utf8_answer : (bytes : List ℕ) → length bytes ≤ 65536 → IsUtf8 bytes → HasAnswer bytes
+utf8_answer bytes few utf8 = by (defs_of tokens stop) refl (before_or_at stop (length bytes) (scan_within (length bytes) bytes tokens stop scan))
+  where
+    tokens : List PlacedToken
+    tokens = (scan_of bytes).0
+
+    stop : ℕ
+    stop = (scan_of bytes).1
+
+    scan : IsScan bytes tokens stop
+    scan = scanned bytes
+
+    by : (x : Result (List Def) TextFault) → defs_of tokens stop ≡ x → (stop < length bytes) ⊎ (stop ≡ length bytes) → HasAnswer bytes
+    by (Ok defs) read (inl early) = inr (Syntax stop, stop_is bytes tokens stop scan defs few utf8 early read)
+    by (Ok defs) read (inr end) = inl (defs, defs_are bytes tokens stop scan defs few utf8 end read)
+    by (Err fault) read ends = inr (fault, fault_is bytes tokens stop scan fault few utf8 read)
+
+-- each file spells definitions or has a first fault
+pub defs_or_fault : DefsOrFault
+defs_or_fault bytes = elim (cases_lt 65536 (length bytes)) [
+  | inl large ↦ inr (TooLarge (length bytes), is_large large refl)
+  | inr few ↦ by few (is_utf8 bytes) refl
+]
+  where
+    by : length bytes ≤ 65536 → (b : Bool) → is_utf8 bytes ≡ b → HasAnswer bytes
+    by few true utf8 = utf8_answer bytes few (IsUtf8-from_is_utf8 bytes utf8)
+    by few false none = inr (NotUtf8 (utf8_valid_len bytes), is_not_utf8 few (stops_early bytes none) refl)

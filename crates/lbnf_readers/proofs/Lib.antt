@@ -1,0 +1,15 @@
+pub mod RunLemmas
+pub mod SpaceLemmas
+pub mod LiteralLemmas
+pub mod SignLemmas
+pub mod RunTokenLemmas
+pub mod ScanLemmas
+pub mod ReaderLemmas
+pub mod TokenTestLemmas
+pub mod CategoryLemmas
+pub mod LabelLemmas
+pub mod RuleLemmas
+pub mod FormLemmas
+pub mod DefLemmas
+pub mod DefsLemmas
+pub mod FaultLemmas

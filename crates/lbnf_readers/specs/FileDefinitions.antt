@@ -1,0 +1,68 @@
+-- Reading the definitions of a file from its tokens. Serves the proofs alone: what the tokens spell
+-- is said in GrammarFile, and their first fault in Faults.
+use Rattle.std.specs.Prelude.{ℕ, zero, suc, ◌-◌, List, [], ◌∷◌, length, take, cond, Result, Ok, Err}
+use Rattle.spec_lbnf.specs.declared.definition.Def.{Def}
+use Rattle.spec_lbnf.specs.declared.token.PlacedToken.{PlacedToken}
+use Rattle.spec_lbnf.specs.GrammarFile.{is_semicolon}
+use Rattle.spec_lbnf.specs.declared.fault.TextFault.{TextFault}
+use Rattle.spec_lbnf.specs.declared.fault.TextFault.TheVariants.{Syntax}
+use Rattle.spec_lbnf.specs.Faults.{bare, piece_fault}
+use Rattle.lbnf_readers.specs.FileReading.{Read, got, stuck, long, def_at}
+
+-- the tokens before the first semicolon
+abbrev pub piece_at : List PlacedToken → List PlacedToken
+piece_at [] = []
+piece_at (token ∷ rest) = cond (is_semicolon token.token) [] (token ∷ piece_at rest)
+
+-- the tokens from the first semicolon on
+abbrev pub behind_piece : List PlacedToken → List PlacedToken
+behind_piece [] = []
+behind_piece (token ∷ rest) = cond (is_semicolon token.token) (token ∷ rest) (behind_piece rest)
+
+-- where the first of the tokens begins, or else this offset
+abbrev pub offset_of : List PlacedToken → ℕ → ℕ
+offset_of [] stop = stop
+offset_of (token ∷ rest) stop = token.offset
+
+-- the fault of a piece that cannot go on with its last tokens, these, by its number and by the
+-- offset of what stands behind it
+abbrev pub stuck_fault : (number : ℕ) → (piece rest : List PlacedToken) → (stop : ℕ) → TextFault
+stuck_fault number piece [] stop = Syntax stop
+stuck_fault number piece (token ∷ rest) stop =
+    piece_fault number (bare (take (length piece - length (token ∷ rest)) piece))
+    token.token token.offset
+
+-- the definition that was read of a piece, or its fault
+abbrev pub def_or_fault : (number : ℕ) → (piece : List PlacedToken) → (stop : ℕ) → Read Def
+    → Result Def TextFault
+def_or_fault number piece stop (got def rest) = Ok def
+def_or_fault number piece stop (stuck rest) = Err (stuck_fault number piece rest stop)
+def_or_fault number piece stop (long rest) = Err (Syntax (offset_of rest stop))
+
+-- the definition of a piece, or its fault
+unfoldable pub piece_def : (number : ℕ) → (piece : List PlacedToken) → (stop : ℕ)
+    → Result Def TextFault
+piece_def number piece stop = def_or_fault number piece stop (def_at piece)
+
+-- a definition, and those behind it
+abbrev pub and_defs : Result Def TextFault → Result (List Def) TextFault
+    → Result (List Def) TextFault
+and_defs (Ok def) (Ok defs) = Ok (def ∷ defs)
+and_defs (Ok def) (Err fault) = Err fault
+and_defs (Err fault) others = Err fault
+
+-- the definitions of the tokens, or their first fault, where there are no more tokens than turns;
+-- so many definitions stand before them, and this offset is behind them
+unfoldable pub defs_at : (turns number : ℕ) → (tokens : List PlacedToken) → (stop : ℕ)
+    → Result (List Def) TextFault
+defs_at turns number [] stop = Ok []
+defs_at zero number (token ∷ rest) stop = Ok []
+defs_at (suc turns) number (token ∷ rest) stop =
+    cond (is_semicolon token.token) (defs_at turns number rest stop)
+    (and_defs
+    (piece_def number (piece_at (token ∷ rest)) (offset_of (behind_piece (token ∷ rest)) stop))
+    (defs_at turns (suc number) (behind_piece (token ∷ rest)) stop))
+
+-- the definitions that all of the tokens are, or their first fault
+abbrev pub defs_of : (tokens : List PlacedToken) → (stop : ℕ) → Result (List Def) TextFault
+defs_of tokens stop = defs_at (length tokens) 0 tokens stop

@@ -1,0 +1,5 @@
+pub mod FileLaws
+pub mod ReadingLaws
+pub mod Scanning
+pub mod FileReading
+pub mod FileDefinitions

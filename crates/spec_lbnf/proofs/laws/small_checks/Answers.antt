@@ -1,6 +1,0 @@
--- Each case by the checks that it passes and the one that it fails.
-use Rattle.spec_lbnf.proofs.CheckExamples.{small_checks}
-use Rattle.spec_lbnf.proofs.laws.small_checks.Goals as goal
-
-pub returns : goal.returns
-returns c = small_checks

@@ -1,5 +1,0 @@
-use Rattle.spec_lbnf.proofs.SmallLemmas.{defs_within_limits}
-use Rattle.spec_lbnf.proofs.reading_laws.defs_within_limits.Goals as goal
-
-pub returns : goal.returns
-returns c = defs_within_limits

@@ -1,5 +1,0 @@
-use Rattle.spec_lbnf.proofs.FaultLemmas.{spelled_or_faulty}
-use Rattle.spec_lbnf.proofs.reading_laws.spelled_or_faulty.Goals as goal
-
-pub returns : goal.returns
-returns c = spelled_or_faulty

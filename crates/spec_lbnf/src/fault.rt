@@ -1,0 +1,50 @@
+//! What keeps a grammar file from being read, and its definitions from being a grammar.
+use spec_text::Name;
+
+/// Why a grammar file gives no definitions.
+#[derive(Debug, Drop)]
+pub enum TextFault {
+    /// Memory ran out. It may come at any file of at most 65,536 bytes that is UTF-8.
+    Memory,
+    /// The file has so many bytes, more than 65,536.
+    TooLarge { count: u64 },
+    /// The file stops being UTF-8 at this byte, the first of a sequence that is wrong or cut short.
+    NotUtf8 { at: u32 },
+    /// No token begins at this byte, or the token that begins there cannot go on, or the file ends
+    /// there within a definition. Of a category of more than 128 bytes it is the first byte.
+    Syntax { at: u32 },
+    /// A word of labelled BNF that this profile leaves out, at its first byte.
+    Unsupported { word: Name, at: u32 },
+    /// The definition of this number has a form that is not built. Definitions are numbered from 0,
+    /// and empty ones are not counted.
+    Unbuilt { def: u32 },
+}
+
+/// Why definitions give no grammar, in the order of the checks. Definitions are numbered from 0.
+#[derive(Debug, Drop)]
+pub enum GrammarFault {
+    /// Memory ran out. It comes only at definitions without a bad label or bad levels that give at
+    /// most 1,024 rules, since these two checks take no memory.
+    Memory,
+    /// The first definition with a bad label or bad levels is a rule, internal or not, labelled
+    /// `_`, that has not exactly one item that is no word, or coercions of no level: its number.
+    BadCoercion { def: u32 },
+    /// The first definition with a bad label or bad levels is a rule, internal or not, with a list
+    /// label where it is not for lists or lacks their items, or with another label where it is for
+    /// lists, unless that is `_` and the one item is a list: its number.
+    BadList { def: u32 },
+    /// The definitions give more than 1,024 rules: so many.
+    TooManyRules { count: u64 },
+    /// The first predefined name, in file order, that is the category of a rule, internal or not, of
+    /// a macro or of coercions.
+    RepeatedToken { name: Name },
+    /// The first category, in file order, that no rule has: its text, which is no predefined name,
+    /// and the number of the definition that names it.
+    UnknownCategory { name: Name, def: u32 },
+    /// The first category without a rule, in file order, has a predefined name: the number of the
+    /// definition that names it. Predefined kinds are not built.
+    Unbuilt { def: u32 },
+    /// The category of least number that reaches itself by steps: its text. A category steps to an
+    /// item of one of its rules where each other item of that rule derives the empty span.
+    Cyclic { name: Name },
+}

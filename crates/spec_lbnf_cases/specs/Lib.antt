@@ -1,0 +1,4 @@
+pub mod ScanExamples
+pub mod ReadingExamples
+pub mod ExpansionExamples
+pub mod CheckExamples
