@@ -34,7 +34,8 @@ IsClosureOf g n cell =
 abbrev pub IsTokenCell : Grammar → Option ℕ → List ℕ → Type 0
 IsTokenCell g kind cell =
     (m : ℕ) → Contains cell m
-    ↔ ((k : ℕ) × (kind ≡ Some k) × (k < length g.lexicon.kinds) × IsReachedNumber g (plain (Kind k)) m)
+    ↔ ((k : ℕ) × (kind ≡ Some k) × (k < length g.lexicon.kinds)
+    × IsReachedNumber g (plain (Kind k)) m)
 
 -- two numbers make a third: one is that of item p of a rule, the other that of the suffix behind
 -- it, and the suffix from p on reaches the third

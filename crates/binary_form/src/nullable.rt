@@ -9,7 +9,7 @@ ghost use Rattle.binary_form.specs.NullableNumbers.{IsRestNullable};
 
 use crate::numbering::{plain_count, symbol_count};
 use crate::rows::SuffixRow;
-use numbered_grammar::{Grammar, nullable_categories};
+use numbered_grammar::Grammar;
 use std::alloc::{AllocError, Global};
 
 /// Whether the items behind the one that begins this suffix derive the empty span, if there are
@@ -61,8 +61,7 @@ fn with_suffixes(
     Ok(flags)
 }
 
-/// For each symbol, whether it derives the empty span. It looks at each suffix once, behind what
-/// the flags of the categories cost.
+/// For each symbol, whether it derives the empty span. It looks at each suffix once.
 pub fn nullable_numbers(
     alloc: Global,
     grammar: &Grammar,
@@ -72,6 +71,6 @@ pub fn nullable_numbers(
     requires rows { AreSuffixRows grammar.now rows.now }
     ensures { IfOk result (λ flags. AreNullableNumbers grammar.now flags.items) }
 {
-    let categories = nullable_categories(alloc, grammar)?;
+    let categories = Vec::from_slice(alloc, grammar.nullable_flags())?;
     with_suffixes(grammar, rows, categories)
 }

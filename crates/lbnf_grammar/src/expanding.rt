@@ -4,10 +4,9 @@ ghost use Rattle.spec_lbnf.specs.Limits.{AreWithinLimits};
 ghost use Rattle.spec_lbnf.specs.Expansion.{rules_of, categories_of, words_of, expansion_of};
 ghost use Rattle.spec_lbnf.specs.Checks.{HasFewRules, AreAllKnown};
 ghost use Rattle.spec_lexing.specs.declared.kind_def.KindDef.TheVariants.{Word as WordKind};
-ghost use Rattle.lbnf_grammar.specs.Grammars.{Expands, IsSuchOrMemory};
-ghost use Rattle.lbnf_grammar.specs.Checking.{PassesCycles, AtCycleOf};
+ghost use Rattle.lbnf_grammar.specs.Grammars.{Expands};
+ghost use Rattle.lbnf_grammar.specs.Checking.{PassesCycles};
 ghost use Rattle.lbnf_grammar.specs.Numbering.{AreFew};
-ghost use Rattle.numbered_grammar.specs.Ranks.{IsLeastCyclic};
 
 use crate::checking::{check_named, check_own_names};
 use crate::counting::check_count;
@@ -16,8 +15,8 @@ use crate::labels::check_labels;
 use crate::macros::rules_of;
 use crate::numbering::numbered_rules;
 use crate::tables::{Tables, tables_of};
-use lbnf_text::{Def, Defs, RawRule, copy_name};
-use numbered_grammar::{CycleCheck, Grammar, GrammarParts, KindDef, check_cycles};
+use lbnf_text::{Def, Defs, RawRule};
+use numbered_grammar::{CycleFault, Grammar, GrammarParts, KindDef};
 use spec_lbnf::GrammarFault;
 use spec_text::Name;
 use std::alloc::{AllocError, Global};
@@ -65,25 +64,14 @@ fn numbered_parts(alloc: Global, defs: &[Def]) -> Result<GrammarParts, AllocErro
     parts_by(alloc, defs, raw.as_slice(), tables)
 }
 
-/// That the category reaches itself, or that memory ran out.
-fn cyclic(alloc: Global, parts: &GrammarParts, category: u16) -> GrammarFault
-    requires first { IsLeastCyclic parts.now category }
-    ensures { IsSuchOrMemory (AtCycleOf parts.now) result }
-{
-    match copy_name(alloc, &parts.categories()[category as usize]) {
-        Ok(name) => GrammarFault::Cyclic { name },
-        Err(_) => GrammarFault::Memory,
-    }
-}
-
 /// The grammar of these parts, or the first category that reaches itself.
 fn acyclic(alloc: Global, parts: GrammarParts) -> Result<Grammar, GrammarFault>
     ensures { PassesCycles parts result }
 {
-    match check_cycles(alloc, &parts) {
-        Ok(CycleCheck::Ranked(ranks)) => Ok(Grammar::of(parts, ranks)),
-        Ok(CycleCheck::Cyclic(category)) => Err(cyclic(alloc, &parts, category)),
-        Err(_) => Err(GrammarFault::Memory),
+    match Grammar::of_parts(alloc, parts) {
+        Ok(grammar) => Ok(grammar),
+        Err(CycleFault::Cyclic { name }) => Err(GrammarFault::Cyclic { name }),
+        Err(CycleFault::Memory) => Err(GrammarFault::Memory),
     }
 }
 
@@ -109,8 +97,8 @@ fn expand_defs(alloc: Global, defs: &[Def]) -> Result<Grammar, GrammarFault>
 ///
 /// Categories and words are numbered from 0 as the rules meet them, each rule's own category first,
 /// and the categories that only internal rules have are behind them. Names are copied. It makes the
-/// rules three times and takes one look-up for each item of them, and then what `Grammar::of_rules`
-/// takes for chains of steps.
+/// rules three times and takes one look-up for each item of them, and then what `Grammar::of_parts`
+/// takes.
 pub fn expand(alloc: Global, defs: &Defs) -> Result<Grammar, GrammarFault>
     ensures { Expands defs.now result }
 {

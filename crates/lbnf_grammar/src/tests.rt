@@ -3,7 +3,6 @@ mod whole_files;
 
 use super::*;
 use lbnf_text::{Label, MAX_FILE, Name, read_defs};
-use numbered_grammar::nullable_categories;
 use std::alloc::Global;
 use std::test::*;
 
@@ -156,8 +155,8 @@ fn empty_and_long_right_sides_are_numbered(rt: HostRuntime) -> Result<(), Fail> 
         assert_eq!(rt; rule.category, category, "at {number}");
         assert_eq!(rt; rule.items.as_slice(), items, "at {number}");
     }
-    let flags = nullable_categories(rt.alloc(), &grammar)?;
-    assert_eq!(rt; flags.as_slice(), [true, false].as_slice());
+    let flags = grammar.nullable_flags();
+    assert_eq!(rt; flags, [true, false].as_slice());
     Ok(())
 }
 
@@ -207,8 +206,8 @@ fn no_category_is_nullable_where_each_side_has_a_word_or_two_categories(
         .ok_or("the form")?
         .ok()
         .ok_or("a grammar")?;
-    let flags = nullable_categories(rt.alloc(), &grammar)?;
-    assert_eq!(rt; flags.as_slice(), [false, false, false].as_slice());
+    let flags = grammar.nullable_flags();
+    assert_eq!(rt; flags, [false, false, false].as_slice());
     Ok(())
 }
 

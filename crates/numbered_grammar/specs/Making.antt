@@ -1,6 +1,6 @@
 -- What a caller sees of making grammars from their parts, and of finding a category.
 use Rattle.std.specs.Prelude.{◌≡◌, ◌<◌, ◌^◌, ◌⊎◌, ℕ, List, [], ◌∷◌, Option, Some, None}
-use Rattle.std.specs.Prelude.{length, slice_get, Contains, MatchOption}
+use Rattle.std.specs.Prelude.{Result, Ok, Err, length, slice_get, Contains, IfSome, MatchOption}
 use Rattle.spec_lexing.specs.declared.kind_def.KindDef.{KindDef}
 use Rattle.spec_grammar.specs.declared.rule.Rule.{Rule}
 use Rattle.spec_grammar.specs.declared.rule.Symbol.{Symbol}
@@ -8,6 +8,9 @@ use Rattle.spec_grammar.specs.declared.rule.Symbol.TheVariants.{Category}
 use Rattle.spec_grammar.specs.Grammars.{Grammar, lexicon_of_kinds, HasOwnSymbols, item_count}
 use Rattle.spec_grammar.specs.Grammars.{name_number, category_symbol}
 use Rattle.spec_grammar.specs.Cycles.{IsCyclic, IsAcyclic}
+use Rattle.numbered_grammar.specs.Ranks.{IsLeastCyclic}
+use Rattle.numbered_grammar.specs.declared.fault.CycleFault.{CycleFault}
+use Rattle.numbered_grammar.specs.declared.fault.CycleFault.TheVariants.{Memory, Cyclic}
 
 -- the grammar of these parts, without comments
 abbrev pub grammar_of_parts : List Rule → List (List ℕ) → List KindDef → Option Symbol → Grammar
@@ -35,6 +38,22 @@ pub record IsWellFormed (g : Grammar) : Type 0 where
 abbrev pub entry_of_rules : List Rule → Option Symbol
 entry_of_rules [] = None
 entry_of_rules (rule ∷ rules) = Some (Category rule.category)
+
+-- the text of the category that the fault tells, and None where memory ran out
+abbrev pub cyclic_name : CycleFault → Option (List ℕ)
+cyclic_name Memory = None
+cyclic_name (Cyclic name) = Some name
+
+-- the text is that of the category of least number that reaches itself
+abbrev pub IsLeastCyclicName : Grammar → List ℕ → Type 0
+IsLeastCyclicName g name =
+    (c : ℕ) × IsLeastCyclic g c × (slice_get g.categories c ≡ Some name)
+
+-- the answer is the grammar of these parts, and no category reaches itself, or it tells the first
+-- that does; want of memory is free
+abbrev pub AcceptsParts : Grammar → Result Grammar CycleFault → Type 0
+AcceptsParts parts (Ok g) = IsAcyclic parts.rules × (g ≡ parts)
+AcceptsParts parts (Err fault) = IfSome (cyclic_name fault) (IsLeastCyclicName parts)
 
 -- the grammar of these parts, and None exactly where they are not well formed or some category
 -- reaches itself

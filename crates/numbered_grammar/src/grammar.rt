@@ -4,6 +4,7 @@ ghost use Rattle.std.specs.Prelude.{MatchOption};
 ghost use Rattle.spec_grammar.specs.Cycles.{IsAcyclic, IsRank};
 ghost use Rattle.spec_grammar.specs.Grammars.{HasOwnSymbols, IsSymbolOf, item_count, name_number};
 ghost use Rattle.numbered_grammar.specs.Making.{FindsCategory};
+ghost use Rattle.numbered_grammar.specs.Nullable.{AreNullableFlags};
 ghost use Rattle.numbered_grammar.specs.Ranks.{AreRanks};
 
 use crate::parts::GrammarParts;
@@ -17,36 +18,37 @@ use std::marker::Model;
 #[derive(Debug, Drop)]
 pub struct Grammar {
     parts: GrammarParts,
+    nullable: Vec<bool>,
     ranks: Vec<u16>,
 }
 
 impl Model for Grammar {
     ghost use Rattle.spec_grammar.specs.Cycles.{IsAcyclic};
     ghost use Rattle.spec_grammar.specs.Grammars.{Grammar};
+    ghost use Rattle.numbered_grammar.specs.Nullable.{AreNullableFlags};
     ghost use Rattle.numbered_grammar.specs.Ranks.{AreRanks};
 
     ghost Value = { Grammar };
 
     ghost view = { λ g. g.parts };
 
-    ghost invariant = { λ g. IsAcyclic g.parts.rules × AreRanks g.parts g.ranks.items };
+    ghost invariant = { λ g. IsAcyclic g.parts.rules
+        × AreNullableFlags g.parts g.nullable.items
+        × AreRanks g.parts g.ranks.items };
 }
 
 impl Grammar {
-    /// The grammar of these parts, with the ranks that `check_cycles` tells of them. It takes no
-    /// memory.
-    pub fn of(parts: GrammarParts, ranks: Vec<u16>) -> Grammar
+    pub(crate) fn of(parts: GrammarParts, nullable: Vec<bool>, ranks: Vec<u16>) -> Grammar
         requires acyclic { IsAcyclic parts.rules }
+        requires nullable { AreNullableFlags parts nullable.items }
         requires ranks { AreRanks parts ranks.items }
         ensures { result ≡ parts }
     {
-        Grammar { parts, ranks }
-    }
-
-    pub(crate) fn parts(&self) -> &GrammarParts
-        ensures { result.now ≡ self.now }
-    {
-        &self.parts
+        Grammar {
+            parts,
+            nullable,
+            ranks,
+        }
     }
 
     /// The rules, in file order. It takes no memory.
@@ -101,6 +103,13 @@ impl Grammar {
         ensures { slice_get self.now.categories c ≡ Some result.now }
     {
         &self.parts.categories()[c as usize]
+    }
+
+    /// For each category, by number, whether it derives the empty span. It takes no memory.
+    pub fn nullable_flags(&self) -> &[bool]
+        ensures { AreNullableFlags self.now result.now }
+    {
+        self.nullable.as_slice()
     }
 
     /// The rank of the category of this number: how many steps the longest chain of steps from it

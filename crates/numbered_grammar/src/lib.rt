@@ -4,6 +4,7 @@
 
 mod cycle_check;
 mod cycles;
+mod fault;
 mod grammar;
 mod making;
 mod nullable;
@@ -11,9 +12,8 @@ mod parts;
 mod ranking;
 mod stepping;
 
-pub use cycle_check::{CycleCheck, check_cycles};
+pub use fault::CycleFault;
 pub use grammar::Grammar;
-pub use nullable::nullable_categories;
 pub use parts::GrammarParts;
 pub use spec_grammar::{Label, Rule, Symbol};
 pub use spec_lexing::KindDef;

@@ -3,11 +3,13 @@ ghost use Rattle.std.specs.Prelude.{◌≡◌, ◌<◌, ◌^◌, ◌↔◌, IsTr
 ghost use Rattle.spec_grammar.specs.Grammars.{IsSymbolOf, HasSymbolsOf, HasOwnSymbols, item_count};
 ghost use Rattle.numbered_grammar.specs.Making.{grammar_of_parts, grammar_of_symbols};
 ghost use Rattle.numbered_grammar.specs.Making.{entry_of_rules};
-ghost use Rattle.numbered_grammar.specs.Making.{IsWellFormed, MakesGrammar};
+ghost use Rattle.numbered_grammar.specs.Making.{IsWellFormed, AcceptsParts, MakesGrammar};
 ghost use Rattle.numbered_grammar.specs.Making.{GivesParts};
 
 use crate::cycle_check::{CycleCheck, check_cycles};
+use crate::fault::CycleFault;
 use crate::grammar::Grammar;
+use crate::nullable::nullable_flags;
 use crate::parts::GrammarParts;
 use spec_grammar::{Rule, Symbol};
 use spec_lexing::KindDef;
@@ -113,17 +115,35 @@ pub(crate) fn parts_of(
 }
 
 impl Grammar {
+    /// The grammar of these parts, or the category of least number that reaches itself.
+    ///
+    /// It passes over the items for the nullable categories, at most once more than there are of
+    /// them, looks at each item twice for the steps, searches from each step of each category, and
+    /// for the ranks goes round by round over all steps, at most as many rounds as there are
+    /// categories. Beside the flags and the ranks, which the grammar keeps, it takes memory for the
+    /// steps and for a few numbers of each category.
+    pub fn of_parts(alloc: Global, parts: GrammarParts) -> Result<Grammar, CycleFault>
+        ensures { AcceptsParts parts result }
+    {
+        let Ok(nullable) = nullable_flags(alloc, &parts) else {
+            return Err(CycleFault::Memory);
+        };
+        match check_cycles(alloc, &parts, nullable.as_slice()) {
+            Ok(CycleCheck::Ranked(ranks)) => Ok(Grammar::of(parts, nullable, ranks)),
+            Ok(CycleCheck::Cyclic(category)) => {
+                let name = parts.into_category(category);
+                Err(CycleFault::Cyclic { name })
+            }
+            Err(_) => Err(CycleFault::Memory),
+        }
+    }
+
     /// The grammar of these rules, which may be one that no file spells. `None` where a rule has a
     /// symbol that is not there, where there are 65,536 rules, categories or kinds or more, or 2^31
     /// items or more, and where some category reaches itself. Categories may share a name, of which
     /// `find` then knows the first. The entry is the category of the first rule.
     ///
-    /// It looks at each item once, and then at the chains of steps: it passes over the items for
-    /// the nullable categories, at most once more than there are of them, looks at each item twice
-    /// for the steps, searches from each step of each category, and for the ranks goes round by
-    /// round over all steps, at most as many rounds as there are categories. Beside the ranks,
-    /// which the grammar keeps, it takes memory for the steps and for a few numbers of each
-    /// category.
+    /// It looks at each item once, and then takes what `of_parts` takes.
     pub fn of_rules(
         alloc: Global,
         rules: Vec<Rule>,
@@ -136,9 +156,10 @@ impl Grammar {
         let Some(parts) = parts_of(rules, categories, kinds) else {
             return Ok(None);
         };
-        match check_cycles(alloc, &parts)? {
-            CycleCheck::Cyclic(_) => Ok(None),
-            CycleCheck::Ranked(ranks) => Ok(Some(Grammar::of(parts, ranks))),
+        match Grammar::of_parts(alloc, parts) {
+            Ok(grammar) => Ok(Some(grammar)),
+            Err(CycleFault::Cyclic { .. }) => Ok(None),
+            Err(CycleFault::Memory) => Err(AllocError),
         }
     }
 }

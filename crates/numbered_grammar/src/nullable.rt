@@ -7,7 +7,6 @@ ghost use Rattle.numbered_grammar.specs.NullablePasses.{AreSound, AreClosedUnder
 ghost use Rattle.numbered_grammar.specs.NullablePasses.{AppliesRule};
 ghost use Rattle.number_graph.specs.Flags.{clear_count};
 
-use crate::grammar::Grammar;
 use crate::parts::GrammarParts;
 use spec_grammar::{Rule, Symbol};
 use std::alloc::{AllocError, Global};
@@ -79,13 +78,4 @@ pub(crate) fn nullable_flags(alloc: Global, parts: &GrammarParts) -> Result<Vec<
     let mut flags = vec![in alloc; false; parts.category_count() as usize]?;
     while pass(rules, &mut flags) {}
     Ok(flags)
-}
-
-/// For each category of the grammar, by number, whether it derives the empty span. It passes over
-/// the rules, at most once more than there are such categories, and a pass looks at each item at
-/// most once. The flags are all the memory that it takes.
-pub fn nullable_categories(alloc: Global, grammar: &Grammar) -> Result<Vec<bool>, AllocError>
-    ensures { IfOk result (λ flags. AreNullableFlags grammar.now flags.items) }
-{
-    nullable_flags(alloc, grammar.parts())
 }

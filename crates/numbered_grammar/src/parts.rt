@@ -1,5 +1,5 @@
 //! Rules, categories, kinds and an entry that fit together, before the check for cycles.
-ghost use Rattle.std.specs.Prelude.{◌≡◌, ◌<◌, ◌^◌, length, IfSome};
+ghost use Rattle.std.specs.Prelude.{◌≡◌, ◌<◌, ◌^◌, length, slice_get, Some, IfSome};
 ghost use Rattle.spec_grammar.specs.Grammars.{HasOwnSymbols, IsSymbolOf, item_count};
 ghost use Rattle.numbered_grammar.specs.Making.{grammar_of_parts};
 
@@ -37,6 +37,7 @@ impl Model for GrammarParts {
 }
 
 impl GrammarParts {
+    /// These parts, which fit together. It takes no memory.
     pub fn of(
         rules: Vec<Rule>,
         categories: Vec<Name>,
@@ -61,7 +62,7 @@ impl GrammarParts {
         }
     }
 
-    pub fn rules(&self) -> &[Rule]
+    pub(crate) fn rules(&self) -> &[Rule]
         ensures items { result.now ≡ self.now.rules }
         ensures few { length self.now.rules < 2 ^ 16 }
         ensures few_items { item_count self.now.rules < 2 ^ 31 }
@@ -70,30 +71,39 @@ impl GrammarParts {
         self.rules.as_slice()
     }
 
-    pub fn categories(&self) -> &[Name]
+    pub(crate) fn categories(&self) -> &[Name]
         ensures items { result.now ≡ self.now.categories }
         ensures few { length self.now.categories < 2 ^ 16 }
     {
         self.categories.as_slice()
     }
 
-    pub fn kinds(&self) -> &[KindDef]
+    pub(crate) fn kinds(&self) -> &[KindDef]
         ensures items { result.now ≡ self.now.lexicon.kinds }
         ensures few { length self.now.lexicon.kinds < 2 ^ 16 }
     {
         self.kinds.as_slice()
     }
 
-    pub fn category_count(&self) -> u16
+    pub(crate) fn category_count(&self) -> u16
         ensures { result ≡ length self.now.categories }
     {
         self.categories.len() as u16
     }
 
-    pub fn entry(&self) -> Option<Symbol>
+    pub(crate) fn entry(&self) -> Option<Symbol>
         ensures entry { result ≡ self.now.entry }
         ensures own { IfSome result (IsSymbolOf self.now) }
     {
         self.entry
+    }
+
+    /// The text of the category of this number. Nothing is copied.
+    pub(crate) fn into_category(self, c: u16) -> Name
+        requires { c < length self.categories }
+        ensures { slice_get self.categories c ≡ Some result }
+    {
+        let mut categories = self.categories;
+        categories.swap_remove(c as usize)
     }
 }

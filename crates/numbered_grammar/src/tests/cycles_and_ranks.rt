@@ -1,6 +1,7 @@
 //! Cyclic categories and ranks of small grammars, whose rules are built by hand.
 use super::small_grammars::{A, B, C, D, EMPTY, Sides, WORD, grammar_of, small_parts};
 use crate::cycle_check::{CycleCheck, check_cycles};
+use crate::nullable::nullable_flags;
 use crate::*;
 use std::test::*;
 
@@ -55,7 +56,8 @@ const CYCLES: &[Cycle] = &[
 fn the_least_category_that_reaches_itself_is_told(rt: HostRuntime) -> Result<(), Fail> {
     for (text, rules, want) in CYCLES {
         let parts = small_parts(rt.alloc(), *rules)?.ok_or("parts")?;
-        let cyclic = match check_cycles(rt.alloc(), &parts)? {
+        let nullable = nullable_flags(rt.alloc(), &parts)?;
+        let cyclic = match check_cycles(rt.alloc(), &parts, nullable.as_slice())? {
             CycleCheck::Cyclic(category) => Some(category),
             CycleCheck::Ranked(_) => None,
         };
