@@ -22,10 +22,10 @@ mod tables;
 mod texts;
 
 pub use expanding::expand;
-pub use spec_lbnf::GrammarFault;
 pub use grammar::Grammar;
 pub use nullable::nullable_categories;
 pub use spec_grammar::{Rule, Symbol};
+pub use spec_lbnf::GrammarFault;
 pub use spec_lexing::KindDef;
 pub use sqlite_items::Items;
 
