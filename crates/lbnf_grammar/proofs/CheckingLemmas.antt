@@ -1,21 +1,22 @@
 -- The checks of names: what is listed is known, and the first that is bad.
-use Rattle.std.proofs.Common.{◌≡◌, ℕ, Bool, ◌+◌, ◌<◌, ◌≤◌, List, [], ◌∷◌, ◌++◌, length, take, drop, true, false, ◌||◌, Some, All, Contains, slice_get, get_or, refl, sym, ap, subst, ◌∙◌, inl, inr}
+use Rattle.std.proofs.Common.{◌≡◌, ℕ, Bool, ◌+◌, ◌<◌, ◌≤◌, List, [], ◌∷◌, ◌++◌, length, take, true, false, ◌||◌, Some, All, Contains, slice_get, get_or, refl, sym, ap, subst, ◌∙◌, inl, inr, arith}
 use Rattle.std.specs.List.{list_any, flat_map}
 use Rattle.std.specs.Str.{bytes_eq}
 use Rattle.std.specs.Cmp.Lexicographic.{nat_list_eq_equiv}
 use Rattle.std.proofs.lemmas.Bool.{cases_Bool, both_ways}
 use Rattle.std.proofs.Math.Bool.{or-false, or_assoc}
-use Rattle.std.proofs.lemmas.List.{drop_more, take_all, take-append-drop}
+use Rattle.std.proofs.lemmas.List.{get_or-take, length-take-le, take_all}
 use Rattle.std.proofs.lemmas.List.Elements.{All-more, All-weaker}
 use Rattle.std.proofs.lemmas.List.Folds.{list_any-append}
 use Rattle.std.proofs.lemmas.Map.Views.{Contains-from_any, list_any-from_Contains}
-use Rattle.std.proofs.lemmas.Option.{slice_get_read}
+use Rattle.std.proofs.lemmas.Option.{get_or_from_slice_get, slice_get_read}
 use Rattle.std.proofs.lemmas.Slice.Eq.{bytes_eq-Decides}
 use Rattle.spec_lbnf.specs.declared.definition.RawItem.{RawItem}
 use Rattle.spec_lbnf.specs.declared.definition.RawItem.TheVariants.{Cat, Word}
 use Rattle.spec_lbnf.specs.declared.definition.Def.{Def}
 use Rattle.spec_lbnf.specs.Expansion.{category_text, item_categories}
 use Rattle.spec_lbnf.specs.Checks.{own_categories, named_categories, IsFirstName, IsKnown, IsUnknown, NamesKnown, IsFirstUnknown}
+use Rattle.spec_lbnf.proofs.FirstLemmas.{none_at}
 use Rattle.lbnf_grammar.specs.Numbering.{with_name, with_names}
 use Rattle.lbnf_grammar.specs.Checking.{IsListed, IsUnlisted}
 use Rattle.lbnf_grammar.proofs.NameLemmas.{with_name_there, with_name_new}
@@ -56,16 +57,23 @@ any_with_names x names (y ∷ others) =
 -- names are looked at in turn, up to this one; those before it are good
 module _ (IsBad IsGood : List ℕ → Type 0) (names : List (List ℕ)) (i : ℕ) (name : List ℕ)
     (within : i < length names) (is : name ≡ get_or names i name) (good : All IsGood (take i names)) where
-  -- if it is bad, it is the first bad name
-  pub first_bad : IsBad name → IsFirstName IsBad IsGood names name
-  first_bad bad = record {
-    before = take i names;
-    behind = drop (i + 1) names;
-    is_name = sym (take-append-drop i names)
-        ∙ ap (λ l. take i names ++ l) (drop_more names i name within ∙ ap (λ x. x ∷ drop (i + 1) names) (sym is));
-    bad = bad;
-    good = good;
-  }
+  -- if it is bad, and no name is both, it is the first bad name
+  pub first_bad : ((other : List ℕ) → IsGood other → IsBad other → ⊥) → IsBad name → IsFirstName IsBad names name
+  first_bad apart bad =
+      let at : slice_get names i ≡ Some name = slice_get_read names (length names) i name refl within is in (
+        i,
+        record {
+          is_so = (name, at, bad);
+          none_before = λ k lt (other, at_k, wrong). apart other (good_before k lt other at_k) wrong;
+        },
+        at,
+      )
+    where
+      good_before : (k : ℕ) → k < i → (other : List ℕ) → slice_get names k ≡ Some other → IsGood other
+      good_before k lt other at_k =
+          let front : length (take i names) ≡ i = length-take-le i names (omega arith) in
+          let there : get_or (take i names) k other ≡ other = get_or-take i names k other lt ∙ get_or_from_slice_get names k other other at_k in
+          subst IsGood there (good k other (omega (arith, front, lt)))
 
   -- if it is good, the names up to it are
   pub more_good : IsGood name → All IsGood (take (i + 1) names)
@@ -111,24 +119,39 @@ module _ (defs : List Def) (known : List (List ℕ)) (are : known ≡ with_names
   names_known : (def : Def) → All (IsListed known) (named_categories def) → NamesKnown defs def
   names_known def listed = All-weaker (IsListed known) (IsKnown defs) listed_known (named_categories def) listed
 
+  -- the first name that is not listed is the first unknown one
+  unknown_too : (names : List (List ℕ)) (name : List ℕ) → IsFirstName (IsUnlisted known) names name → IsFirstName (IsUnknown defs) names name
+  unknown_too names name (place, first, at) =
+      let here = first.is_so in (
+        place,
+        record {
+          is_so = (here.0, here.1, unlisted_unknown here.0 here.2);
+          none_before = λ k lt (other, at_k, unknown). first.none_before k lt (other, at_k, λ listed. unknown (listed_known other listed));
+        },
+        at,
+      )
+
   module _ (number : ℕ) (def : Def) (names : List (List ℕ)) (given : names ≡ named_categories def)
       (within : number < length defs) (is : def ≡ get_or defs number def)
       (earlier : (k : ℕ) (other : Def) → k < number → slice_get defs k ≡ Some other → NamesKnown defs other) where
     -- the first category of a definition that is not listed is the first unknown one, if the
     -- definitions before name known ones alone
-    pub first_unknown : (name : List ℕ) → IsFirstName (IsUnlisted known) (IsListed known) names name → IsFirstUnknown defs name number
-    first_unknown name first = record {
-      def = def;
-      is_def = slice_get_read defs (length defs) number def refl within is;
-      first = record {
-        before = first.before;
-        behind = first.behind;
-        is_name = sym given ∙ first.is_name;
-        bad = unlisted_unknown name first.bad;
-        good = All-weaker (IsListed known) (IsKnown defs) listed_known first.before first.good;
-      };
-      earlier = earlier;
-    }
+    pub first_unknown : (name : List ℕ) → IsFirstName (IsUnlisted known) names name → IsFirstUnknown defs name number
+    first_unknown name first =
+        let own : IsFirstName (IsUnlisted known) (named_categories def) name
+        = subst (λ (all : List (List ℕ)). IsFirstName (IsUnlisted known) all name) given first in
+        let is_first = unknown_too (named_categories def) name own in
+        let at = slice_get_read defs (length defs) number def refl within is in
+        record {
+          first = record {
+            is_so = (def, at, (is_first.0, is_first.1.is_so));
+            none_before = λ k lt (other, at_k, (place, unknown)).
+                none_at (IsKnown defs) (named_categories other) (IsUnknown defs) (λ x un kn. un kn) (earlier k other lt at_k) place unknown;
+          };
+          def = def;
+          is_def = at;
+          first_name = is_first;
+        }
 
     -- where all its categories are listed, the definitions up to it name known ones alone
     pub more_known : All (IsListed known) names

@@ -5,8 +5,8 @@ use Rattle.spec_lbnf.specs.declared.definition.Def.{Def}
 use Rattle.spec_grammar.specs.Grammars.{Grammar}
 use Rattle.spec_lbnf.specs.Expansion.{expansion_of}
 use Rattle.spec_lbnf.specs.declared.fault.GrammarFault.{GrammarFault}
-use Rattle.spec_lbnf.specs.Checks.{AtUnknown, IsUnfit, IsWellLabelled, HasFewRules, HasOwnNames, AreAllKnown, IsFirstUnknown, unknown_fault}
-use Rattle.lbnf_grammar.specs.Grammars.{IsSuchOrMemory, PassFirstChecks, Expands}
+use Rattle.spec_lbnf.specs.Checks.{AtUnknown, IsWellLabelled, HasFewRules, HasOwnNames, AreAllKnown, IsFirstUnknown, unknown_fault}
+use Rattle.lbnf_grammar.specs.Grammars.{IsSuchOrMemory, Expands}
 use Rattle.lbnf_grammar.specs.Checking.{AtCycleOf, PassesCycles}
 
 -- a fault that tells of the first unknown category tells that one is at fault

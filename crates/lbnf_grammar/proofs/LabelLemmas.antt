@@ -1,21 +1,22 @@
 -- The first definition that is not well labelled, and what holds of all definitions up to one.
 use Rattle.std.proofs.Common.{below_more, ◌≡◌, ◌≢◌, ◌↔◌, ℕ, ◌+◌, ◌<◌, List, [], ◌∷◌, ◌++◌, Bool, IsTrue, length, length-append, take, get_or, Some, All, slice_get, refl, sym, ap, subst, ◌∙◌, inl, inr, arith}
 use Rattle.std.proofs.lemmas.List.{take_more}
+use Rattle.std.proofs.lemmas.List.Elements.{filter_map-append}
 use Rattle.std.proofs.lemmas.Option.{slice_get-get_or, slice_get_read, slice_get_within, get_or_from_slice_get, same_Some}
 use Rattle.spec_lbnf.specs.declared.definition.CatName.{CatName}
 use Rattle.spec_lbnf.specs.declared.definition.RawItem.{RawItem}
-use Rattle.spec_lbnf.specs.declared.definition.RawItem.TheVariants.{Cat, Word}
+use Rattle.spec_lbnf.specs.declared.definition.RawItem.TheVariants.{Cat}
 use Rattle.spec_lbnf.specs.declared.definition.Def.{Def}
 use Rattle.spec_lbnf.specs.declared.fault.GrammarFault.TheVariants.{BadCoercion, BadList}
-use Rattle.spec_lbnf.specs.Checks.{categories_in, IsList, AreElementAndList, IsOneElement, IsWellLabelled, IsBadCoercion, IsBadList, AtLabels}
+use Rattle.spec_lbnf.specs.Expansion.{category_in, categories_in}
+use Rattle.spec_lbnf.specs.Checks.{IsList, AreElementAndList, IsOneElement, IsWellLabelled, IsBadCoercion, IsBadList, IsIllLabelled, IsFirst, HasAt, AtLabels}
+use Rattle.spec_lbnf.proofs.CheckLemmas.{ill_or_well}
 use Rattle.lbnf_grammar.specs.Checking.{EndsInList}
 
 -- the categories of items side by side
 pub categories_in-append : (items others : List RawItem)
     → categories_in (items ++ others) ≡ categories_in items ++ categories_in others
-categories_in-append [] others = refl
-categories_in-append (Cat cat ∷ items) others = ap (λ l. cat ∷ l) (categories_in-append items others)
-categories_in-append (Word word ∷ items) others = categories_in-append items others
+categories_in-append items others = filter_map-append category_in items others
 
 -- the first items, and the next
 pub take_next : {A : Type 0} (xs : List A) (i : ℕ) (x : A) → slice_get xs i ≡ Some x → take (i + 1) xs ≡ take i xs ++ x ∷ []
@@ -85,13 +86,20 @@ module _ (defs : List Def) (number : ℕ) (def : Def) (within : number < length 
   here : slice_get defs number ≡ Some def
   here = slice_get_read defs (length defs) number def refl within is
 
+  -- where it is ill labelled behind definitions that are well labelled, it is the first
+  first_ill : IsIllLabelled def → IsFirst (HasAt IsIllLabelled defs) number
+  first_ill ill = record {
+    is_so = (def, here, ill);
+    none_before = λ k lt (other, at, bad). ill_or_well other bad (earlier k other lt at);
+  }
+
   -- a bad coercion behind definitions that are well labelled is at fault
   pub coercion_first : IsBadCoercion def → AtLabels defs (BadCoercion number)
-  coercion_first bad = (number, inl (record { def = def; is_def = here; bad = bad; earlier = earlier }, refl))
+  coercion_first bad = (number, first_ill (inl bad), inl ((def, here, bad), refl))
 
   -- so is a bad list
   pub list_first : IsBadList def → AtLabels defs (BadList number)
-  list_first bad = (number, inr (record { def = def; is_def = here; bad = bad; earlier = earlier }, refl))
+  list_first bad = (number, first_ill (inr bad), inr ((def, here, bad), refl))
 
   -- and where it is well labelled, the definitions up to it are
   pub more_labelled : IsWellLabelled def

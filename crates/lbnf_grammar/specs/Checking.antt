@@ -1,6 +1,6 @@
 -- The checks of definitions, one by one. Serves the proofs alone.
 use Rattle.std.specs.Prelude.{◌≡◌, ℕ, List, [], ◌∷◌, Option, Some, None, Result}
-use Rattle.std.specs.Prelude.{Ok, Err, Contains, MatchOption}
+use Rattle.std.specs.Prelude.{Ok, Err, Contains}
 use Rattle.spec_grammar.specs.Cycles.{IsAcyclic}
 use Rattle.spec_lbnf.specs.declared.definition.CatName.{CatName}
 use Rattle.spec_lbnf.specs.declared.definition.RawRule.{RawRule}

@@ -31,7 +31,7 @@ fn is_predefined(text: &[u8]) -> bool
 /// The first of the names that is predefined.
 fn first_predefined(names: &[Name]) -> Option<&Name>
     ensures { MatchOption result (All IsFree names.now)
-        (λ name. IsFirstName IsPredefined IsFree names.now name.now) }
+        (λ name. IsFirstName IsPredefined names.now name.now) }
 {
     for name in names {
         if is_predefined(name.as_slice()) {
@@ -74,7 +74,7 @@ pub(crate) fn check_own_names(alloc: Global, defs: &[Def]) -> Result<Names, Gram
 /// The first of the names that is not listed.
 fn first_unlisted<'a>(known: &Names, names: &'a [Name]) -> Option<&'a Name>
     ensures { MatchOption result (All (IsListed known.now) names.now)
-        (λ name. IsFirstName (IsUnlisted known.now) (IsListed known.now) names.now name.now) }
+        (λ name. IsFirstName (IsUnlisted known.now) names.now name.now) }
 {
     for name in names {
         if !known.has(name.as_slice()) {

@@ -2,7 +2,8 @@
 ghost use Rattle.std.specs.Prelude.{◌≡◌, ◌≢◌, ◌≤◌, ◌↔◌, List, [], ◌∷◌, ◌++◌, IsTrue, All, length};
 ghost use Rattle.spec_lbnf.specs.Limits.{size_of};
 ghost use Rattle.spec_lbnf.specs.declared.definition.CatName.{CatName};
-ghost use Rattle.spec_lbnf.specs.Checks.{categories_in, AreElementAndList, IsOneElement};
+ghost use Rattle.spec_lbnf.specs.Expansion.{categories_in};
+ghost use Rattle.spec_lbnf.specs.Checks.{AreElementAndList, IsOneElement};
 ghost use Rattle.spec_lbnf.specs.Checks.{IsBadWild, IsBadListRule, IsWellLabelled, AtLabels};
 ghost use Rattle.lbnf_grammar.specs.Checking.{EndsInList};
 ghost use Rattle.lbnf_grammar.specs.Checking.{FindsLabelFault, FindsRuleFault};

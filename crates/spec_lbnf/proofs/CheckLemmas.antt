@@ -1,9 +1,7 @@
 -- Definitions are fit, or unfit for one reason.
-use Rattle.std.proofs.Common.{◌≡◌, ℕ, ◌<◌, ◌⊎◌, List, [], ◌∷◌, ◌++◌, length, All, Contains, Some, slice_get, refl, sym, ap, subst, ◌∙◌, inl, inr, arith}
-use Rattle.std.specs.List.{AllByRecursion}
-use Rattle.std.proofs.lemmas.Bool.{cases_order}
-use Rattle.std.proofs.lemmas.List.Elements.{All-contains, Contains-append_right, Contains-get_or, recursion_from_All}
-use Rattle.std.proofs.lemmas.Option.{slice_get_within, get_or_from_slice_get, same_Some}
+use Rattle.std.proofs.Common.{◌≡◌, ℕ, ◌⊎◌, List, [], ◌∷◌, length, All, slice_get, refl, sym, ap, subst, ◌∙◌, inl, inr, arith}
+use Rattle.std.specs.List.{flat_map}
+use Rattle.std.proofs.lemmas.Option.{same_Some}
 use Rattle.spec_grammar.specs.declared.rule.Label.TheVariants.{Wild}
 use Rattle.spec_lbnf.specs.declared.definition.CatName.{CatName}
 use Rattle.spec_lbnf.specs.declared.definition.RawRule.{RawRule}
@@ -12,95 +10,28 @@ use Rattle.spec_lbnf.specs.declared.definition.Def.TheVariants.{Rule as RuleDef,
 use Rattle.spec_lbnf.specs.Expansion.{expansion_of}
 use Rattle.spec_lbnf.specs.declared.fault.GrammarFault.{GrammarFault}
 use Rattle.spec_lbnf.specs.declared.fault.GrammarFault.TheVariants.{BadCoercion, BadList, Cyclic, RepeatedToken}
-use Rattle.spec_lbnf.specs.Checks.{IsFirstName, IsPredefined, IsFree, IsUnknown, IsKnown, NamesKnown, IsFirstUnknown, named_categories, AreAllKnown}
-use Rattle.spec_lbnf.specs.Checks.{categories_in, IsBadWild, IsBadCoercion, IsOneElement, IsBadLabel, IsBadListRule, IsBadList, IsWellLabelled, IsFirstBad}
+use Rattle.spec_lbnf.specs.Checks.{HasAt, IsFirstName, IsPredefined, IsFree, IsUnknown, IsKnown, NamesKnown, NamesUnknown, named_categories, own_categories, AreAllKnown}
+use Rattle.spec_lbnf.specs.Expansion.{categories_in}
+use Rattle.spec_lbnf.specs.Checks.{IsBadWild, IsBadCoercion, IsOneElement, IsBadLabel, IsBadListRule, IsBadList, IsWellLabelled, IsIllLabelled}
 use Rattle.spec_lbnf.specs.Checks.{HasFewRules, HasOwnNames, AtLabels, AtCount, AtOwnName, AtUnknown, AtCycle, unknown_fault}
 use Rattle.spec_lbnf.specs.Laws.{FitOrUnfit, OneUnfitness}
+use Rattle.spec_lbnf.proofs.FirstLemmas.{one_first, one_first_name, none_at}
 use Rattle.spec_lbnf.proofs.CycleLemmas.{acyclic_or_cyclic, one_cyclic}
-
--- what holds of all definitions holds of the one at a place
-each_def : (P : Def → Type 0) (defs : List Def) (number : ℕ) (def : Def) → All P defs
-    → slice_get defs number ≡ Some def → P def
-each_def P defs number def all is =
-    let lt : number < length defs = slice_get_within defs number def is in
-    subst P (get_or_from_slice_get defs number def def is) (all number def lt)
-
-module _ (IsBad IsGood : List ℕ → Type 0) (apart : (name : List ℕ) → IsBad name → IsGood name → ⊥) where
-  -- names with a first bad one are not all good
-  not_all : (names : List (List ℕ)) (name : List ℕ) → IsFirstName IsBad IsGood names name → All IsGood names → ⊥
-  not_all names name first good =
-      let there : Contains (first.before ++ (name ∷ first.behind)) name
-      = Contains-append_right first.before (name ∷ first.behind) name (Contains-get_or (name ∷ first.behind) 0 name (omega arith)) in
-      apart name first.bad (All-contains IsGood (first.before ++ (name ∷ first.behind)) name (subst (All IsGood) first.is_name good) there)
-
-  -- the first bad name of a list is one
-  same_first : (before other behind rest : List (List ℕ)) (a b : List ℕ)
-      → AllByRecursion IsGood before → AllByRecursion IsGood other → IsBad a → IsBad b
-      → before ++ (a ∷ behind) ≡ other ++ (b ∷ rest) → a ≡ b
-  same_first [] [] behind rest a b good good' bad bad' e = cc
-  same_first [] (y ∷ other) behind rest a b good good' bad bad' e =
-      let same : a ≡ y = cc in
-      absurd (apart a bad (subst IsGood (sym same) good'.0))
-  same_first (x ∷ before) [] behind rest a b good good' bad bad' e =
-      let same : x ≡ b = cc in
-      absurd (apart b bad' (subst IsGood same good.0))
-  same_first (x ∷ before) (y ∷ other) behind rest a b good good' bad bad' e =
-      let tail : before ++ (a ∷ behind) ≡ other ++ (b ∷ rest) = cc in
-      same_first before other behind rest a b good.1 good'.1 bad bad' tail
-
-  -- so two first bad names are the same
-  one_first : (names : List (List ℕ)) (a b : List ℕ) → IsFirstName IsBad IsGood names a → IsFirstName IsBad IsGood names b → a ≡ b
-  one_first names a b first second =
-      same_first first.before second.before first.behind second.behind a b
-      (recursion_from_All IsGood first.before first.good) (recursion_from_All IsGood second.before second.good)
-      first.bad second.bad (sym first.is_name ∙ second.is_name)
-
--- no name is predefined and free
-not_free : (name : List ℕ) → IsPredefined name → IsFree name → ⊥
-not_free name is free = free is
 
 module _ (defs : List Def) where
   -- no category is unknown and known
   not_known : (name : List ℕ) → IsUnknown defs name → IsKnown defs name → ⊥
   not_known name unknown known = unknown known
 
-  -- the definition with the first unknown category does not name known ones alone
-  names_unknown : (name : List ℕ) (number : ℕ) (first : IsFirstUnknown defs name number) → NamesKnown defs first.def → ⊥
-  names_unknown name number first known =
-      not_all (IsUnknown defs) (IsKnown defs) not_known (named_categories first.def) name first.first known
+  -- no definition names an unknown category and known ones alone
+  not_all_known : (def : Def) → NamesUnknown defs def → NamesKnown defs def → ⊥
+  not_all_known def (place, unknown) known =
+      none_at (IsKnown defs) (named_categories def) (IsUnknown defs) not_known known place unknown
 
-  -- at most one definition names the first unknown category
-  one_number : (a b : List ℕ) (i j : ℕ) → IsFirstUnknown defs a i → IsFirstUnknown defs b j → i ≡ j
-  one_number a b i j first second = elim (cases_order i j) [
-    | inl same ↦ same
-    | inr (inl before) ↦ absurd (names_unknown a i first (second.earlier i first.def before first.is_def))
-    | inr (inr behind) ↦ absurd (names_unknown b j second (first.earlier j second.def behind second.is_def))
-  ]
-
-  -- and at most one category is the first in it
-  one_name : (a b : List ℕ) (i j : ℕ) → IsFirstUnknown defs a i → IsFirstUnknown defs b j → a ≡ b
-  one_name a b i j first second =
-      let place : i ≡ j = one_number a b i j first second in
-      let same : first.def ≡ second.def = same_Some _ _ (sym first.is_def ∙ ap (slice_get defs) place ∙ second.is_def) in
-      one_first (IsUnknown defs) (IsKnown defs) not_known (named_categories second.def) a b
-      (subst (λ (def : Def). IsFirstName (IsUnknown defs) (IsKnown defs) (named_categories def) a) same first.first) second.first
-
-  -- the first bad definitions of two sorts are one, where each sort is not well labelled
-  one_bad : (A B : Def → Type 0) → ((def : Def) → A def → IsWellLabelled def → ⊥) → ((def : Def) → B def → IsWellLabelled def → ⊥)
-      → (i j : ℕ) → IsFirstBad A defs i → IsFirstBad B defs j → i ≡ j
-  one_bad A B ill ill' i j first second = elim (cases_order i j) [
-    | inl same ↦ same
-    | inr (inl before) ↦ absurd (ill first.def first.bad (second.earlier i first.def before first.is_def))
-    | inr (inr behind) ↦ absurd (ill' second.def second.bad (first.earlier j second.def behind second.is_def))
-  ]
-
--- a bad coercion is not well labelled
-coercion_ill : (def : Def) → IsBadCoercion def → IsWellLabelled def → ⊥
-coercion_ill def bad well = well.0 bad
-
--- nor is a bad list
-list_ill : (def : Def) → IsBadList def → IsWellLabelled def → ⊥
-list_ill def bad well = well.1 bad
+-- no definition is ill labelled and well labelled
+pub ill_or_well : (def : Def) → IsIllLabelled def → IsWellLabelled def → ⊥
+ill_or_well def (inl coercion) well = well.0 coercion
+ill_or_well def (inr list) well = well.1 list
 
 -- one item that is no word is one
 one_element : (items : List CatName) → IsOneElement items → length items ≡ 1
@@ -126,33 +57,49 @@ bad_once (Entry cats) coercion bad = bad
 
 -- definitions that are all well labelled have no first that is not
 labels_pass : (defs : List Def) (fault : GrammarFault) → All IsWellLabelled defs → AtLabels defs fault → ⊥
-labels_pass defs fault all (number, inl (first, is)) = coercion_ill first.def first.bad (each_def IsWellLabelled defs number first.def all first.is_def)
-labels_pass defs fault all (number, inr (first, is)) = list_ill first.def first.bad (each_def IsWellLabelled defs number first.def all first.is_def)
+labels_pass defs fault all (number, first, is) = none_at IsWellLabelled defs IsIllLabelled ill_or_well all number first.is_so
 
--- a bad coercion and a bad list are not both the first
-not_both : (defs : List Def) (i j : ℕ) → IsFirstBad IsBadCoercion defs i → IsFirstBad IsBadList defs j → ⊥
-not_both defs i j first second =
-    let place : i ≡ j = one_bad defs IsBadCoercion IsBadList coercion_ill list_ill i j first second in
-    let same : first.def ≡ second.def = same_Some _ _ (sym first.is_def ∙ ap (slice_get defs) place ∙ second.is_def) in
-    bad_once second.def (subst IsBadCoercion same first.bad) second.bad
+-- a bad coercion and a bad list are not at one place
+not_both : (defs : List Def) (number : ℕ) → HasAt IsBadCoercion defs number → HasAt IsBadList defs number → ⊥
+not_both defs number (def, is, coercion) (other, is', list) =
+    let same : other ≡ def = same_Some other def (sym is' ∙ is) in
+    bad_once def coercion (subst IsBadList same list)
+
+-- the definition at the number is bad in the way that the fault tells
+abbrev IsBadSo : List Def → ℕ → GrammarFault → Type 0
+IsBadSo defs number fault =
+    (HasAt IsBadCoercion defs number × (fault ≡ BadCoercion number)) ⊎ (HasAt IsBadList defs number × (fault ≡ BadList number))
 
 -- definitions have one fault of labels
 one_at_labels : (defs : List Def) (a b : GrammarFault) → AtLabels defs a → AtLabels defs b → a ≡ b
-one_at_labels defs a b (i, inl (first, is)) (j, inl (second, is')) =
-    is ∙ ap BadCoercion (one_bad defs IsBadCoercion IsBadCoercion coercion_ill coercion_ill i j first second) ∙ sym is'
-one_at_labels defs a b (i, inl (first, is)) (j, inr (second, is')) = absurd (not_both defs i j first second)
-one_at_labels defs a b (i, inr (first, is)) (j, inl (second, is')) = absurd (not_both defs j i second first)
-one_at_labels defs a b (i, inr (first, is)) (j, inr (second, is')) =
-    is ∙ ap BadList (one_bad defs IsBadList IsBadList list_ill list_ill i j first second) ∙ sym is'
+one_at_labels defs a b (i, first, how) (j, other, how') =
+    by how (subst (λ k. IsBadSo defs k b) (sym (one_first (HasAt IsIllLabelled defs) i j first other)) how')
+  where
+    by : IsBadSo defs i a → IsBadSo defs i b → a ≡ b
+    by (inl (bad, is)) (inl (bad', is')) = is ∙ sym is'
+    by (inl (bad, is)) (inr (bad', is')) = absurd (not_both defs i bad bad')
+    by (inr (bad, is)) (inl (bad', is')) = absurd (not_both defs i bad' bad)
+    by (inr (bad, is)) (inr (bad', is')) = is ∙ sym is'
 
 -- definitions that are all known have no first category that is not
 known_pass : (defs : List Def) (fault : GrammarFault) → AreAllKnown defs → AtUnknown defs fault → ⊥
-known_pass defs fault all (name, number, first, is) =
-    names_unknown defs name number first (each_def (NamesKnown defs) defs number first.def all first.is_def)
+known_pass defs fault all (name, number, unknown, is) =
+    none_at (NamesKnown defs) defs (NamesUnknown defs) (not_all_known defs) all number unknown.first.is_so
 
 -- names that are all free have no first that is not
 names_pass : (defs : List Def) (fault : GrammarFault) → HasOwnNames defs → AtOwnName defs fault → ⊥
-names_pass defs fault all (name, first, is) = not_all IsPredefined IsFree not_free _ name first all
+names_pass defs fault all (name, first, is) =
+    none_at IsFree (flat_map own_categories defs) IsPredefined (λ own predefined free. free predefined) all first.0 first.1.is_so
+
+-- definitions have one fault of unknown categories
+one_at_unknown : (defs : List Def) (a b : GrammarFault) → AtUnknown defs a → AtUnknown defs b → a ≡ b
+one_at_unknown defs a b (name, i, one, is) (name', j, other, is') =
+    let place : i ≡ j = one_first (HasAt (NamesUnknown defs) defs) i j one.first other.first in
+    let same : other.def ≡ one.def = same_Some _ _ (sym other.is_def ∙ sym (ap (slice_get defs) place) ∙ one.is_def) in
+    let names : name ≡ name' =
+    one_first_name (IsUnknown defs) (named_categories one.def) name name' one.first_name
+    (subst (λ (d : Def). IsFirstName (IsUnknown defs) (named_categories d) name') same other.first_name) in
+    is ∙ (λ k. unknown_fault (names k) (place k)) ∙ sym is'
 
 -- definitions that pass all checks fail none
 pub fit_or_unfit : FitOrUnfit
@@ -183,8 +130,7 @@ BehindNames defs fault = AtUnknown defs fault ⊎ (AreAllKnown defs × AtCycle d
 
 -- definitions have one fault behind the names
 one_behind_names : (defs : List Def) (a b : GrammarFault) → BehindNames defs a → BehindNames defs b → a ≡ b
-one_behind_names defs a b (inl (name, i, first, is)) (inl (other, j, second, is')) =
-    is ∙ (λ k. unknown_fault (one_name defs name other i j first second k) (one_number defs name other i j first second k)) ∙ sym is'
+one_behind_names defs a b (inl unknown) (inl unknown') = one_at_unknown defs a b unknown unknown'
 one_behind_names defs a b (inl unknown) (inr (known, cycle)) = absurd (known_pass defs a known unknown)
 one_behind_names defs a b (inr (known, cycle)) (inl unknown) = absurd (known_pass defs b known unknown)
 one_behind_names defs a b (inr (known, (name, cyclic, is))) (inr (known', (other, cyclic', is'))) =
@@ -193,7 +139,7 @@ one_behind_names defs a b (inr (known, (name, cyclic, is))) (inr (known', (other
 -- and one behind the count of rules
 one_behind_count : (defs : List Def) (a b : GrammarFault) → BehindCount defs a → BehindCount defs b → a ≡ b
 one_behind_count defs a b (inl (name, first, is)) (inl (other, second, is')) =
-    is ∙ ap RepeatedToken (one_first IsPredefined IsFree not_free _ name other first second) ∙ sym is'
+    is ∙ ap RepeatedToken (one_first_name IsPredefined _ name other first second) ∙ sym is'
 one_behind_count defs a b (inl names) (inr (own, more)) = absurd (names_pass defs a own names)
 one_behind_count defs a b (inr (own, more)) (inl names) = absurd (names_pass defs b own names)
 one_behind_count defs a b (inr (own, more)) (inr (own', more')) = one_behind_names defs a b more more'

@@ -1,4 +1,5 @@
 pub mod ListLemmas
+pub mod FirstLemmas
 pub mod CheckLemmas
 pub mod CycleLemmas
 pub mod NameLemmas

@@ -6,8 +6,6 @@ use Rattle.spec_grammar.specs.Cycles.{IsCyclic, IsAcyclic}
 use Rattle.spec_grammar.specs.declared.rule.Label.{Label}
 use Rattle.spec_grammar.specs.declared.rule.Label.TheVariants.{Named, Wild, Nil, Cons, One}
 use Rattle.spec_lbnf.specs.declared.definition.CatName.{CatName}
-use Rattle.spec_lbnf.specs.declared.definition.RawItem.{RawItem}
-use Rattle.spec_lbnf.specs.declared.definition.RawItem.TheVariants.{Cat, Word}
 use Rattle.spec_lbnf.specs.declared.definition.RawRule.{RawRule}
 use Rattle.spec_lbnf.specs.declared.definition.Def.{Def}
 use Rattle.spec_lbnf.specs.declared.definition.Def.TheVariants.{Rule as RuleDef, Internal}
@@ -19,13 +17,22 @@ use Rattle.spec_lbnf.specs.declared.fault.GrammarFault.TheVariants.{UnknownCateg
 use Rattle.spec_lbnf.specs.declared.fault.GrammarFault.TheVariants.{Cyclic}
 use Rattle.spec_grammar.specs.Grammars.{Grammar}
 use Rattle.spec_lbnf.specs.Expansion.{category_text, rules_of_def, rules_of}
-use Rattle.spec_lbnf.specs.Expansion.{item_categories, internal_category, expansion_of}
+use Rattle.spec_lbnf.specs.Expansion.{categories_in, item_categories, internal_category}
+use Rattle.spec_lbnf.specs.Expansion.{expansion_of}
 
--- the items that are no words, in order
-abbrev pub categories_in : List RawItem → List CatName
-categories_in [] = []
-categories_in (Cat cat ∷ items) = cat ∷ categories_in items
-categories_in (Word word ∷ items) = categories_in items
+-- this is so of the number, and of no lesser one
+pub record IsFirst (IsSo : ℕ → Type 0) (number : ℕ) : Type 0 where
+  pub is_so : IsSo number
+  pub none_before : (k : ℕ) → k < number → IsSo k → ⊥
+
+-- such an item is at the place of the list
+abbrev pub HasAt : {X : Type 0} → (X → Type 0) → List X → ℕ → Type 0
+HasAt {X} IsSuch xs place = (x : X) × (slice_get xs place ≡ Some x) × IsSuch x
+
+-- the first such name of the list is this one
+abbrev pub IsFirstName : (List ℕ → Type 0) → List (List ℕ) → List ℕ → Type 0
+IsFirstName IsSuch names name =
+    (place : ℕ) × IsFirst (HasAt IsSuch names) place × (slice_get names place ≡ Some name)
 
 -- the category is a list
 abbrev pub IsList : CatName → Type 0
@@ -77,13 +84,9 @@ IsBadList other = ⊥
 abbrev pub IsWellLabelled : Def → Type 0
 IsWellLabelled def = (IsBadCoercion def → ⊥) × (IsBadList def → ⊥)
 
--- the first definition that is not well labelled is this one, and it is bad so
-pub record IsFirstBad (IsBad : Def → Type 0) (defs : List Def) (number : ℕ) : Type 0 where
-  pub def : Def
-  pub is_def : slice_get defs number ≡ Some def
-  pub bad : IsBad def
-  pub earlier : (k : ℕ) (other : Def) → k < number → slice_get defs k ≡ Some other
-      → IsWellLabelled other
+-- the definition is not well labelled
+abbrev pub IsIllLabelled : Def → Type 0
+IsIllLabelled def = IsBadCoercion def ⊎ IsBadList def
 
 -- the definitions give at most 1,024 rules
 abbrev pub HasFewRules : List Def → Type 0
@@ -107,23 +110,9 @@ IsPredefined name = Contains predefined_names name
 abbrev pub IsFree : List ℕ → Type 0
 IsFree name = IsPredefined name → ⊥
 
--- this name is the first bad one: it is bad, and the names before it are good
-pub record IsFirstName (IsBad IsGood : List ℕ → Type 0) (names : List (List ℕ)) (name : List ℕ) :
-    Type 0 where
-  pub before : List (List ℕ)
-  pub behind : List (List ℕ)
-  pub is_name : names ≡ before ++ (name ∷ behind)
-  pub bad : IsBad name
-  pub good : All IsGood before
-
 -- no definition gives rules for a predefined name
 abbrev pub HasOwnNames : List Def → Type 0
 HasOwnNames defs = All IsFree (flat_map own_categories defs)
-
--- the first predefined name that a definition gives rules for
-abbrev pub IsFirstRepeated : List Def → List ℕ → Type 0
-IsFirstRepeated defs name =
-    IsFirstName IsPredefined IsFree (flat_map own_categories defs) name
 
 -- some rule, internal or not, has the category of this text
 abbrev pub IsKnown : List Def → List ℕ → Type 0
@@ -146,37 +135,40 @@ NamesKnown defs def = All (IsKnown defs) (named_categories def)
 abbrev pub AreAllKnown : List Def → Type 0
 AreAllKnown defs = All (NamesKnown defs) defs
 
--- the first category that is not known is this one, in this definition
+-- the definition names a category that is not known
+abbrev pub NamesUnknown : List Def → Def → Type 0
+NamesUnknown defs def = (place : ℕ) × HasAt (IsUnknown defs) (named_categories def) place
+
+-- the first definition that names an unknown category has this number, and names this one first
 pub record IsFirstUnknown (defs : List Def) (name : List ℕ) (number : ℕ) : Type 0 where
+  pub first : IsFirst (HasAt (NamesUnknown defs) defs) number
   pub def : Def
   pub is_def : slice_get defs number ≡ Some def
-  pub first : IsFirstName (IsUnknown defs) (IsKnown defs) (named_categories def) name
-  pub earlier : (k : ℕ) (other : Def) → k < number → slice_get defs k ≡ Some other
-      → NamesKnown defs other
+  pub first_name : IsFirstName (IsUnknown defs) (named_categories def) name
 
--- the first cyclic category is the one of this text: it reaches itself by steps, and none of a
--- lesser number does
-pub record IsFirstCyclic (g : Grammar) (name : List ℕ) : Type 0 where
-  pub category : ℕ
-  pub is_category : slice_get g.categories category ≡ Some name
-  pub cyclic : IsCyclic g.rules category
-  pub earlier : (c : ℕ) → c < category → IsCyclic g.rules c → ⊥
+-- the first cyclic category is the one of this text
+abbrev pub IsFirstCyclic : Grammar → List ℕ → Type 0
+IsFirstCyclic g name =
+    (category : ℕ) × IsFirst (IsCyclic g.rules) category
+    × (slice_get g.categories category ≡ Some name)
 
 -- the first definition that is not well labelled is at fault
 abbrev pub AtLabels : List Def → GrammarFault → Type 0
 AtLabels defs fault =
-    (number : ℕ)
-    × ((IsFirstBad IsBadCoercion defs number × (fault ≡ BadCoercion number))
-    ⊎ (IsFirstBad IsBadList defs number × (fault ≡ BadList number)))
+    (number : ℕ) × IsFirst (HasAt IsIllLabelled defs) number
+    × ((HasAt IsBadCoercion defs number × (fault ≡ BadCoercion number))
+    ⊎ (HasAt IsBadList defs number × (fault ≡ BadList number)))
 
 -- the number of rules is at fault
 abbrev pub AtCount : List Def → GrammarFault → Type 0
 AtCount defs fault =
     (1024 < length (rules_of defs)) × (fault ≡ TooManyRules (length (rules_of defs)))
 
--- a predefined name is at fault
+-- the first predefined name that a definition gives rules for is at fault
 abbrev pub AtOwnName : List Def → GrammarFault → Type 0
-AtOwnName defs fault = (name : List ℕ) × IsFirstRepeated defs name × (fault ≡ RepeatedToken name)
+AtOwnName defs fault =
+    (name : List ℕ) × IsFirstName IsPredefined (flat_map own_categories defs) name
+    × (fault ≡ RepeatedToken name)
 
 -- the fault of a category that is not known
 abbrev pub unknown_fault : List ℕ → ℕ → GrammarFault
@@ -190,7 +182,7 @@ AtUnknown defs fault =
     (name : List ℕ) × (number : ℕ) × IsFirstUnknown defs name number
     × (fault ≡ unknown_fault name number)
 
--- a cyclic category is at fault
+-- the first cyclic category is at fault
 abbrev pub AtCycle : List Def → GrammarFault → Type 0
 AtCycle defs fault =
     (name : List ℕ) × IsFirstCyclic (expansion_of defs) name × (fault ≡ Cyclic name)

@@ -17,6 +17,7 @@ use Rattle.spec_lbnf.specs.declared.definition.CatName.{CatName}
 use Rattle.spec_lbnf.specs.declared.definition.RawItem.{RawItem}
 use Rattle.spec_lbnf.specs.declared.definition.RawItem.TheVariants.{Cat, Word}
 use Rattle.spec_lbnf.specs.declared.definition.RawRule.{RawRule}
+use Rattle.std.specs.List.{filter_map}
 use Rattle.spec_lbnf.specs.declared.definition.Def.{Def}
 use Rattle.spec_lbnf.specs.declared.definition.Def.TheVariants.{Rule as RuleDef, Internal}
 use Rattle.spec_lbnf.specs.declared.definition.Def.TheVariants.{Terminator, Separator, Coercions}
@@ -104,17 +105,27 @@ rules_of_def (Entry cats) = []
 abbrev pub rules_of : List Def → List RawRule
 rules_of defs = flat_map rules_of_def defs
 
--- the categories among the items, in order
+-- the category that the item is, and None of a word
+abbrev pub category_in : RawItem → Option CatName
+category_in (Cat cat) = Some cat
+category_in (Word word) = None
+
+-- the word that the item is, and None of a category
+abbrev pub word_in : RawItem → Option (List ℕ)
+word_in (Cat cat) = None
+word_in (Word word) = Some word
+
+-- the items that are no words, in order
+abbrev pub categories_in : List RawItem → List CatName
+categories_in items = filter_map category_in items
+
+-- the texts of the categories among the items, in order
 abbrev pub item_categories : List RawItem → List (List ℕ)
-item_categories [] = []
-item_categories (Cat cat ∷ items) = category_text cat ∷ item_categories items
-item_categories (Word word ∷ items) = item_categories items
+item_categories items = map category_text (categories_in items)
 
 -- the words among the items, in order
 abbrev pub item_words : List RawItem → List (List ℕ)
-item_words [] = []
-item_words (Cat cat ∷ items) = item_words items
-item_words (Word word ∷ items) = word ∷ item_words items
+item_words items = filter_map word_in items
 
 -- the list without repetitions, in the order of first meeting
 abbrev pub distinct : List (List ℕ) → List (List ℕ)

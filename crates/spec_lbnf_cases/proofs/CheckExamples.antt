@@ -23,11 +23,13 @@ use Rattle.spec_lbnf.specs.Expansion.{level_rule, bracket_rule, rules_of, expans
 use Rattle.spec_lbnf.specs.declared.fault.GrammarFault.{GrammarFault}
 use Rattle.spec_lbnf.specs.declared.fault.GrammarFault.TheVariants.{BadCoercion, BadList, Cyclic, RepeatedToken, TooManyRules, Unbuilt, UnknownCategory}
 use Rattle.spec_lbnf.specs.Checks.{IsBadCoercion, IsBadList, IsWellLabelled, predefined_names, IsFree, IsKnown, NamesKnown}
-use Rattle.spec_lbnf.specs.Checks.{IsFirstBad, IsFirstUnknown, IsFirstRepeated, HasOwnNames, IsFirstCyclic, unknown_fault}
+use Rattle.spec_lbnf.specs.Checks.{IsFirst, HasAt, IsFirstName, IsIllLabelled, IsPredefined, IsUnknown, NamesUnknown, named_categories, IsFirstUnknown, HasOwnNames, IsFirstCyclic, unknown_fault}
 use Rattle.spec_lbnf.specs.Checks.{IsUnfit, AreFit}
 use Rattle.spec_lbnf_cases.specs.ExpansionExamples.{rule, category}
 use Rattle.spec_lbnf_cases.specs.CheckExamples.{word_rule, passing_rule, element, double_rule, named_list, internal_rule, SmallChecks}
 use Rattle.spec_lbnf.proofs.NameLemmas.{found_there, there_found}
+use Rattle.spec_lbnf.proofs.FirstLemmas.{none_at}
+use Rattle.spec_lbnf.proofs.CheckLemmas.{ill_or_well}
 
 -- a name that the test does not find is not in the list
 not_there : (names : List (List ℕ)) (name : List ℕ) → list_any (bytes_eq name) names ≡ false → Contains names name → ⊥
@@ -46,11 +48,15 @@ module _ {X : Type 0} (P : X → Type 0) where
   all_two : (x y : X) → P x → P y → All P (x ∷ y ∷ [])
   all_two x y p q = All-from_recursion P (x ∷ y ∷ []) (p, (q, tt))
 
--- what holds of the first definition holds of each before the second
-first_alone : (P : Def → Type 0) (first : Def) (defs : List Def) → P first
-    → (k : ℕ) (other : Def) → k < 1 → slice_get (first ∷ defs) k ≡ Some other → P other
-first_alone P first defs holds zero other less is = subst P (same_Some first other is) holds
-first_alone P first defs holds (suc k) other less is = absurd (omega arith)
+-- what is at the head of a list is the first
+at_head : {X : Type 0} (IsSuch : X → Type 0) (x : X) (xs : List X) → IsSuch x → IsFirst (HasAt IsSuch (x ∷ xs)) 0
+at_head IsSuch x xs such = record { is_so = (x, refl, such); none_before = λ k less at. absurd (omega arith) }
+
+-- where the first definition is no such one, none before the second is
+none_but_second : (IsSuch : Def → Type 0) (first : Def) (defs : List Def) → (IsSuch first → ⊥)
+    → (k : ℕ) → k < 1 → HasAt IsSuch (first ∷ defs) k → ⊥
+none_but_second IsSuch first defs not zero less (other, is, such) = not (subst IsSuch (sym (same_Some first other is)) such)
+none_but_second IsSuch first defs not (suc k) less at = absurd (omega arith)
 
 -- a rule with a name is well labelled where its category is no list
 named_label : (label name : List ℕ) (items : List RawItem) → IsWellLabelled (Rule (rule (Named label) 0 name items))
@@ -72,24 +78,17 @@ levels_label name levels some = ((λ bad. omega (arith, some, bad)), (λ bad. ba
 second_coercion : (first second : Def) → IsWellLabelled first → IsBadCoercion second
     → IsUnfit (first ∷ second ∷ []) (BadCoercion 1)
 second_coercion first second good bad =
-    let is_first : IsFirstBad IsBadCoercion (first ∷ second ∷ []) 1 = record {
-      def = second;
-      is_def = refl;
-      bad = bad;
-      earlier = first_alone IsWellLabelled first (second ∷ []) good;
+    let is_first : IsFirst (HasAt IsIllLabelled (first ∷ second ∷ [])) 1 = record {
+      is_so = (second, refl, inl bad);
+      none_before = none_but_second IsIllLabelled first (second ∷ []) (λ ill. ill_or_well first ill good);
     } in
-    inl (1, inl (is_first, refl))
+    inl (1, is_first, inl ((second, refl, bad), refl))
 
 -- the first definition is a bad list
 first_list : (first : Def) (defs : List Def) → IsBadList first → IsUnfit (first ∷ defs) (BadList 0)
 first_list first defs bad =
-    let is_first : IsFirstBad IsBadList (first ∷ defs) 0 = record {
-      def = first;
-      is_def = refl;
-      bad = bad;
-      earlier = λ k other less. absurd (omega arith);
-    } in
-    inl (0, inr (is_first, refl))
+    let is_first : IsFirst (HasAt IsIllLabelled (first ∷ defs)) 0 = at_head IsIllLabelled first defs (inr bad) in
+    inl (0, is_first, inr ((first, refl, bad), refl))
 
 -- coercions give a rule for each level, and one for the brackets
 coercions_count : (name : List ℕ) (levels : ℕ) → length (rules_of (Coercions name levels ∷ [])) ≡ levels + 1
@@ -110,13 +109,8 @@ own_name : IsUnfit (passing_rule (codes "Integer") (codes "T") ∷ []) (Repeated
 own_name =
     let name : List ℕ = codes "Integer" in
     let defs : List Def = passing_rule name (codes "T") ∷ [] in
-    let first : IsFirstRepeated defs name = record {
-      before = [];
-      behind = [];
-      is_name = refl;
-      bad = found_there predefined_names name refl;
-      good = All-nil IsFree;
-    } in
+    let there : IsPredefined name = found_there predefined_names name refl in
+    let first : IsFirstName IsPredefined (name ∷ []) name = (0, at_head IsPredefined name [] there, refl) in
     let labelled = all_one IsWellLabelled (passing_rule name (codes "T")) (passing_label name (codes "T")) in
     inr (labelled, inr (omega arith, inl (name, first, refl)))
 
@@ -135,17 +129,21 @@ module _ (label : Label) (items : List RawItem) (name : List ℕ) (other : bytes
 
   second_unknown : NamesKnown two_rules first_rule → IsFirstUnknown two_rules name 1
   second_unknown known = record {
+    first = record {
+      is_so = (passing_rule (codes "S") name, refl, (0, is_named.1.is_so));
+      none_before =
+          none_but_second (NamesUnknown two_rules) first_rule (passing_rule (codes "S") name ∷ [])
+          (λ unknown. none_at (IsKnown two_rules) (named_categories first_rule) (IsUnknown two_rules)
+          (λ text un kn. un kn) known unknown.0 unknown.1);
+    };
     def = passing_rule (codes "S") name;
     is_def = refl;
-    first = record {
-      before = [];
-      behind = [];
-      is_name = ap (λ text. text ∷ []) (append-nil name);
-      bad = not_there (codes "S" ∷ codes "S" ∷ []) name (rw other refl);
-      good = All-nil (IsKnown two_rules);
-    };
-    earlier = first_alone (NamesKnown two_rules) first_rule (passing_rule (codes "S") name ∷ []) known;
+    first_name = is_named;
   }
+    where
+      is_named : IsFirstName (IsUnknown two_rules) (named_categories (passing_rule (codes "S") name)) name
+      is_named = subst (λ (names : List (List ℕ)). IsFirstName (IsUnknown two_rules) names name) (ap (λ text. text ∷ []) (sym (append-nil name)))
+          (0, at_head (IsUnknown two_rules) name [] (not_there (codes "S" ∷ codes "S" ∷ []) name (rw other refl)), refl)
 
   -- where the first rule is good, the category is the first unknown one
   no_rule : (fault : GrammarFault) → IsWellLabelled first_rule → NamesKnown two_rules first_rule
@@ -256,12 +254,14 @@ last_steps = record {
 
 -- and R, which is category 0, does not
 first_cycle : IsFirstCyclic (expansion_of with_cycle) (codes "S")
-first_cycle = record {
-  category = 1;
-  is_category = refl;
-  cyclic = (0, (1, last_steps, refl));
-  earlier = λ c less cyclic. omega (arith, less, chain_ends (expansion_of with_cycle).rules ends cyclic.0 c c cyclic.1);
-}
+first_cycle = (
+  1,
+  record {
+    is_so = (0, (1, last_steps, refl));
+    none_before = λ c less cyclic. omega (arith, less, chain_ends (expansion_of with_cycle).rules ends cyclic.0 c c cyclic.1);
+  },
+  refl,
+)
   where
     ends : (a b : ℕ) → StepsTo (expansion_of with_cycle).rules a b → b ≡ 1
     ends a b step = cycle_steps step.r b step.rule step.before step.behind step.is_rule step.is_item

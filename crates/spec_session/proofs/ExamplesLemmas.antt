@@ -10,7 +10,7 @@ use Rattle.spec_lbnf.specs.declared.definition.Def.TheVariants.{Rule}
 use Rattle.spec_lbnf.specs.declared.fault.TextFault.TheVariants.{Syntax}
 use Rattle.spec_lbnf.specs.declared.fault.GrammarFault.TheVariants.{BadCoercion}
 use Rattle.spec_lbnf.specs.Faults.{Spells, IsFirstFault}
-use Rattle.spec_lbnf.specs.Checks.{IsUnfit}
+use Rattle.spec_lbnf.specs.Checks.{IsFirst, HasAt, IsIllLabelled, IsBadCoercion, IsUnfit}
 use Rattle.lbnf_readers.specs.Scanning.{scan_of, behind_closing, behind_space, identifier_at, number_token_at, literal_from, string_at, character_at, sign_token_at, token_at, tokens_from}
 use Rattle.lbnf_readers.specs.FileReading.{next_on, take_token, sign_at, name_at, text_at, number_at, closes_at, bracketed_at, category_at, nil_at, one_at, colon_label_at, paren_label_at, sign_label_at, label_at, item_at, items_at, side_at, rule_at, macro_at, list_macro_at, coercions_at, more_entries_at, entries_at, to_end, def_by, def_at}
 use Rattle.lbnf_readers.specs.FileDefinitions.{piece_def, defs_at}
@@ -148,18 +148,13 @@ wild_block =
 
 -- which is a bad coercion
 wild_unfit : IsUnfit (wild_rule ∷ []) (BadCoercion 0)
-wild_unfit = inl (
-  0,
-  inl (
-    record {
-      def = wild_rule;
-      is_def = refl;
-      bad = (refl, λ e. omega (arith, e));
-      earlier = λ k other lt is. absurd (omega arith);
-    },
-    refl,
-  ),
-)
+wild_unfit =
+    let bad : IsBadCoercion wild_rule = (refl, λ one. omega (arith, one)) in
+    let is_first : IsFirst (HasAt IsIllLabelled (wild_rule ∷ [])) 0 = record {
+      is_so = (wild_rule, refl, inl bad);
+      none_before = λ k less at. absurd (omega arith);
+    } in
+    inl (0, is_first, inl ((wild_rule, refl, bad), refl))
 
 pub unfit_refused : IsRefused (codes "_.S::=") (refusal_line (with_number (codes "coercion") 0))
 unfit_refused =

@@ -9,8 +9,11 @@ use Rattle.spec_lbnf.specs.declared.fault.GrammarFault.TheVariants.{BadCoercion,
 use Rattle.spec_lbnf.specs.Faults.{Spells}
 use Rattle.spec_grammar.specs.Grammars.{Grammar, HasOwnSymbols, symbol_count}
 use Rattle.spec_lbnf.specs.Expansion.{expansion_of, rules_of}
-use Rattle.spec_lbnf.specs.Checks.{IsKnown, NamesKnown, AreAllKnown, IsFirstUnknown, IsFirstCyclic, named_categories, IsFree, IsFirstRepeated, HasOwnNames, own_categories}
+use Rattle.spec_lbnf.specs.Checks.{IsKnown, NamesKnown, AreAllKnown, IsFirstUnknown, IsFirstCyclic, named_categories, IsFree, HasOwnNames, own_categories}
+use Rattle.spec_lbnf.specs.Checks.{IsFirst, HasAt, IsFirstName, IsPredefined, IsUnknown, IsIllLabelled}
 use Rattle.spec_lbnf.specs.Checks.{IsWellLabelled, HasFewRules, AreFit, IsUnfit, AtLabels, unknown_fault}
+use Rattle.spec_lbnf.proofs.FirstLemmas.{none_at}
+use Rattle.spec_lbnf.proofs.CheckLemmas.{ill_or_well}
 use Rattle.spec_lbnf.proofs.ListLemmas.{item_at}
 use Rattle.spec_lbnf.proofs.SymbolLemmas.{own_symbols}
 use Rattle.lbnf_readers.proofs.FaultLemmas.{defs_or_fault}
@@ -18,17 +21,33 @@ use Rattle.spec_grammar.specs.Cycles.{IsCyclic, IsAcyclic}
 use Rattle.spec_session.specs.Replies.{IsAccepted, AreAccepted, IsRefused, IsRefusedFor, faulty, unfit, too_many_symbols, fault_reason, unfit_reason, symbols_reason, refusal_line}
 use Rattle.spec_session.proofs.DenialLemmas.{IsUndeniable, decided, FirstWithout, AllOrFirst, all_or_first, first_place, holds_earlier}
 
+-- the first name that is not good is the first bad one, where no name is both
+first_name : (IsBad IsGood : List ℕ → Type 0) → ((name : List ℕ) → IsGood name → IsBad name → ⊥)
+    → (names : List (List ℕ)) (first : FirstWithout IsGood names) → IsBad first.item → IsFirstName IsBad names first.item
+first_name IsBad IsGood apart names first bad =
+    let at : slice_get names (length first.before) ≡ Some first.item = first_place IsGood names first in (
+      length first.before,
+      record {
+        is_so = (first.item, at, bad);
+        none_before = λ k lt (name, is, wrong). apart name (holds_earlier IsGood names first k name lt is) wrong;
+      },
+      at,
+    )
+
 module _ (defs : List Def) where
   -- a first definition that is not well labelled is a bad coercion or a bad list
   bad_so : (first : FirstWithout IsWellLabelled defs) → IsUndeniable ((fault : GrammarFault) × AtLabels defs fault)
   bad_so first denied =
       let number : ℕ = length first.before in
       let is_def : slice_get defs number ≡ Some first.item = first_place IsWellLabelled defs first in
-      let earlier : (k : ℕ) (other : Def) → k < number → slice_get defs k ≡ Some other → IsWellLabelled other
-      = holds_earlier IsWellLabelled defs first in
+      let is_first : IsIllLabelled first.item → IsFirst (HasAt IsIllLabelled defs) number
+      = λ ill. record {
+        is_so = (first.item, is_def, ill);
+        none_before = λ k lt (other, at, bad). ill_or_well other bad (holds_earlier IsWellLabelled defs first k other lt at);
+      } in
       first.without (
-        (λ coercion. denied (BadCoercion number, (number, inl (record { def = first.item; is_def = is_def; bad = coercion; earlier = earlier }, refl)))),
-        (λ list. denied (BadList number, (number, inr (record { def = first.item; is_def = is_def; bad = list; earlier = earlier }, refl)))),
+        (λ coercion. denied (BadCoercion number, (number, is_first (inl coercion), inl ((first.item, is_def, coercion), refl)))),
+        (λ list. denied (BadList number, (number, is_first (inr list), inr ((first.item, is_def, list), refl)))),
       )
 
   -- all definitions are well labelled, or there is a fault of labels
@@ -46,7 +65,7 @@ module _ (defs : List Def) where
 
   -- no rules are given for predefined names, or there is a first one
   abbrev AreFreeOrNot : Type 0
-  AreFreeOrNot = HasOwnNames defs ⊎ ((name : List ℕ) × IsFirstRepeated defs name)
+  AreFreeOrNot = HasOwnNames defs ⊎ ((name : List ℕ) × IsFirstName IsPredefined (flat_map own_categories defs) name)
 
   -- that one of the two is so cannot be denied
   free_or_not : IsUndeniable AreFreeOrNot
@@ -57,13 +76,7 @@ module _ (defs : List Def) where
         | inl all ↦ denied (inl (All-from_recursion IsFree names all))
         | inr first ↦ first.without (λ is. denied (inr (
           first.item,
-          record {
-            before = first.before;
-            behind = first.behind;
-            is_name = first.is_item;
-            bad = is;
-            good = All-from_recursion IsFree first.before first.earlier;
-          },
+          first_name IsPredefined IsFree (λ name free predefined. free predefined) names first is,
         )))
       ])
 
@@ -77,21 +90,21 @@ module _ (defs : List Def) where
       all_or_first (IsKnown defs) names
       (λ (split : AllOrFirst (IsKnown defs) names). elim split [
         | inl known ↦ names_unknown (All-from_recursion (IsKnown defs) names known)
-        | inr first ↦ denied (
-          first.item,
-          record {
-            def = def;
-            is_def = is_def;
-            first = record {
-              before = first.before;
-              behind = first.behind;
-              is_name = first.is_item;
-              bad = first.without;
-              good = All-from_recursion (IsKnown defs) first.before first.earlier;
-            };
-            earlier = earlier;
-          },
-        )
+        | inr first ↦
+            let is_first = first_name (IsUnknown defs) (IsKnown defs) (λ name known unknown. unknown known) names first first.without in
+            denied (
+              first.item,
+              record {
+                first = record {
+                  is_so = (def, is_def, (is_first.0, is_first.1.is_so));
+                  none_before = λ k lt (other, at, (place, unknown)).
+                      none_at (IsKnown defs) (named_categories other) (IsUnknown defs) (λ name un kn. un kn) (earlier k other lt at) place unknown;
+                };
+                def = def;
+                is_def = is_def;
+                first_name = is_first;
+              },
+            )
       ])
 
   -- the definitions name known categories alone, or there is a first unknown one
@@ -165,7 +178,7 @@ module _ (g : Grammar) where
       → (name : List ℕ) × IsFirstCyclic g name
   first_cyclic c lt least =
       let name = item_at g.categories c lt in
-      (name.0, record { category = c; is_category = name.1; cyclic = least.0; earlier = least.1 })
+      (name.0, (c, record { is_so = least.0; none_before = least.1 }, name.1))
 
 -- the definitions are fit or unfit
 abbrev AreFitOrNot : List Def → Type 0

@@ -9,7 +9,7 @@ returns-then-is_predefined c =
     let told = told_listed predefined_names c.name-item.result c.as_slice.result.now c.as_slice.ensures.bytes
     c.is_predefined.result true c.is_predefined.ensures c.if-is_predefined.true in
     first_bad IsPredefined IsFree c.args.names.now c.loop-name.name-index c.name-item.result
-    c.loop-name-test.true c.name-item.is c.loop-name.invariant (told_there predefined_names c.name-item.result told)
+    c.loop-name-test.true c.name-item.is c.loop-name.invariant (λ other free predefined. free predefined) (told_there predefined_names c.name-item.result told)
 
 pub loop-name-preserved : goal.loop-name-preserved
 loop-name-preserved c =

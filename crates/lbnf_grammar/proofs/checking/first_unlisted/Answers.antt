@@ -8,7 +8,7 @@ returns-then-not-has c =
     let told = told_listed c.args.known.now c.name-item.result c.as_slice.result.now c.as_slice.ensures.bytes
     c.has.result false c.has.ensures c.if-not-has.true in
     first_bad (IsUnlisted c.args.known.now) (IsListed c.args.known.now) c.args.names.now
-    c.loop-name.name-index c.name-item.result c.loop-name-test.true c.name-item.is c.loop-name.invariant
+    c.loop-name.name-index c.name-item.result c.loop-name-test.true c.name-item.is c.loop-name.invariant (λ other listed unlisted. unlisted listed)
     (told_absent c.args.known.now c.name-item.result told)
 
 pub loop-name-preserved : goal.loop-name-preserved

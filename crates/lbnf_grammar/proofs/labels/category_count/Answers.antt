@@ -1,7 +1,7 @@
 use Rattle.std.proofs.Common.{length, refl, ap, ◌∙◌, arith}
 use Rattle.std.proofs.lemmas.List.{take_all}
 use Rattle.std.proofs.lemmas.Option.{slice_get_read}
-use Rattle.spec_lbnf.specs.Checks.{categories_in}
+use Rattle.spec_lbnf.specs.Expansion.{categories_in}
 use Rattle.lbnf_grammar.proofs.LabelLemmas.{counted_more}
 use Rattle.lbnf_grammar.proofs.labels.category_count.Goals as goal
 

@@ -1,5 +1,5 @@
 use Rattle.std.proofs.Common.{◌≡◌, ◌≤◌, length, take}
-use Rattle.spec_lbnf.specs.Checks.{categories_in}
+use Rattle.spec_lbnf.specs.Expansion.{categories_in}
 use Rattle.lbnf_grammar.proofs.labels.category_count.Given as goal
 
 -- the items so far that are no words are counted

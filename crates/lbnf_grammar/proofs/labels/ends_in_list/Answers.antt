@@ -1,6 +1,6 @@
 use Rattle.std.proofs.Common.{take, refl}
 use Rattle.std.proofs.lemmas.Option.{slice_get_read}
-use Rattle.spec_lbnf.specs.Checks.{categories_in}
+use Rattle.spec_lbnf.specs.Expansion.{categories_in}
 use Rattle.lbnf_grammar.proofs.LabelLemmas.{categories_more}
 use Rattle.lbnf_grammar.proofs.labels.ends_in_list.Goals as goal
 

@@ -1,5 +1,5 @@
 use Rattle.std.proofs.Common.{◌↔◌, IsTrue, take}
-use Rattle.spec_lbnf.specs.Checks.{categories_in}
+use Rattle.spec_lbnf.specs.Expansion.{categories_in}
 use Rattle.lbnf_grammar.specs.Checking.{EndsInList}
 use Rattle.lbnf_grammar.proofs.labels.ends_in_list.Given as goal
 
