@@ -8,7 +8,6 @@ use Rattle.spec_grammar.specs.declared.rule.Symbol.TheVariants.{Category}
 use Rattle.spec_grammar.specs.Grammars.{Grammar, lexicon_of_kinds, HasOwnSymbols, item_count}
 use Rattle.spec_grammar.specs.Grammars.{name_number, category_symbol}
 use Rattle.spec_grammar.specs.Cycles.{IsCyclic, IsAcyclic}
-use Rattle.numbered_grammar.specs.Ranks.{IsLeastCyclic}
 use Rattle.numbered_grammar.specs.declared.fault.CycleFault.{CycleFault}
 use Rattle.numbered_grammar.specs.declared.fault.CycleFault.TheVariants.{Memory, Cyclic}
 
@@ -38,6 +37,12 @@ pub record IsWellFormed (g : Grammar) : Type 0 where
 abbrev pub entry_of_rules : List Rule → Option Symbol
 entry_of_rules [] = None
 entry_of_rules (rule ∷ rules) = Some (Category rule.category)
+
+-- the category reaches itself, and none of a lesser number does
+pub record IsLeastCyclic (g : Grammar) (c : ℕ) : Type 0 where
+  pub within : c < length g.categories
+  pub cyclic : IsCyclic g.rules c
+  pub earlier : (lesser : ℕ) → lesser < c → IsCyclic g.rules lesser → ⊥
 
 -- the text of the category that the fault tells, and None where memory ran out
 abbrev pub cyclic_name : CycleFault → Option (List ℕ)

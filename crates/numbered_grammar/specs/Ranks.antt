@@ -1,16 +1,11 @@
 -- The first category that reaches itself, and the ranks of all categories where none does. Serves
 -- the proofs alone.
 use Rattle.std.specs.Prelude.{◌≡◌, ℕ, ◌<◌, List, Option, length, slice_index_or, MatchOption}
-use Rattle.spec_grammar.specs.Cycles.{IsCyclic, IsAcyclic, IsRank}
+use Rattle.spec_grammar.specs.Cycles.{IsAcyclic, IsRank}
 use Rattle.spec_grammar.specs.Grammars.{Grammar}
+use Rattle.numbered_grammar.specs.Making.{IsLeastCyclic}
 use Rattle.numbered_grammar.specs.declared.cycle_check.CycleCheck.{CycleCheck}
 use Rattle.numbered_grammar.specs.declared.cycle_check.CycleCheck.TheVariants.{Cyclic, Ranked}
-
--- the category reaches itself, and none of a lesser number does
-pub record IsLeastCyclic (g : Grammar) (c : ℕ) : Type 0 where
-  pub within : c < length g.categories
-  pub cyclic : IsCyclic g.rules c
-  pub earlier : (lesser : ℕ) → lesser < c → IsCyclic g.rules lesser → ⊥
 
 -- the least category that reaches itself, and None exactly where none does
 abbrev pub FindsCyclic : Grammar → Option ℕ → Type 0
