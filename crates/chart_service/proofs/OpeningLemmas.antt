@@ -11,10 +11,12 @@ use Rattle.spec_lbnf.specs.declared.definition.Def.{Def}
 use Rattle.spec_lbnf.specs.Expansion.{Expansion, expansion_of, symbol_count}
 use Rattle.spec_lbnf.specs.Faults.{Spells, IsFirstFault, too_large, is_large}
 use Rattle.spec_lbnf.specs.Checks.{AreFit, IsUnfit}
-use Rattle.spec_session.specs.Script.{opens}
-use Rattle.spec_session.specs.Replies.{IsReply, IsRefused, IsRefusedFor, AreAccepted, faulty, unfit}
-use Rattle.spec_session.specs.Replies.{too_many_symbols, fault_reason, unfit_reason, symbols_reason}
-use Rattle.spec_session.specs.Replies.{version_reply}
+use Rattle.spec_script.specs.Script.{opens}
+use Rattle.spec_session.specs.Steps.{IsReply}
+use Rattle.spec_session.specs.GrammarReplies.{IsRefused, IsRefusedFor, AreAccepted, faulty, unfit}
+use Rattle.spec_session.specs.GrammarReplies.{too_many_symbols, fault_reason, unfit_reason}
+use Rattle.spec_session.specs.GrammarReplies.{symbols_reason}
+use Rattle.spec_session.specs.Steps.{version_reply}
 use Rattle.lbnf_text.specs.Reading.{IsSmallText, file_fault_of}
 use Rattle.lbnf_text.specs.declared.fault.TextFault.TheVariants.{TooLarge}
 use Rattle.lbnf_grammar.specs.Grammars.{unfitness_of, PassFirstChecks}
