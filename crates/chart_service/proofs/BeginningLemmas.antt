@@ -4,26 +4,27 @@ use Rattle.std.proofs.Common.{◌≡◌, ℕ, ◌+◌, ◌^◌, ◌<◌, ◌≤�
 use Rattle.std.proofs.Common.{None, Result, Ok, Err, OnOk, refl, sym, ◌∙◌, ap, subst, arith}
 use Rattle.std.proofs.Common.{append_assoc, append-nil, length-append}
 use Rattle.spec_grammar.specs.Grammars.{Grammar}
-use Rattle.spec_session.specs.Script.{Command, header, grammar, opens, has, line_of, block_of}
-use Rattle.spec_session.specs.Script.{text_of, IsWithinLimits, IsInOrder, Begins, broken}
-use Rattle.spec_session.specs.Replies.{IsAccepted, grammar_reply, version_reply}
+use Rattle.spec_script.specs.Script.{Command, header, grammar, opens, ask, line_of, block_of}
+use Rattle.spec_script.specs.Script.{text_of, IsWithinLimits, IsInOrder, BeginsWithCommands, broken}
+use Rattle.spec_session.specs.GrammarReplies.{IsAccepted, grammar_reply}
+use Rattle.spec_session.specs.Steps.{version_reply}
 use Rattle.spec_session.specs.Sessions.{last_line}
-use Rattle.spec_session.proofs.ScriptLemmas.{line_is_short}
+use Rattle.spec_script.proofs.ScriptLemmas.{line_is_short}
 use Rattle.spec_session.proofs.FrontLemmas.{grammar_told}
 use Rattle.chart_service.specs.declared.language.Language.{Language}
 use Rattle.chart_service.specs.declared.opening.Opened.{Opened}
-use Rattle.chart_service.specs.declared.reading.Block.{Block}
+use Rattle.script_reader.specs.declared.reading.Block.{Block}
 use Rattle.chart_service.specs.declared.status.Status.{Status}
 use Rattle.chart_service.specs.declared.status.Status.TheVariants.{BadScript}
 use Rattle.chart_service.specs.Statuses.{number_of}
 use Rattle.chart_service.specs.Writing.{EndsWith}
 use Rattle.chart_service.specs.Serving.{IsFaultStatus}
-use Rattle.chart_service.specs.Reading.{IsBlock, Finds, TakesCommand, NoneComes, IsHeader}
-use Rattle.chart_service.specs.Reading.{IsGrammar, IsText, NextGrammar}
+use Rattle.script_reader.specs.Reading.{IsBlock, Finds, TakesCommand, NoneComes, IsHeader}
+use Rattle.script_reader.specs.Reading.{IsGrammar, IsText, NextGrammar}
 use Rattle.chart_service.specs.Opening.{Accepts, EndsAtGrammar, HasOpened, OpensText}
 use Rattle.chart_service.specs.Progress.{Running, Ends, Begun}
-use Rattle.chart_service.proofs.ReadingLemmas.{found_grammar, found_none}
-use Rattle.chart_service.proofs.ProgressLemmas.{Begins-append, last, stopped_behind, ended_at_grammar, ended_at_text}
+use Rattle.script_reader.proofs.ReadingLemmas.{found_grammar, found_none}
+use Rattle.chart_service.proofs.ProgressLemmas.{BeginsWithCommands-append, last, stopped_behind, ended_at_grammar, ended_at_text}
 
 -- a command is short
 text_is_short : (command : Command) → IsWithinLimits command → length (text_of command) ≤ 2 ^ 30
@@ -35,7 +36,7 @@ text_is_short command w =
     block_is_short header w = omega arith
     block_is_short (grammar block) w = omega (arith, w, length-append block (10 ∷ []))
     block_is_short (opens text) w = omega (arith, w.0, length-append text (10 ∷ []))
-    block_is_short (has constituent) w = omega arith
+    block_is_short (ask query) w = omega arith
 
 -- so its end is not far
 pub taken_early : (from to : ℕ) (old new : Option (List ℕ)) (command : Command)
@@ -54,25 +55,25 @@ is_header : (command : Command) → IsInOrder (command ∷ []) → IsHeader comm
 is_header header h = tt
 is_header (grammar block) h = absurd h
 is_header (opens text) h = absurd h
-is_header (has constituent) h = absurd h
+is_header (ask query) h = absurd h
 
 is_grammar : (command : Command) → IsInOrder (header ∷ command ∷ []) → IsGrammar command
 is_grammar header h = absurd h
 is_grammar (grammar block) h = tt
 is_grammar (opens text) h = absurd h
-is_grammar (has constituent) h = absurd h
+is_grammar (ask query) h = absurd h
 
 is_text : (block : List ℕ) (command : Command) → IsInOrder (header ∷ grammar block ∷ command ∷ []) → IsText command
 is_text block header h = absurd h
 is_text block (grammar other) h = absurd h
 is_text block (opens text) h = tt
-is_text block (has constituent) h = absurd h
+is_text block (ask query) h = absurd h
 
 -- the header was taken, and nothing was written
 pub record HasHeader (input before : List ℕ) (at : ℕ) (coming now : Option (List ℕ)) : Type 0 where
   pub rest : List ℕ
   pub comes : coming ≡ Some rest
-  pub begins : Begins 0 input (header ∷ []) at rest
+  pub begins : BeginsWithCommands 0 input (header ∷ []) at rest
   pub has_written : now ≡ Some before
 
 -- the header and the grammar that was found were taken, and nothing was written
@@ -82,7 +83,7 @@ pub record HasGrammar (input before : List ℕ) (found : Block) (at : ℕ)
   pub is_block : IsBlock 65536 found block
   pub rest : List ℕ
   pub comes : coming ≡ Some rest
-  pub begins : Begins 0 input (header ∷ grammar block ∷ []) at rest
+  pub begins : BeginsWithCommands 0 input (header ∷ grammar block ∷ []) at rest
   pub has_written : now ≡ Some before
 
 -- the header and a grammar were taken, which was accepted, and its reply was written
@@ -92,7 +93,7 @@ pub record HasAccepted (input before : List ℕ) (g : Grammar) (at : ℕ)
   pub accepted : IsAccepted block g
   pub rest : List ℕ
   pub comes : coming ≡ Some rest
-  pub begins : Begins 0 input (header ∷ grammar block ∷ []) at rest
+  pub begins : BeginsWithCommands 0 input (header ∷ grammar block ∷ []) at rest
   pub has_written : now ≡ Some (before ++ grammar_reply g)
 
 -- where nothing was taken or written yet
@@ -119,7 +120,7 @@ module _ {input before : List ℕ} {from : ℕ} {coming old : Option (List ℕ)}
       taken.offset ∙ ap (λ n. n + length (text_of header)) start in record {
         rest = t.0;
         comes = t.1;
-        begins = Begins-append 0 input [] 0 input (refl, refl) header t.0 (omega arith) tt t.2 at offset;
+        begins = BeginsWithCommands-append 0 input [] 0 input (refl, refl) header t.0 (omega arith) tt t.2 at offset;
         has_written = written;
       }
 
@@ -154,7 +155,7 @@ module _ {input before : List ℕ} {at : ℕ} {coming old : Option (List ℕ)}
         is_block = f.1;
         rest = t.0;
         comes = t.1;
-        begins = Begins-append 0 input (header ∷ []) at h.rest h.begins (grammar f.0) t.0
+        begins = BeginsWithCommands-append 0 input (header ∷ []) at h.rest h.begins (grammar f.0) t.0
             taken.early taken.within_limits t.2 behind taken.offset;
         has_written = h.has_written;
       }
@@ -209,12 +210,12 @@ module _ {input before : List ℕ} {g : Grammar} {at : ℕ} {coming now : Option
   module _ {text : List ℕ} {end : ℕ} {later : Option (List ℕ)}
       (taken : TakesCommand at end coming later (opens text)) where
     text_begins : (rest : List ℕ) × (later ≡ Some rest)
-        × Begins 0 input (header ∷ grammar h.block ∷ opens text ∷ []) end rest
+        × BeginsWithCommands 0 input (header ∷ grammar h.block ∷ opens text ∷ []) end rest
     text_begins =
         let t = taken.taken h.rest h.comes in (
           t.0,
           t.1,
-          Begins-append 0 input (header ∷ grammar h.block ∷ []) at h.rest h.begins
+          BeginsWithCommands-append 0 input (header ∷ grammar h.block ∷ []) at h.rest h.begins
               (opens text) t.0 taken.early taken.within_limits t.2 end taken.offset,
         )
 

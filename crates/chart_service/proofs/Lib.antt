@@ -1,7 +1,4 @@
 pub mod LexingLemmas
-pub mod FormsLemmas
-pub mod QuestionLemmas
-pub mod ReadingLemmas
 pub mod OpeningLemmas
 pub mod AnsweringLemmas
 pub mod ProgressLemmas

@@ -7,19 +7,21 @@ use Rattle.spec_lbnf.proofs.NameLemmas.{distinct_names}
 use Rattle.cyk_io.specs.Streams.{GrowsByPrefix}
 use Rattle.spec_lexing.specs.declared.token.Token.{Token}
 use Rattle.spec_lbnf.specs.declared.definition.Def.{Def}
+use Rattle.spec_grammar.specs.Grammars.{Grammar, symbol_count}
+use Rattle.spec_lbnf.specs.Expansion.{expansion_of}
 use Rattle.spec_lbnf.specs.declared.fault.TextFault.{TextFault}
 use Rattle.spec_lbnf.specs.declared.fault.TextFault.TheVariants.{TooLarge}
 use Rattle.spec_lbnf.specs.declared.fault.TextFault.TheVariants as file
 use Rattle.spec_lbnf.specs.declared.fault.GrammarFault.{GrammarFault}
 use Rattle.spec_lbnf.specs.declared.fault.GrammarFault.TheVariants as made
-use Rattle.spec_grammar.specs.Grammars.{Grammar, symbol_count}
-use Rattle.spec_lbnf.specs.Expansion.{expansion_of}
 use Rattle.spec_lbnf.specs.Faults.{Spells, IsFirstFault, is_large}
 use Rattle.spec_lbnf.specs.Checks.{AreFit}
-use Rattle.spec_session.specs.Script.{opens}
-use Rattle.spec_session.specs.Replies.{IsReply, IsRefused, IsRefusedFor, AreAccepted, faulty, unfit}
-use Rattle.spec_session.specs.Replies.{too_many_symbols, fault_reason, unfit_reason, symbols_reason}
-use Rattle.spec_session.specs.Replies.{version_reply}
+use Rattle.spec_script.specs.Script.{opens}
+use Rattle.spec_session.specs.Steps.{IsReply}
+use Rattle.spec_session.specs.GrammarReplies.{IsRefused, IsRefusedFor, AreAccepted, faulty, unfit}
+use Rattle.spec_session.specs.GrammarReplies.{too_many_symbols, fault_reason, unfit_reason}
+use Rattle.spec_session.specs.GrammarReplies.{symbols_reason}
+use Rattle.spec_session.specs.Steps.{version_reply}
 use Rattle.binary_form.specs.BinaryForm.{MakesBinary}
 use Rattle.binary_form.specs.declared.fault.BinaryFault.{BinaryFault}
 use Rattle.binary_form.specs.declared.fault.BinaryFault.TheVariants.{Memory as BinaryMemory, TooManySymbols}

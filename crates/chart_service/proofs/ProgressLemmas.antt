@@ -6,13 +6,15 @@ use Rattle.std.proofs.lemmas.List.{take-append-drop}
 use Rattle.cyk_io.specs.Streams.{Takes, Grows, GrowsByPrefix}
 use Rattle.cyk_io.specs.Lines.{IsLine}
 use Rattle.spec_grammar.specs.Grammars.{Grammar}
-use Rattle.spec_session.specs.Script.{Constituent, Command, header, grammar, opens, has, line_of}
-use Rattle.spec_session.specs.Script.{block_of, text_of, IsWithinLimits, AreQuestions, IsInOrder}
-use Rattle.spec_session.specs.Script.{Begins, Ending, ended, broken, EndsAs, IsScript}
-use Rattle.spec_session.specs.Replies.{IsAccepted, IsReply, IsAnswer, grammar_reply, version_reply}
+use Rattle.spec_script.specs.Script.{Constituent, Query, has, Command, header, grammar, opens, ask, line_of}
+use Rattle.spec_script.specs.Script.{block_of, text_of, IsWithinLimits, AreQuestions, IsInOrder}
+use Rattle.spec_script.specs.Script.{BeginsWithCommands, Ending, ended, broken, EndsAs, IsScript}
+use Rattle.spec_session.specs.GrammarReplies.{IsAccepted, grammar_reply}
+use Rattle.spec_session.specs.Steps.{IsReply, version_reply}
+use Rattle.spec_session.specs.Answers.{IsAnswer}
 use Rattle.spec_session.specs.Sessions.{AreReplies, AreAllReplies, IsSession, refused, whole, last_line, last_status}
-use Rattle.spec_session.proofs.ScriptLemmas.{tested, each_differs, lacks_if_each_differs, cut_same}
-use Rattle.spec_session.proofs.ScriptLemmas.{command_line, line_lacks_lf, line_is_short}
+use Rattle.spec_script.proofs.ScriptLemmas.{tested, each_differs, lacks_if_each_differs, cut_same}
+use Rattle.spec_script.proofs.ScriptLemmas.{command_line, line_lacks_lf, line_is_short}
 use Rattle.spec_session.proofs.SessionsLemmas.{replies_come_first, replies_then_last_line, refusal_is_all}
 use Rattle.spec_session.proofs.FrontLemmas.{questions_more, replies_more, grammar_told, text_told}
 use Rattle.chart_service.specs.declared.opening.Opened.{Opened}
@@ -20,11 +22,13 @@ use Rattle.chart_service.specs.declared.status.Status.{Status}
 use Rattle.chart_service.specs.declared.status.Status.TheVariants.{Ended, BadGrammar, BadScript}
 use Rattle.chart_service.specs.declared.status.Status.TheVariants.{ReadFault, WriteFault}
 use Rattle.chart_service.specs.declared.status.Status.TheVariants.{OutOfMemory}
-use Rattle.chart_service.specs.Statuses.{number_of, IsReadStop, IsWriteStop}
+use Rattle.cyk_io.specs.declared.fault.IoFault.{IoFault}
+use Rattle.cyk_io.specs.declared.fault.IoFault.TheVariants.{Read, Write, Memory}
+use Rattle.chart_service.specs.Statuses.{number_of, status_at, IsWriteStop}
 use Rattle.chart_service.specs.Writing.{EndsWith}
 use Rattle.chart_service.specs.Serving.{IsFaultStatus, IsPrefixOfSession}
-use Rattle.chart_service.specs.Reading.{NextLine, TakesCommand}
-use Rattle.chart_service.specs.Forms.{ReadsHas, IsHas, ReadsQuestion}
+use Rattle.script_reader.specs.Reading.{IsOfReading, NextLine, TakesCommand}
+use Rattle.script_reader.specs.Forms.{ReadsHas, IsHas, ReadsQuestion}
 use Rattle.chart_service.specs.Opening.{IsGrammarLine, EndsAtGrammar, EndsAtText}
 use Rattle.chart_service.specs.Progress.{Running, Ends}
 
@@ -37,23 +41,22 @@ write_stop ReadFault h = absurd h
 write_stop WriteFault h = inr (inl refl)
 write_stop OutOfMemory h = inr (inr refl)
 
-pub read_stop : (status : Status) → IsReadStop status → IsFaultStatus (number_of status)
-read_stop Ended h = absurd h
-read_stop BadGrammar h = absurd h
-read_stop BadScript h = absurd h
-read_stop ReadFault h = inl refl
-read_stop WriteFault h = absurd h
-read_stop OutOfMemory h = inr (inr refl)
+-- a session that ends at a fault of reading ends with the status of a fault
+pub fault_stop : (fault : IoFault) → IsOfReading fault → (status : Status) → status ≡ status_at fault
+    → IsFaultStatus (number_of status)
+fault_stop Read h status e = subst (λ (s : Status). IsFaultStatus (number_of s)) (sym e) (inl refl)
+fault_stop Memory h status e = subst (λ (s : Status). IsFaultStatus (number_of s)) (sym e) (inr (inr refl))
+fault_stop Write h status e = absurd h
 
 -- commands that are taken join those before them
-pub Begins-append : (at : ℕ) (bytes : List ℕ) (commands : List Command) (mid : ℕ) (rest : List ℕ)
-    → Begins at bytes commands mid rest → (command : Command) (more : List ℕ) → mid < 2 ^ 48
+pub BeginsWithCommands-append : (at : ℕ) (bytes : List ℕ) (commands : List Command) (mid : ℕ) (rest : List ℕ)
+    → BeginsWithCommands at bytes commands mid rest → (command : Command) (more : List ℕ) → mid < 2 ^ 48
     → IsWithinLimits command → rest ≡ text_of command ++ more → (end : ℕ)
-    → end ≡ mid + length (text_of command) → Begins at bytes (commands ++ command ∷ []) end more
-Begins-append at bytes [] mid rest h command more early w e end to =
+    → end ≡ mid + length (text_of command) → BeginsWithCommands at bytes (commands ++ command ∷ []) end more
+BeginsWithCommands-append at bytes [] mid rest h command more early w e end to =
     (more, omega (arith, early, h.0), w, sym h.1 ∙ e, (to ∙ ap (λ n. n + length (text_of command)) h.0, refl))
-Begins-append at bytes (c ∷ commands) mid rest h command more early w e end to =
-    let behind = Begins-append (at + length (text_of c)) h.0 commands mid rest h.4 command more early w e end to in
+BeginsWithCommands-append at bytes (c ∷ commands) mid rest h command more early w e end to =
+    let behind = BeginsWithCommands-append (at + length (text_of c)) h.0 commands mid rest h.4 command more early w e end to in
     (h.0, h.1, h.2, h.3, behind)
 
 module _ (input before : List ℕ) where
@@ -86,7 +89,7 @@ module _ (input before : List ℕ) where
   stopped told sure now written status fault = (told, written, inr (fault, sure))
 
   module _ (front : List Command) (at : ℕ) (rest told : List ℕ) (in_order : IsInOrder front)
-      (begins : Begins 0 input front at rest) (replies : AreAllReplies front told) where
+      (begins : BeginsWithCommands 0 input front at rest) (replies : AreAllReplies front told) where
     -- a fault behind these commands
     pub stopped_behind : (now : Option (List ℕ)) → now ≡ Some (before ++ told) → (status : Status)
         → IsFaultStatus (number_of status) → Ends input before now status
@@ -118,7 +121,7 @@ module _ (input before : List ℕ) where
 
   -- one more command whose reply was cut short
   pub cut_behind : (front : List Command) (at : ℕ) (rest told line : List ℕ) → IsInOrder front
-      → Begins 0 input front at rest → AreAllReplies front (told ++ line) → (old new : Option (List ℕ))
+      → BeginsWithCommands 0 input front at rest → AreAllReplies front (told ++ line) → (old new : Option (List ℕ))
       → old ≡ Some (before ++ told) → GrowsByPrefix old new line → (status : Status)
       → IsFaultStatus (number_of status) → Ends input before new status
   cut_behind front at rest told line in_order begins replies =
@@ -126,7 +129,7 @@ module _ (input before : List ℕ) where
 
   -- the last line cut short, or a fault, at a refused grammar
   pub ended_at_grammar : (block : List ℕ) (at : ℕ) (rest : List ℕ)
-      → Begins 0 input (header ∷ grammar block ∷ []) at rest → (old new : Option (List ℕ))
+      → BeginsWithCommands 0 input (header ∷ grammar block ∷ []) at rest → (old new : Option (List ℕ))
       → old ≡ Some before → (status : Status) → EndsAtGrammar block old new status
       → Ends input before new status
   ended_at_grammar block at rest begins old new written status h = by_status status h
@@ -157,8 +160,8 @@ module _ (input before : List ℕ) where
 
   -- a fault at the text, behind a grammar that was accepted
   pub ended_at_text : (block text : List ℕ) (g : Grammar) → IsAccepted block g
-      → (mid : ℕ) (mid_rest : List ℕ) → Begins 0 input (header ∷ grammar block ∷ []) mid mid_rest
-      → (at : ℕ) (rest : List ℕ) → Begins 0 input (header ∷ grammar block ∷ opens text ∷ []) at rest
+      → (mid : ℕ) (mid_rest : List ℕ) → BeginsWithCommands 0 input (header ∷ grammar block ∷ []) mid mid_rest
+      → (at : ℕ) (rest : List ℕ) → BeginsWithCommands 0 input (header ∷ grammar block ∷ opens text ∷ []) at rest
       → (old new : Option (List ℕ)) → old ≡ Some (before ++ grammar_reply g) → (status : Status)
       → EndsAtText g text old new status → Ends input before new status
   ended_at_text block text g accepted mid mid_rest mid_begins at rest begins old new written status h =
@@ -224,8 +227,8 @@ module _ (from to : ℕ) (old new : Option (List ℕ)) (line bytes : List ℕ)
     (h : NextLine from to old new line true) (is : old ≡ Some bytes) where
   no_question : ReadsHas line None → (command : Command) (more : List ℕ) → from < 2 ^ 48
       → AreQuestions (command ∷ []) → IsWithinLimits command → bytes ≡ text_of command ++ more → ⊥
-  no_question other (has constituent) more early q w e =
-      let spelled = line_of_command from to old new line bytes h is (has constituent) more w e in
+  no_question other (ask (has constituent)) more early q w e =
+      let spelled = line_of_command from to old new line bytes h is (ask (has constituent)) more w e in
       other constituent (record { nameable = w.0; spelled = spelled })
   no_question other header more early q w e = absurd q
   no_question other (grammar block) more early q w e = absurd q
@@ -244,19 +247,19 @@ module _ (from to : ℕ) (old new : Option (List ℕ)) (line bytes : List ℕ)
   is_end e = (rest_of.0, rest_of.2 ∙ ap (λ word. word ++ (10 ∷ rest_of.0)) e)
 
   -- a line that asks is a question taken
-  question_taken : (constituent : Constituent) → IsHas line constituent → TakesCommand from to old new (has constituent)
+  question_taken : (constituent : Constituent) → IsHas line constituent → TakesCommand from to old new (ask (has constituent))
   question_taken constituent q = let P : List ℕ → Type 0 = λ word. Takes old new (word ++ 10 ∷ []) in record {
     early = h.0;
     within_limits = (q.nameable, omega (arith, h.2.1, ap length q.spelled));
     taken = subst P q.spelled h.1;
-    offset = omega (arith, h.3, ap length q.spelled, length-append (line_of (has constituent)) (10 ∷ []));
+    offset = omega (arith, h.3, ap length q.spelled, length-append (line_of (ask (has constituent))) (10 ∷ []));
   }
 
 -- a command behind questions, in order, is a question
 pub last_question : (questions : List Command) (command : Command)
     → AreQuestions (questions ++ command ∷ []) → AreQuestions (command ∷ [])
 last_question [] command h = h
-last_question (has constituent ∷ questions) command h = last_question questions command h
+last_question (ask query ∷ questions) command h = last_question questions command h
 last_question (header ∷ questions) command h = absurd h
 last_question (grammar block ∷ questions) command h = absurd h
 last_question (opens text ∷ questions) command h = absurd h
@@ -340,32 +343,29 @@ module _ {input before : List ℕ} {coming : Option (List ℕ)} {at : ℕ} {now 
 
       -- a line that asks is a question
       pub question_asked : (constituent : Constituent) → IsHas line constituent
-          → TakesCommand at to coming next (has constituent)
+          → TakesCommand at to coming next (ask (has constituent))
       question_asked = question_taken at to coming next line r.rest taken r.comes
 
   -- a question follows, and its answer is written or cut short
-  module _ {constituent : Constituent} {to : ℕ} {later : Option (List ℕ)} {line : List ℕ}
-      (taken : TakesCommand at to coming later (has constituent))
-      (answer : IsAnswer opened.language.grammar r.tokens constituent line) where
-    question : Command
-    question = has constituent
-
-    behind : (more : List ℕ) × (later ≡ Some more) × (r.rest ≡ text_of (has constituent) ++ more)
+  module _ {query : Query} {to : ℕ} {later : Option (List ℕ)}
+      (taken : TakesCommand at to coming later (ask query)) (line : List ℕ)
+      (answer : IsAnswer opened.language.grammar r.tokens query line) where
+    behind : (more : List ℕ) × (later ≡ Some more) × (r.rest ≡ text_of (ask query) ++ more)
     behind = taken.taken r.rest r.comes
 
-    begins_more : Begins 0 input
-        (header ∷ grammar r.block ∷ opens r.text ∷ (r.questions ++ has constituent ∷ [])) to behind.0
+    begins_more : BeginsWithCommands 0 input
+        (header ∷ grammar r.block ∷ opens r.text ∷ (r.questions ++ ask query ∷ [])) to behind.0
     begins_more =
-        Begins-append 0 input (header ∷ grammar r.block ∷ opens r.text ∷ r.questions) at r.rest r.begins
-        (has constituent) behind.0 taken.early taken.within_limits behind.2 to taken.offset
+        BeginsWithCommands-append 0 input (header ∷ grammar r.block ∷ opens r.text ∷ r.questions) at r.rest r.begins
+        (ask query) behind.0 taken.early taken.within_limits behind.2 to taken.offset
 
-    are_more : AreQuestions (r.questions ++ has constituent ∷ [])
-    are_more = questions_more r.questions (has constituent) r.are_questions tt
+    are_more : AreQuestions (r.questions ++ ask query ∷ [])
+    are_more = questions_more r.questions (ask query) r.are_questions tt
 
     replies_are : AreReplies opened.language.grammar (r.text ∷ [])
-        (r.questions ++ has constituent ∷ []) (r.replies ++ line)
+        (r.questions ++ ask query ∷ []) (r.replies ++ line)
     replies_are =
-        replies_more opened.language.grammar (r.text ∷ []) r.questions r.replies (has constituent) line
+        replies_more opened.language.grammar (r.text ∷ []) r.questions r.replies (ask query) line
         r.are_questions r.are_replies (r.text, r.tokens, ([], refl), (r.is_opened).are_tokens, answer)
 
     longer : (told_more : List ℕ)
@@ -384,7 +384,7 @@ module _ {input before : List ℕ} {coming : Option (List ℕ)} {at : ℕ} {now 
       block = r.block;
       text = r.text;
       tokens = r.tokens;
-      questions = r.questions ++ has constituent ∷ [];
+      questions = r.questions ++ ask query ∷ [];
       replies = r.replies ++ line;
       rest = behind.0;
       comes = behind.1;
@@ -401,7 +401,7 @@ module _ {input before : List ℕ} {coming : Option (List ℕ)} {at : ℕ} {now 
         → IsFaultStatus (number_of status) → Ends input before new status
     unfolding told
     running_cut new cut status fault =
-        let questions : List Command = r.questions ++ has constituent ∷ [] in
+        let questions : List Command = r.questions ++ ask query ∷ [] in
         let commands : List Command = header ∷ grammar r.block ∷ opens r.text ∷ questions in
         let P : List ℕ → Type 0 = AreAllReplies commands in
         cut_behind input before commands to behind.0 told line are_more begins_more

@@ -2,8 +2,10 @@
 use Rattle.std.specs.Prelude.{◌≡◌, List, ℕ, Option}
 use Rattle.spec_grammar.specs.declared.rule.Symbol.{Symbol}
 use Rattle.spec_grammar.specs.Grammars.{Grammar}
-use Rattle.spec_session.specs.Script.{Constituent, entry_whole, category_whole, category_span}
-use Rattle.spec_session.specs.Replies.{unknown_category_line, outside_line, yes_line, no_line}
+use Rattle.spec_script.specs.Script.{Constituent}
+use Rattle.spec_script.specs.declared.question.Constituent.TheVariants.{EntryWhole, CategoryWhole}
+use Rattle.spec_script.specs.declared.question.Constituent.TheVariants.{CategorySpan}
+use Rattle.spec_session.specs.Answers.{unknown_category_line, outside_line, yes_line, no_line}
 use Rattle.numbered_grammar.specs.Making.{FindsCategory}
 use Rattle.chart_service.specs.declared.answering.Answer.{Answer}
 use Rattle.chart_service.specs.declared.answering.Answer.TheVariants.{UnknownCategory}
@@ -11,9 +13,9 @@ use Rattle.chart_service.specs.declared.answering.Answer.TheVariants.{SpanOutsid
 
 -- the symbol that is told of the constituent: the grammar's entry, or the category of the name
 abbrev pub FindsSymbol : Grammar → Constituent → Option Symbol → Type 0
-FindsSymbol g entry_whole found = found ≡ g.entry
-FindsSymbol g (category_whole name) found = FindsCategory g.categories name found
-FindsSymbol g (category_span name first end) found = FindsCategory g.categories name found
+FindsSymbol g EntryWhole found = found ≡ g.entry
+FindsSymbol g (CategoryWhole name) found = FindsCategory g.categories name found
+FindsSymbol g (CategorySpan name first end) found = FindsCategory g.categories name found
 
 -- the line of the answer
 abbrev pub answer_line : Answer → List ℕ

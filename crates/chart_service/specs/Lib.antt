@@ -1,7 +1,5 @@
 pub mod Serving
 pub mod Statuses
-pub mod Forms
-pub mod Reading
 pub mod Writing
 pub mod Lexing
 pub mod Opening

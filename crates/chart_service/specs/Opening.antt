@@ -9,10 +9,12 @@ use Rattle.spec_grammar.specs.Grammars.{Grammar}
 use Rattle.spec_lbnf.specs.Expansion.{expansion_of}
 use Rattle.spec_lbnf.specs.Faults.{Spells}
 use Rattle.spec_lbnf.specs.Checks.{AreFit}
-use Rattle.spec_session.specs.Script.{opens}
-use Rattle.spec_session.specs.Replies.{IsAccepted, IsRefused, IsReply, fault_reason, unfit_reason}
-use Rattle.spec_session.specs.Replies.{symbols_reason, refusal_line}
-use Rattle.spec_session.specs.Replies.{grammar_reply, version_reply}
+use Rattle.spec_script.specs.Script.{opens}
+use Rattle.spec_session.specs.GrammarReplies.{IsAccepted, IsRefused, fault_reason, unfit_reason}
+use Rattle.spec_session.specs.Steps.{IsReply}
+use Rattle.spec_session.specs.GrammarReplies.{symbols_reason, refusal_line}
+use Rattle.spec_session.specs.GrammarReplies.{grammar_reply}
+use Rattle.spec_session.specs.Steps.{version_reply}
 use Rattle.cyk_io.specs.Streams.{Grows, GrowsByPrefix, Stays}
 use Rattle.spec_lbnf.specs.declared.fault.TextFault.{TextFault}
 use Rattle.spec_lbnf.specs.declared.fault.TextFault.TheVariants.{Memory as TextMemory}

@@ -2,8 +2,10 @@
 use Rattle.std.specs.Prelude.{◌≡◌, ℕ, ◌⊎◌, List, [], ◌∷◌, ◌++◌, length, Option, Some, None}
 use Rattle.std.specs.Prelude.{Result, Ok, Err}
 use Rattle.spec_lexing.specs.declared.token.Token.{Token}
-use Rattle.spec_session.specs.Script.{Command, header, grammar, opens, AreQuestions, Begins}
-use Rattle.spec_session.specs.Replies.{IsAccepted, grammar_reply, version_reply}
+use Rattle.spec_script.specs.Script.{Command, header, grammar, opens, AreQuestions}
+use Rattle.spec_script.specs.Script.{BeginsWithCommands}
+use Rattle.spec_session.specs.GrammarReplies.{IsAccepted, grammar_reply}
+use Rattle.spec_session.specs.Steps.{version_reply}
 use Rattle.spec_session.specs.Sessions.{AreReplies, IsSession}
 use Rattle.chart_service.specs.declared.opening.Opened.{Opened}
 use Rattle.chart_service.specs.declared.status.Status.{Status}
@@ -23,7 +25,7 @@ pub record Running (input before : List ℕ) (coming : Option (List ℕ)) (at : 
   pub rest : List ℕ
   pub comes : coming ≡ Some rest
   pub are_questions : AreQuestions questions
-  pub begins : Begins 0 input (header ∷ grammar block ∷ opens text ∷ questions) at rest
+  pub begins : BeginsWithCommands 0 input (header ∷ grammar block ∷ opens text ∷ questions) at rest
   pub accepted : IsAccepted block opened.language.grammar
   pub is_opened : IsOpened opened.language.grammar opened.chart text tokens
   pub are_replies : AreReplies opened.language.grammar (text ∷ []) questions replies

@@ -4,8 +4,8 @@ use Rattle.std.specs.Prelude.{◌≡◌, ℕ, ◌<◌, ◌≤◌, ◌^◌, ◌�
 use Rattle.spec_session.specs.Sessions.{IsSession}
 use Rattle.chart_service.specs.declared.options.Options.{Options}
 
--- the options are within their limits
-pub record AreWithinLimits (options : Options) : Type 0 where
+-- the options are allowed, each within its limits
+pub record AreAllowed (options : Options) : Type 0 where
   pub workers : (1 ≤ options.workers) × (options.workers ≤ 16)
   pub readers : (1 ≤ options.readers) × (options.readers ≤ 16)
   pub rounds : (1 ≤ options.rounds) × (options.rounds ≤ 1000)

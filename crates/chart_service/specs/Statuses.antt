@@ -1,5 +1,7 @@
--- Serves the proofs alone: the number of each status.
+-- Serves the proofs alone: the number of each status, and when each comes.
 use Rattle.std.specs.Prelude.{ℕ}
+use Rattle.cyk_io.specs.declared.fault.IoFault.{IoFault}
+use Rattle.cyk_io.specs.declared.fault.IoFault.TheVariants.{Read, Write, Memory}
 use Rattle.chart_service.specs.declared.status.Status.{Status}
 use Rattle.chart_service.specs.declared.status.Status.TheVariants.{Ended, BadGrammar}
 use Rattle.chart_service.specs.declared.status.Status.TheVariants.{BadScript, ReadFault, WriteFault}
@@ -14,14 +16,11 @@ number_of ReadFault = 4
 number_of WriteFault = 5
 number_of OutOfMemory = 6
 
--- a status that a failed read may end with
-abbrev pub IsReadStop : Status → Type 0
-IsReadStop Ended = ⊥
-IsReadStop BadGrammar = ⊥
-IsReadStop BadScript = ⊥
-IsReadStop ReadFault = Unit {0}
-IsReadStop WriteFault = ⊥
-IsReadStop OutOfMemory = Unit {0}
+-- the status with which a session ends at a fault
+abbrev pub status_at : IoFault → Status
+status_at Read = ReadFault
+status_at Write = WriteFault
+status_at Memory = OutOfMemory
 
 -- a status that a failed write may end with
 abbrev pub IsWriteStop : Status → Type 0

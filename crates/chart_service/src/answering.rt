@@ -9,18 +9,19 @@ ghost use Rattle.spec_grammar.specs.declared.rule.Symbol.TheVariants.{Category};
 ghost use Rattle.spec_grammar.specs.Derivation.{Derives};
 ghost use Rattle.spec_lexing.specs.declared.token.Token.{Token};
 ghost use Rattle.spec_lexing.specs.Tokens.{kinds_of};
-ghost use Rattle.spec_session.specs.Replies.{IsOfCategory, HasCategory, first_of, end_of, IsAnswer};
+ghost use Rattle.spec_session.specs.Answers.{IsOfCategory, HasCategory, first_of, end_of, IsAnswer};
 ghost use Rattle.chart_service.specs.Statuses.{IsWriteStop};
 ghost use Rattle.chart_service.specs.Opening.{IsOpened};
-ghost use Rattle.chart_service.specs.Forms.{meant};
+ghost use Rattle.spec_script.specs.Script.{has};
+ghost use Rattle.script_reader.specs.Forms.{meant};
 ghost use Rattle.chart_service.specs.Answering.{FindsSymbol, answer_line};
 
-use crate::forms::Constituent;
 use crate::opening::Opened;
 use crate::status::Status;
 use crate::writing::say;
 use cyk_io::Sink;
 use lbnf_grammar::{Grammar, Symbol};
+use spec_script::Constituent;
 use std::alloc::{AllocError, Global};
 
 /// The answer to whether a category derives a span.
@@ -37,7 +38,7 @@ pub(crate) enum Answer {
 }
 
 /// The symbol of the constituent.
-fn symbol_of(grammar: &Grammar, constituent: &Constituent<'_>) -> Option<Symbol>
+fn symbol_of(grammar: &Grammar, constituent: &Constituent<&[u8]>) -> Option<Symbol>
     ensures own { IfSome result (IsSymbolOf grammar.now) }
     ensures found { FindsSymbol grammar.now (meant constituent.now) result }
 {
@@ -49,7 +50,7 @@ fn symbol_of(grammar: &Grammar, constituent: &Constituent<'_>) -> Option<Symbol>
 }
 
 /// The number of the constituent's category.
-fn category_of(grammar: &Grammar, constituent: &Constituent<'_>) -> Option<u16>
+fn category_of(grammar: &Grammar, constituent: &Constituent<&[u8]>) -> Option<u16>
     ensures own { IfSome result (λ category. category < length grammar.now.categories) }
     ensures found { MatchOption result (HasCategory grammar.now (meant constituent.now) → ⊥)
         (IsOfCategory grammar.now (meant constituent.now)) }
@@ -82,7 +83,7 @@ fn is_derived(opened: &Opened, category: u16, first: u32, end: u32) -> bool
 }
 
 /// The place at which the constituent begins.
-fn first_of(constituent: &Constituent<'_>) -> u32
+fn first_of(constituent: &Constituent<&[u8]>) -> u32
     ensures { result ≡ first_of (meant constituent.now) }
 {
     match constituent {
@@ -93,7 +94,7 @@ fn first_of(constituent: &Constituent<'_>) -> u32
 }
 
 /// The place at which it ends, in a text of so many tokens.
-fn end_of(constituent: &Constituent<'_>, tokens: u32) -> u32
+fn end_of(constituent: &Constituent<&[u8]>, tokens: u32) -> u32
     ensures { result ≡ end_of tokens (meant constituent.now) }
 {
     match constituent {
@@ -104,10 +105,11 @@ fn end_of(constituent: &Constituent<'_>, tokens: u32) -> u32
 }
 
 /// The answer to whether the constituent is derived.
-pub(crate) fn answer_of(opened: &Opened, constituent: &Constituent<'_>) -> Answer
+pub(crate) fn answer_of(opened: &Opened, constituent: &Constituent<&[u8]>) -> Answer
     ensures { (text : List ℕ) (tokens : List Token)
         → IsOpened opened.now.language.grammar opened.now.chart text tokens
-        → IsAnswer opened.now.language.grammar tokens (meant constituent.now) (answer_line result) }
+        → IsAnswer opened.now.language.grammar tokens (has (meant constituent.now))
+        (answer_line result) }
 {
     let Some(category) = category_of(&opened.language.grammar, constituent) else {
         return Answer::UnknownCategory;
@@ -126,7 +128,7 @@ pub(crate) fn answer_of(opened: &Opened, constituent: &Constituent<'_>) -> Answe
 }
 
 /// The line of the answer.
-fn line_of(alloc: Global, answer: Answer) -> Result<String, AllocError>
+fn answer_text(alloc: Global, answer: Answer) -> Result<String, AllocError>
     ensures { IfOk result (λ text. string_bytes text ≡ answer_line answer) }
 {
     match answer {
@@ -147,7 +149,7 @@ pub(crate) fn say_answer<K: Sink>(alloc: Global, sink: &mut K, answer: Answer) -
     ensures cause { HasCause (K.faults sink.old) (K.faults sink.new)
         (IsErrOf result Status.WriteFault) }
 {
-    match line_of(alloc, answer) {
+    match answer_text(alloc, answer) {
         Ok(text) => say(sink, text.as_bytes()),
         Err(_) => Err(Status::OutOfMemory),
     }

@@ -3,12 +3,10 @@
 #![tactic(auto)]
 
 mod answering;
-mod forms;
 mod language;
 mod lexing;
 mod opening;
 mod options;
-mod reading;
 mod serving;
 mod status;
 #[cfg(test)]

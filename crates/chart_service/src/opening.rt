@@ -5,9 +5,10 @@ ghost use Rattle.cyk_io.specs.Causes.{HasCause};
 ghost use Rattle.cyk_io.specs.Streams.{Grows, GrowsByPrefix};
 ghost use Rattle.std.specs.Str.{IsAscii};
 ghost use Rattle.spec_lexing.specs.declared.token.Token.{Token};
-ghost use Rattle.spec_session.specs.Replies.{grammar_reply, version_reply};
+ghost use Rattle.spec_session.specs.GrammarReplies.{grammar_reply};
+ghost use Rattle.spec_session.specs.Steps.{version_reply};
 ghost use Rattle.chart_service.specs.Statuses.{IsWriteStop};
-ghost use Rattle.chart_service.specs.Reading.{IsBlock};
+ghost use Rattle.script_reader.specs.Reading.{IsBlock};
 ghost use Rattle.binary_form.specs.BinaryForm.{MakesBinary};
 ghost use Rattle.std.specs.Result.{result_map_both};
 ghost use Rattle.chart_service.specs.Opening.{ReadsLanguage, HasDistinctNames, IsRefusal};
@@ -16,7 +17,6 @@ ghost use Rattle.chart_service.specs.Opening.{EndsAtGrammar, Accepts, IsOpened, 
 
 use crate::language::Language;
 use crate::lexing::{kinds_of, tokens_of};
-use crate::reading::Block;
 use crate::status::Status;
 use crate::writing::{finish, say};
 use binary_form::{BinaryFault, binary};
@@ -24,6 +24,7 @@ use cell_sets::ListCell;
 use cyk_io::Sink;
 use lbnf_grammar::{Grammar, GrammarFault, expand};
 use lbnf_text::{TextFault, read_defs};
+use script_reader::Block;
 use std::alloc::{AllocError, Global};
 use valiant::Chart;
 

@@ -1,19 +1,20 @@
 //! Serving a script: each reply is written before the next line is read.
 ghost use Rattle.std.specs.Prelude.{◌≡◌, ◌+◌, ◌^◌, ◌<◌, ◌≤◌, ◌++◌, ℕ, List, Some, IsTrue, IsErrOf};
 ghost use Rattle.std.specs.Prelude.{IfNone, OnOk, OnSome};
-ghost use Rattle.cyk_io.specs.Causes.{HasCause, HasRisen};
+ghost use Rattle.cyk_io.specs.Causes.{HasCause};
 ghost use Rattle.cyk_io.specs.Streams.{IsAtEnd, coming};
-ghost use Rattle.chart_service.specs.Serving.{AreWithinLimits, WritesSession, IsStatus};
+ghost use Rattle.chart_service.specs.Serving.{AreAllowed, WritesSession, IsStatus};
 ghost use Rattle.chart_service.specs.Progress.{Running, Ends, Begun, GoesOnOrEnds};
 
 use crate::answering::{answer_of, say_answer};
-use crate::forms::{Question, question_of};
 use crate::opening::{Opened, accept, open_text};
 use crate::options::Options;
-use crate::reading::{MAX_LINE, next_line, read_grammar, read_header, read_text};
 use crate::status::Status;
 use crate::writing::{finish, refuse_script};
 use cyk_io::{Ahead, Line, Sink, Source};
+use script_reader::{
+    MAX_LINE, Question, next_line, question_of, read_grammar, read_header, read_text,
+};
 use std::alloc::Global;
 use std::sync::ledger::Ledger;
 use step_count::Steps;
@@ -55,7 +56,7 @@ fn begin<S: Source, K: Sink>(
     match read_text(alloc, source, ahead, line) {
         Ok(Some(text)) => open_text(alloc, sink, language, text.as_slice()),
         Ok(None) => Err(refuse_script(alloc, sink, start)),
-        Err(status) => Err(status),
+        Err(fault) => Err(Status::from(fault)),
     }
 }
 
@@ -87,7 +88,7 @@ fn turn<S: Source, K: Sink>(
     match next_line(source, ahead, line) {
         Ok(true) => {}
         Ok(false) => return Some(refuse_script(alloc, sink, start)),
-        Err(status) => return Some(status),
+        Err(fault) => return Some(Status::from(fault)),
     }
     match question_of(line.as_bytes()) {
         None => Some(refuse_script(alloc, sink, start)),
@@ -159,12 +160,12 @@ pub fn serve<S: Source, K: Sink, L: Ledger>(
     sink: &mut K,
     joins: &mut Steps<L>,
 ) -> u8
-    requires fits { AreWithinLimits options.now }
+    requires fits { AreAllowed options.now }
     ensures ok { WritesSession (S.left source.old) (K.written sink.old)
         (K.written sink.new) result }
     ensures status { IsStatus result }
-    ensures read { result ≡ 4 → HasRisen (S.faults source.old) (S.faults source.new) }
-    ensures write { result ≡ 5 → HasRisen (K.faults sink.old) (K.faults sink.new) }
+    ensures read { HasCause (S.faults source.old) (S.faults source.new) (result ≡ 4) }
+    ensures write { HasCause (K.faults sink.old) (K.faults sink.new) (result ≡ 5) }
     ensures cost { joins.new ≡ joins.old }
 {
     run(alloc, source, sink).number()

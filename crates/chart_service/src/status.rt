@@ -2,6 +2,8 @@
 ghost use Rattle.std.specs.Prelude.{◌≡◌};
 ghost use Rattle.chart_service.specs.Statuses.{number_of};
 
+use cyk_io::IoFault;
+
 /// How a session ends.
 #[derive(Clone, Copy, Debug, PartialEq, Eq)]
 pub(crate) enum Status {
@@ -31,6 +33,21 @@ impl Status {
             Status::ReadFault => 4,
             Status::WriteFault => 5,
             Status::OutOfMemory => 6,
+        }
+    }
+}
+
+impl From<IoFault> for Status {
+    ghost use Rattle.std.specs.Prelude.{◌≡◌};
+    ghost use Rattle.chart_service.specs.Statuses.{status_at};
+
+    ghost from_gives = { λ fault status. status ≡ status_at fault };
+
+    fn from(fault: IoFault) -> Status {
+        match fault {
+            IoFault::Read => Status::ReadFault,
+            IoFault::Write => Status::WriteFault,
+            IoFault::Memory => Status::OutOfMemory,
         }
     }
 }

@@ -1,7 +1,7 @@
 //! Sessions with their exact replies, broken scripts and refused grammars with their exact lines,
 //! and faults in mid-session.
 ghost use Rattle.std.specs.Prelude.{◌≡◌, ◌≤◌, ◌<◌};
-ghost use Rattle.chart_service.specs.Serving.{AreWithinLimits};
+ghost use Rattle.chart_service.specs.Serving.{AreAllowed};
 
 mod grammars;
 mod scripts;
@@ -58,7 +58,7 @@ end
 ";
 
 fn options() -> Options
-    ensures { AreWithinLimits result }
+    ensures { AreAllowed result }
 {
     Options {
         workers: 1,

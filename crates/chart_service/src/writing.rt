@@ -2,7 +2,7 @@
 ghost use Rattle.std.specs.Prelude.{◌≡◌, ℕ, IsErrOf, IfErr, IfOk, OnOk, OnErr, string_bytes};
 ghost use Rattle.cyk_io.specs.Causes.{HasCause};
 ghost use Rattle.cyk_io.specs.Streams.{Grows, GrowsByPrefix};
-ghost use Rattle.spec_session.specs.Script.{broken};
+ghost use Rattle.spec_script.specs.Script.{broken};
 ghost use Rattle.spec_session.specs.Sessions.{last_line};
 ghost use Rattle.chart_service.specs.Statuses.{IsWriteStop};
 ghost use Rattle.chart_service.specs.Writing.{EndsWith};

@@ -2,7 +2,7 @@
 use Rattle.std.proofs.Common.{◌≡◌, ℕ, ◌+◌, ◌-◌, ◌<◌, ◌≤◌, List, [], ◌++◌, Option, Some, Result, Ok, Err, length, take, drop, refl, sym, ◌∙◌, ap, append_assoc, length-append, length-drop, arith}
 use Rattle.std.proofs.Math.Seq.{take-add}
 use Rattle.std.proofs.lemmas.List.{take-append-le, take_rest}
-use Rattle.cyk_io.specs.Streams.{Takes, Stays, Grows, IsAtEnd, Reads}
+use Rattle.cyk_io.specs.Streams.{Takes, Stays, Grows, IsAtEnd, Reads, Writes}
 use Rattle.cyk_io.proofs.ListLemmas.{same_fronts}
 
 -- bytes are taken, and then more bytes
@@ -62,6 +62,17 @@ Reads-append old new (Ok n) front rest room (within, takes, end) =
     let fits : n ≤ length (front ++ rest) = omega (arith, length-append front rest) in
     let same : take n (front ++ rest) ≡ take n front = take-append-le n front rest within in
     (fits, rw same takes, λ none some. end none (room some))
+
+-- a write of a front is a write of all bytes, where the front has a byte if they have one
+pub Writes-append :
+    {E : Type 0} → (old new : Option (List ℕ)) (result : Result ℕ E) (front rest : List ℕ)
+    → (0 < length (front ++ rest) → 0 < length front) → Writes old new result front
+    → Writes old new result (front ++ rest)
+Writes-append old new (Err fault) front rest room stays = stays
+Writes-append old new (Ok n) front rest room (within, some, grows) =
+    let fits : n ≤ length (front ++ rest) = omega (arith, length-append front rest) in
+    let same : take n (front ++ rest) ≡ take n front = take-append-le n front rest within in
+    (fits, (λ more. some (room more)), rw same grows)
 
 -- an offset within the bytes goes on by what was written of the rest
 pub within_written :

@@ -1,12 +1,14 @@
 //! A source and a sink over memory that never fail.
-ghost use Rattle.std.specs.Prelude.{◌≡◌, ℕ, ◌<◌, ◌≤◌, [], length, take};
+ghost use Rattle.std.specs.Prelude.{◌≡◌, ℕ, [], length, min, take, Ok, IsErr, IfOk, IsErrOf, Some};
+ghost use Rattle.cyk_io.specs.Causes.{HasCause};
+ghost use Rattle.cyk_io.specs.Streams.{Reads, Writes};
 
 use crate::{Failed, Sink, SinkFault, Source};
 use std::alloc::Global;
 use std::marker::Model;
 
 /// A source over bytes that never fails, seen as the bytes that are left. It gives as many as are
-/// asked for.
+/// asked for, or all that are left.
 #[derive(Drop)]
 pub struct CleanSource {
     bytes: Vec<u8>,
@@ -33,10 +35,8 @@ impl CleanSource {
 }
 
 fn copy_front(from: &[u8], into: &mut [u8]) -> usize
-    ensures fits { result ≤ length into.old }
-    ensures most { result ≤ length from.now }
+    ensures count { result ≡ min (length from.now) (length into.old) }
     ensures bytes { take result into.new ≡ take result from.now }
-    ensures end { result ≡ 0 → 0 < length into.old → length from.now ≡ 0 }
 {
     let count = from.len().min(into.len());
     into[..count].copy_from_slice(&from[..count]);
@@ -50,7 +50,11 @@ impl Source for CleanSource {
 
     ghost faults = { λ _. 0 };
 
-    fn read(&mut self, into: &mut [u8]) -> Result<usize, Failed> {
+    fn read(&mut self, into: &mut [u8]) -> Result<usize, Failed>
+        ensures bytes { Reads (Some self.old) (Some self.new) result into.new }
+        ensures cause { HasCause 0 0 (IsErr result) }
+        ensures whole { result ≡ Ok (min (length self.old) (length into.old)) }
+    {
         let count = copy_front(&self.bytes.as_slice()[self.at..], into);
         self.at += count;
         Ok(count)
@@ -58,7 +62,7 @@ impl Source for CleanSource {
 }
 
 /// A sink over memory that never fails, seen as the bytes written so far. It takes all that it is
-/// given.
+/// given, where there is memory.
 #[derive(Drop)]
 pub struct CleanSink {
     bytes: Vec<u8>,
@@ -97,7 +101,11 @@ impl Sink for CleanSink {
 
     ghost faults = { λ _. 0 };
 
-    fn write(&mut self, from: &[u8]) -> Result<usize, SinkFault> {
+    fn write(&mut self, from: &[u8]) -> Result<usize, SinkFault>
+        ensures bytes { Writes (Some self.old) (Some self.new) result from.now }
+        ensures cause { HasCause 0 0 (IsErrOf result SinkFault.Failed) }
+        ensures whole { IfOk result (λ count. count ≡ length from.now) }
+    {
         match self.bytes.extend_from_slice(from) {
             Ok(()) => Ok(from.len()),
             Err(_) => Err(SinkFault::Memory),

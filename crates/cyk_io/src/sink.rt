@@ -29,8 +29,8 @@ pub trait Sink {
             (IsErrOf result SinkFault.Failed) };
 }
 
-/// Writes all bytes, by as many writes as the sink needs. It takes no memory of its own: `Memory`
-/// is the sink's answer, and `Write` its fault. After either a prefix of the bytes is written.
+/// Writes all bytes, by as many writes as the sink needs. After `Write` or `Memory` a prefix of the
+/// bytes is written.
 pub fn write_all_counted<K: Sink>(sink: &mut K, bytes: &[u8]) -> Result<(), IoFault>
     ensures ok { OnOk result (Grows (K.written sink.old) (K.written sink.new) bytes.now) }
     ensures err { OnErr result (GrowsByPrefix (K.written sink.old) (K.written sink.new) bytes.now) }

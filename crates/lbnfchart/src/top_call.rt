@@ -1,7 +1,7 @@
 //! The top call: what the program does with its words, over any source and sink.
 ghost use Rattle.std.specs.Prelude.{◌≡◌};
 ghost use Rattle.chart_service.specs.Serving.{IsStatus, WritesSession};
-ghost use Rattle.cyk_io.specs.Causes.{HasRisen};
+ghost use Rattle.cyk_io.specs.Causes.{HasCause};
 ghost use Rattle.lbnfchart.specs.TopCall.{IsServe, WritesUsage};
 
 use crate::defaults::default_options;
@@ -17,7 +17,7 @@ const USAGE: &[u8] = b"usage: lbnfchart serve|watch|check|gen [--workers N] [--r
 
 fn write_usage<K: Sink>(sink: &mut K) -> u8
     ensures usage { WritesUsage (K.written sink.old) (K.written sink.new) result }
-    ensures write { result ≡ 5 → HasRisen (K.faults sink.old) (K.faults sink.new) }
+    ensures write { HasCause (K.faults sink.old) (K.faults sink.new) (result ≡ 5) }
 {
     match write_all_counted(sink, USAGE) {
         Ok(()) => 1,
@@ -43,8 +43,8 @@ pub fn lbnf_main<S: Source, K: Sink, L: Ledger>(
     ensures ok { IsServe words.now
         → WritesSession (S.left source.old) (K.written sink.old) (K.written sink.new) result }
     ensures status { IsServe words.now → IsStatus result }
-    ensures read { result ≡ 4 → HasRisen (S.faults source.old) (S.faults source.new) }
-    ensures write { result ≡ 5 → HasRisen (K.faults sink.old) (K.faults sink.new) }
+    ensures read { HasCause (S.faults source.old) (S.faults source.new) (result ≡ 4) }
+    ensures write { HasCause (K.faults sink.old) (K.faults sink.new) (result ≡ 5) }
     ensures cost { joins.new ≡ joins.old }
 {
     if !is_serve(words) {

@@ -5,8 +5,16 @@ use Rattle.std.proofs.lemmas.Bool.{cases_lt}
 use Rattle.spec_lexing.specs.declared.token.Token.{Token}
 use Rattle.spec_lexing.proofs.KindsLemmas.{some_tokens}
 use Rattle.spec_grammar.specs.Grammars.{Grammar}
-use Rattle.spec_session.specs.Script.{Constituent, Command, header, grammar, opens, has, line_of, block_of, text_of, IsWithinLimits, AreQuestions, IsInOrder, Begins, GoesOn, IsAtEnd, Ending, ended, broken, IsScript}
-use Rattle.spec_session.specs.Replies.{grammar_reply, version_reply, HasCategory, first_of, end_of, IsWithin, IsOutside, IsDerived, unknown_category_line, outside_line, yes_line, no_line, IsAnswer, refused_category, refused_span, yes, no, IsCurrent}
+use Rattle.spec_script.specs.Script.{Constituent, Query, has, Command, header, grammar, opens, ask, line_of}
+use Rattle.spec_script.specs.Script.{block_of, text_of, IsWithinLimits, AreQuestions, IsInOrder}
+use Rattle.spec_script.specs.Script.{BeginsWithCommands, GoesOn, HasEndLine, Ending, ended, broken}
+use Rattle.spec_script.specs.Script.{IsScript}
+use Rattle.spec_session.specs.GrammarReplies.{grammar_reply}
+use Rattle.spec_session.specs.Steps.{version_reply, IsCurrent}
+use Rattle.spec_session.specs.Answers.{HasCategory, first_of, end_of, IsWithin, IsOutside}
+use Rattle.spec_session.specs.Answers.{IsDerived, unknown_category_line, outside_line, yes_line}
+use Rattle.spec_session.specs.Answers.{no_line, of_no_category, of_no_span, IsHasAnswer, refused_has}
+use Rattle.spec_session.specs.Answers.{yes, no, IsAnswer}
 use Rattle.spec_session.specs.Sessions.{AreReplies, last_line, last_status, IsSession, refused, whole}
 use Rattle.spec_session.specs.Existence.{SomeSession}
 use Rattle.spec_session.proofs.DenialLemmas.{IsUndeniable, decided}
@@ -16,9 +24,9 @@ use Rattle.spec_session.proofs.VerdictLemmas.{HasVerdict, some_verdict}
 longer_beginning :
     (commands : List Command) (at : ℕ) (bytes : List ℕ) (end : ℕ) (rest : List ℕ)
     (command : Command) (more : List ℕ) →
-    Begins at bytes commands end rest →
+    BeginsWithCommands at bytes commands end rest →
     end < 2 ^ 48 → IsWithinLimits command → rest ≡ text_of command ++ more →
-    Begins at bytes (commands ++ command ∷ []) (end + length (text_of command)) more
+    BeginsWithCommands at bytes (commands ++ command ∷ []) (end + length (text_of command)) more
 longer_beginning [] at bytes end rest command more h early within spelled =
     let place : end + length (text_of command) ≡ at + length (text_of command) =
     ap (λ n. n + length (text_of command)) h.0 in
@@ -56,10 +64,10 @@ module _ (input : List ℕ) where
   -- where an input goes on from a beginning by no command, a script ends or is broken there
   script_here :
       (commands : List Command) (at : ℕ) (rest : List ℕ) →
-      IsInOrder commands → Begins 0 input commands at rest → (GoesOn commands at rest → ⊥) →
+      IsInOrder commands → BeginsWithCommands 0 input commands at rest → (GoesOn commands at rest → ⊥) →
       IsUndeniable HasScript
   script_here commands at rest in_order begins stops denied =
-      let Ends : Type 0 = IsAtEnd commands at rest in
+      let Ends : Type 0 = HasEndLine commands at rest in
       decided Ends (λ (split : Ends ⊎ (Ends → ⊥)). elim split [
         | inl end ↦ denied (
           commands,
@@ -88,7 +96,7 @@ module _ (input : List ℕ) where
   -- from each beginning the input goes on to the end of a script: each command takes a byte or more
   script_from :
       (size : ℕ) (commands : List Command) (at : ℕ) (rest : List ℕ) →
-      length rest < size → IsInOrder commands → Begins 0 input commands at rest →
+      length rest < size → IsInOrder commands → BeginsWithCommands 0 input commands at rest →
       IsUndeniable HasScript
   script_from zero commands at rest lt in_order begins denied = omega arith
   script_from (suc size) commands at rest lt in_order begins denied =
@@ -111,13 +119,13 @@ module _ (input : List ℕ) where
   some_script = script_from (suc (length input)) [] 0 input (omega arith) tt (refl, refl)
 
 module _ (g : Grammar) (tokens : List Token) (constituent : Constituent) where
-  -- the question has an answer
-  abbrev HasAnswer : Type 0
-  HasAnswer = (line : List ℕ) × IsAnswer g tokens constituent line
+  -- whether the constituent is derived has an answer
+  abbrev HasHasAnswer : Type 0
+  HasHasAnswer = (line : List ℕ) × IsHasAnswer g tokens constituent line
 
   -- a question on a span of the text is answered by derivation
   answer_within :
-      HasCategory g constituent → IsWithin (length tokens) constituent → IsUndeniable HasAnswer
+      HasCategory g constituent → IsWithin (length tokens) constituent → IsUndeniable HasHasAnswer
   answer_within known span denied =
       let Derived : Type 0 = IsDerived g tokens constituent in
       decided Derived (λ (split : Derived ⊎ (Derived → ⊥)). elim split [
@@ -126,12 +134,12 @@ module _ (g : Grammar) (tokens : List Token) (constituent : Constituent) where
       ])
 
   -- a question on another span is refused
-  answer_outside : HasCategory g constituent → IsOutside (length tokens) constituent → HasAnswer
+  answer_outside : HasCategory g constituent → IsOutside (length tokens) constituent → HasHasAnswer
   answer_outside known outside =
-      (outside_line (length tokens), refused_span known outside refl)
+      (outside_line (length tokens), refused_has (of_no_span known outside refl))
 
   -- a question on a category of the grammar has an answer
-  answer_known : HasCategory g constituent → IsUndeniable HasAnswer
+  answer_known : HasCategory g constituent → IsUndeniable HasHasAnswer
   answer_known known denied =
       let end : ℕ = end_of (length tokens) constituent in
       elim (cases_lt end (first_of constituent)) [
@@ -143,13 +151,21 @@ module _ (g : Grammar) (tokens : List Token) (constituent : Constituent) where
       ]
 
   -- that a question has one cannot be denied
-  some_answer : IsUndeniable HasAnswer
-  some_answer denied =
+  some_has_answer : IsUndeniable HasHasAnswer
+  some_has_answer denied =
       let Known : Type 0 = HasCategory g constituent in
       decided Known (λ (split : Known ⊎ (Known → ⊥)). elim split [
         | inl known ↦ answer_known known denied
-        | inr other ↦ denied (unknown_category_line, refused_category other refl)
+        | inr other ↦ denied (unknown_category_line, refused_has (of_no_category other refl))
       ])
+
+-- the query has an answer
+abbrev HasAnswer : Grammar → List Token → Query → Type 0
+HasAnswer g tokens query = (line : List ℕ) × IsAnswer g tokens query line
+
+-- which cannot be denied
+some_answer : (g : Grammar) (tokens : List Token) (query : Query) → IsUndeniable (HasAnswer g tokens query)
+some_answer g tokens (has constituent) = some_has_answer g tokens constituent
 
 module _ (g : Grammar) where
   -- questions on a current text of ASCII have replies
@@ -158,10 +174,10 @@ module _ (g : Grammar) where
       (questions : List Command) → AreQuestions questions →
       IsUndeniable ((out : List ℕ) × AreReplies g texts questions out)
   some_replies texts text current ascii [] are denied = denied ([], refl)
-  some_replies texts text current ascii (has constituent ∷ questions) are denied =
+  some_replies texts text current ascii (ask query ∷ questions) are denied =
       let tokens = some_tokens g.lexicon.kinds text ascii in
-      some_answer g tokens.0 constituent
-      (λ (answer : HasAnswer g tokens.0 constituent).
+      some_answer g tokens.0 query
+      (λ (answer : HasAnswer g tokens.0 query).
       some_replies texts text current ascii questions are
       (λ (others : (out : List ℕ) × AreReplies g texts questions out).
       denied (
@@ -207,7 +223,7 @@ module _ (input : List ℕ) where
             ))
         | inr refusal ↦
             let end : ℕ = length (text_of header) + length (text_of (grammar block)) in
-            let begins : Begins 0 input (header ∷ grammar block ∷ []) end h.4.0 =
+            let begins : BeginsWithCommands 0 input (header ∷ grammar block ∷ []) end h.4.0 =
             (h.0, h.1, h.2, h.3, (h.4.0, h.4.1, h.4.2, h.4.3, (refl, refl))) in
             denied (refusal.0, 2, refused block h.4.0 end begins refusal.1 refl)
       ])

@@ -3,8 +3,10 @@ use Rattle.std.proofs.Common.{◌≡◌, ℕ, List, [], ◌∷◌, ◌++◌, len
 use Rattle.spec_lexing.specs.declared.token.Token.{Token}
 use Rattle.spec_lexing.specs.Tokens.{AreTokensOf}
 use Rattle.spec_grammar.specs.Grammars.{Grammar}
-use Rattle.spec_session.specs.Script.{Command, header, grammar, opens, has, AreQuestions, IsInOrder, Begins, Ending, IsScript}
-use Rattle.spec_session.specs.Replies.{IsAccepted, IsRefused, grammar_reply, version_reply, IsReply}
+use Rattle.spec_script.specs.Script.{Command, header, grammar, opens, ask, AreQuestions, IsInOrder}
+use Rattle.spec_script.specs.Script.{BeginsWithCommands, Ending, IsScript}
+use Rattle.spec_session.specs.GrammarReplies.{IsAccepted, IsRefused, grammar_reply}
+use Rattle.spec_session.specs.Steps.{version_reply, IsReply}
 use Rattle.spec_session.specs.Sessions.{AreReplies, AreAllReplies, last_line, IsSession}
 use Rattle.spec_session.proofs.SessionsLemmas.{StartsWith, replies_come_first, replies_then_last_line, refusal_is_all}
 
@@ -12,7 +14,7 @@ use Rattle.spec_session.proofs.SessionsLemmas.{StartsWith, replies_come_first, r
 pub questions_more : (questions : List Command) (command : Command) →
     AreQuestions questions → AreQuestions (command ∷ []) → AreQuestions (questions ++ command ∷ [])
 questions_more [] command h one = one
-questions_more (has constituent ∷ questions) command h one = questions_more questions command h one
+questions_more (ask query ∷ questions) command h one = questions_more questions command h one
 questions_more (other ∷ questions) command h one = absurd h
 
 -- the replies to some questions and to one command more, which no question changes
@@ -21,7 +23,7 @@ pub replies_more : (g : Grammar) (texts : List (List ℕ)) (questions : List Com
     IsReply g texts command line → AreReplies g texts (questions ++ command ∷ []) (replies ++ line)
 replies_more g texts [] replies command line q h r =
     (line, [], r, ap (λ bytes. bytes ++ line) h ∙ sym (append-nil line), refl)
-replies_more g texts (has constituent ∷ questions) replies command line q h r =
+replies_more g texts (ask query ∷ questions) replies command line q h r =
     let joined : replies ++ line ≡ h.0 ++ (h.1 ++ line) =
     ap (λ bytes. bytes ++ line) h.3 ∙ append_assoc h.0 h.1 line in
     (h.0, h.1 ++ line, h.2, joined, replies_more g texts questions h.1 command line q h.4 r)
@@ -49,7 +51,7 @@ starts_through out told cut h k =
 
 -- a front of the replies to the commands that an input begins with is a front of its session
 pub front_of_replies : (input : List ℕ) (front : List Command) (at : ℕ) (rest told cut : List ℕ) →
-    Begins 0 input front at rest → IsInOrder front → AreAllReplies front told → StartsWith told cut →
+    BeginsWithCommands 0 input front at rest → IsInOrder front → AreAllReplies front told → StartsWith told cut →
     (out : List ℕ) (status : ℕ) → IsSession input out status → StartsWith out cut
 front_of_replies input front at rest told cut begins in_order replies starts out status session =
     let first = replies_come_first input front at rest told begins in_order replies out status session in
@@ -65,7 +67,7 @@ front_of_script input commands ending told cut s replies starts out status sessi
 
 -- and so is a front of the line that refuses the grammar
 pub front_of_refusal : (input block line cut : List ℕ) (at : ℕ) (rest : List ℕ) →
-    Begins 0 input (header ∷ grammar block ∷ []) at rest → IsRefused block line → StartsWith line cut →
+    BeginsWithCommands 0 input (header ∷ grammar block ∷ []) at rest → IsRefused block line → StartsWith line cut →
     (out : List ℕ) (status : ℕ) → IsSession input out status → StartsWith out cut
 front_of_refusal input block line cut at rest begins refusal starts out status session =
     let all = refusal_is_all input block line at rest begins refusal out status session in

@@ -1,11 +1,6 @@
-pub mod ScriptLemmas
-pub mod BeginningLemmas
 pub mod RepliesLemmas
 pub mod SessionsLemmas
 pub mod FrontLemmas
 pub mod DenialLemmas
 pub mod VerdictLemmas
 pub mod ExistenceLemmas
-pub mod ExamplesLemmas
-pub mod GrammarExample
-pub mod SessionExamples

@@ -10,8 +10,14 @@ use Rattle.spec_lbnf.specs.declared.definition.Def.{Def}
 use Rattle.spec_lbnf.specs.Checks.{IsUnfit}
 use Rattle.lbnf_readers.proofs.FaultLemmas.{one_file_of_defs, one_first_fault, spelled_or_faulty}
 use Rattle.spec_lbnf.proofs.CheckLemmas.{fit_or_unfit, one_unfitness}
-use Rattle.spec_session.specs.Script.{Constituent, Command, header, grammar, opens, has}
-use Rattle.spec_session.specs.Replies.{IsAccepted, IsRefused, IsRefusedFor, faulty, unfit, too_many_symbols, fault_reason, unfit_reason, symbols_reason, refusal_line, version_reply, HasCategory, IsWithin, IsOutside, IsDerived, IsAnswer, refused_category, refused_span, yes, no, IsCurrent, IsReply}
+use Rattle.spec_script.specs.Script.{Constituent, Query, has, Command, header, grammar, opens, ask}
+use Rattle.spec_session.specs.GrammarReplies.{IsAccepted, IsRefused, IsRefusedFor, faulty, unfit}
+use Rattle.spec_session.specs.GrammarReplies.{too_many_symbols, fault_reason, unfit_reason}
+use Rattle.spec_session.specs.GrammarReplies.{symbols_reason, refusal_line}
+use Rattle.spec_session.specs.Steps.{version_reply, IsCurrent, IsReply}
+use Rattle.spec_session.specs.Answers.{HasCategory, IsWithin, IsOutside, IsDerived}
+use Rattle.spec_session.specs.Answers.{IsQuestionRefused, of_no_category, of_no_span, IsHasAnswer, refused_has}
+use Rattle.spec_session.specs.Answers.{yes, no, IsAnswer}
 
 -- a block is accepted as one grammar
 pub one_grammar : (block : List ℕ) (g other : Grammar) → IsAccepted block g → IsAccepted block other →
@@ -71,24 +77,39 @@ module _ (g : Grammar) (tokens : List Token) (constituent : Constituent) where
   outside : IsOutside (length tokens) constituent → IsWithin (length tokens) constituent → ⊥
   outside = within_or_outside (length tokens) constituent
 
-  pub one_answer : (line other : List ℕ) →
-      IsAnswer g tokens constituent line → IsAnswer g tokens constituent other → line ≡ other
-  one_answer line other (refused_category a e) (refused_category b f) = e ∙ sym f
-  one_answer line other (refused_category a e) (refused_span b out f) = absurd (a b)
-  one_answer line other (refused_category a e) (yes within derives f) = absurd (a (category_of derives))
-  one_answer line other (refused_category a e) (no b within denied f) = absurd (a b)
-  one_answer line other (refused_span a out e) (refused_category b f) = absurd (b a)
-  one_answer line other (refused_span a out e) (refused_span b out' f) = e ∙ sym f
-  one_answer line other (refused_span a out e) (yes within derives f) = absurd (outside out within)
-  one_answer line other (refused_span a out e) (no b within denied f) = absurd (outside out within)
-  one_answer line other (yes within derives e) (refused_category b f) = absurd (b (category_of derives))
-  one_answer line other (yes within derives e) (refused_span b out f) = absurd (outside out within)
-  one_answer line other (yes within derives e) (yes within' derives' f) = e ∙ sym f
-  one_answer line other (yes within derives e) (no b within' denied f) = absurd (denied derives)
-  one_answer line other (no a within denied e) (refused_category b f) = absurd (b a)
-  one_answer line other (no a within denied e) (refused_span b out f) = absurd (outside out within)
-  one_answer line other (no a within denied e) (yes within' derives f) = absurd (denied derives)
-  one_answer line other (no a within denied e) (no b within' denied' f) = e ∙ sym f
+  -- a question is refused with one line
+  one_question_refusal : (line other : List ℕ) →
+      IsQuestionRefused g (length tokens) constituent line →
+      IsQuestionRefused g (length tokens) constituent other → line ≡ other
+  one_question_refusal line other (of_no_category a e) (of_no_category b f) = e ∙ sym f
+  one_question_refusal line other (of_no_category a e) (of_no_span b out f) = absurd (a b)
+  one_question_refusal line other (of_no_span a out e) (of_no_category b f) = absurd (b a)
+  one_question_refusal line other (of_no_span a out e) (of_no_span b out' f) = e ∙ sym f
+
+  -- a question on a span of the text, and on a category of the grammar, is not refused
+  not_refused : (line : List ℕ) → IsQuestionRefused g (length tokens) constituent line →
+      HasCategory g constituent → IsWithin (length tokens) constituent → ⊥
+  not_refused line (of_no_category a e) known within = a known
+  not_refused line (of_no_span a out e) known within = outside out within
+
+  one_has_answer : (line other : List ℕ) →
+      IsHasAnswer g tokens constituent line → IsHasAnswer g tokens constituent other → line ≡ other
+  one_has_answer line other (refused_has h) (refused_has k) = one_question_refusal line other h k
+  one_has_answer line other (refused_has h) (yes within derives f) =
+      absurd (not_refused line h (category_of derives) within)
+  one_has_answer line other (refused_has h) (no b within denied f) = absurd (not_refused line h b within)
+  one_has_answer line other (yes within derives e) (refused_has k) =
+      absurd (not_refused other k (category_of derives) within)
+  one_has_answer line other (yes within derives e) (yes within' derives' f) = e ∙ sym f
+  one_has_answer line other (yes within derives e) (no b within' denied f) = absurd (denied derives)
+  one_has_answer line other (no a within denied e) (refused_has k) = absurd (not_refused other k a within)
+  one_has_answer line other (no a within denied e) (yes within' derives f) = absurd (denied derives)
+  one_has_answer line other (no a within denied e) (no b within' denied' f) = e ∙ sym f
+
+-- so has each query
+one_answer : (g : Grammar) (tokens : List Token) (query : Query) (line other : List ℕ) →
+    IsAnswer g tokens query line → IsAnswer g tokens query other → line ≡ other
+one_answer g tokens (has constituent) line other h k = one_has_answer g tokens constituent line other h k
 
 -- one text is the last
 one_last : (older : List (List ℕ)) (text : List ℕ) (others : List (List ℕ)) (other : List ℕ) →
@@ -117,8 +138,8 @@ one_reply g texts (opens text) line other h k =
     let same : h.0 ≡ k.0 = one_tokens g text h.0 k.0 h.1 k.1 in
     let replies = ap (λ (tokens : List Token). version_reply (length texts) (length tokens)) same in
     h.2 ∙ replies ∙ sym k.2
-one_reply g texts (has constituent) line other h k =
+one_reply g texts (ask query) line other h k =
     let one_text : h.0 ≡ k.0 = one_current texts h.0 k.0 h.2 k.2 in
     let again : AreTokensOf g.lexicon.kinds h.0 k.1 = rw one_text k.3 in
     let same : h.1 ≡ k.1 = one_tokens g h.0 h.1 k.1 h.3 again in
-    one_answer g h.1 constituent line other h.4 (rw same k.4)
+    one_answer g h.1 query line other h.4 (rw same k.4)

@@ -2,11 +2,12 @@
 use Rattle.std.proofs.Common.{inl, inr, ◌≡◌, ℕ, ◌+◌, List, [], ◌∷◌, ◌++◌, length, refl, sym, ◌∙◌, ap, subst, arith, append_assoc, append-nil, length-append}
 use Rattle.std.proofs.lemmas.List.{nil_from_length}
 use Rattle.spec_grammar.specs.Grammars.{Grammar}
-use Rattle.spec_session.specs.Script.{Command, header, grammar, Begins, Ending, IsScript}
-use Rattle.spec_session.specs.Replies.{IsRefused, grammar_reply, texts_after}
+use Rattle.spec_script.specs.Script.{Command, header, grammar, BeginsWithCommands, Ending, IsScript}
+use Rattle.spec_session.specs.GrammarReplies.{IsRefused, grammar_reply}
+use Rattle.spec_session.specs.Steps.{texts_after}
 use Rattle.spec_session.specs.Sessions.{AreReplies, AreAllReplies, last_line, last_status, IsSession, refused, whole}
-use Rattle.spec_session.specs.Laws.{OneScript, OneSession, RepliesComeFirst, RepliesThenLastLine, RefusalIsAll}
-use Rattle.spec_session.proofs.BeginningLemmas.{two_beginnings, script_goes_on, same_script}
+use Rattle.spec_session.specs.Laws.{OneSession, RepliesComeFirst, RepliesThenLastLine, RefusalIsAll}
+use Rattle.spec_script.proofs.BeginningLemmas.{two_beginnings, script_goes_on, same_script}
 use Rattle.spec_session.proofs.RepliesLemmas.{one_grammar, accepted_or_refused, one_refusal, one_reply}
 
 -- the bytes begin with these
@@ -103,10 +104,10 @@ module _ (input : List ℕ) (commands : List Command) (ending : Ending) (told : 
 
 -- where an input begins with a header and a grammar that is refused
 module _ (input block line : List ℕ) (at : ℕ) (rest : List ℕ)
-    (begins : Begins 0 input (header ∷ grammar block ∷ []) at rest) (refusal : IsRefused block line) where
+    (begins : BeginsWithCommands 0 input (header ∷ grammar block ∷ []) at rest) (refusal : IsRefused block line) where
   -- the grammar behind the header is this one
   same_block : (other : List ℕ) (place : ℕ) (more : List ℕ) →
-      Begins 0 input (header ∷ grammar other ∷ []) place more → block ≡ other
+      BeginsWithCommands 0 input (header ∷ grammar other ∷ []) place more → block ≡ other
   same_block other place more k =
       let front : List Command = header ∷ grammar block ∷ [] in
       elim (two_beginnings front (header ∷ grammar other ∷ []) 0 at place input rest more begins k) [
@@ -121,10 +122,6 @@ module _ (input block line : List ℕ) (at : ℕ) (rest : List ℕ)
   refused_session out status (whole commands ending replies s k e d) =
       let f = script_goes_on input commands ending s (header ∷ grammar block ∷ []) at rest begins tt in
       absurd (no_replies block line refusal commands f.0 replies f.1 k)
-
--- an input is one script
-pub one_script : OneScript
-one_script input commands others ending final s t = same_script input commands ending s others final t
 
 -- where the grammar is refused, the refusal is all that is told
 pub refusal_is_all : RefusalIsAll

@@ -18,7 +18,9 @@ use Rattle.spec_lbnf.proofs.ListLemmas.{item_at}
 use Rattle.spec_lbnf.proofs.SymbolLemmas.{own_symbols}
 use Rattle.lbnf_readers.proofs.FaultLemmas.{defs_or_fault}
 use Rattle.spec_grammar.specs.Cycles.{IsCyclic, IsAcyclic}
-use Rattle.spec_session.specs.Replies.{IsAccepted, AreAccepted, IsRefused, IsRefusedFor, faulty, unfit, too_many_symbols, fault_reason, unfit_reason, symbols_reason, refusal_line}
+use Rattle.spec_session.specs.GrammarReplies.{IsAccepted, AreAccepted, IsRefused, IsRefusedFor}
+use Rattle.spec_session.specs.GrammarReplies.{faulty, unfit, too_many_symbols, fault_reason}
+use Rattle.spec_session.specs.GrammarReplies.{unfit_reason, symbols_reason, refusal_line}
 use Rattle.spec_session.proofs.DenialLemmas.{IsUndeniable, decided, FirstWithout, AllOrFirst, all_or_first, first_place, holds_earlier}
 
 -- the first name that is not good is the first bad one, where no name is both

@@ -1,15 +1,9 @@
--- What is true of each input: it is one script and has one session, whose replies come in order.
+-- What is true of each input: it has one session, whose replies come in order.
 use Rattle.std.specs.Prelude.{◌≡◌, ℕ, List, [], ◌∷◌, ◌++◌}
-use Rattle.spec_session.specs.Script.{Command, header, grammar, IsInOrder, Begins, Ending, IsScript}
-use Rattle.spec_session.specs.Replies.{IsRefused}
+use Rattle.spec_script.specs.Script.{Command, header, grammar, IsInOrder, BeginsWithCommands}
+use Rattle.spec_script.specs.Script.{Ending, IsScript}
+use Rattle.spec_session.specs.GrammarReplies.{IsRefused}
 use Rattle.spec_session.specs.Sessions.{AreAllReplies, last_line, last_status, IsSession}
-
--- an input is at most one script: these commands, and this end
-abbrev pub OneScript : Type 0
-OneScript =
-    (input : List ℕ) (commands others : List Command) (ending final : Ending) →
-    IsScript input commands ending → IsScript input others final →
-    (commands ≡ others) × (ending ≡ final)
 
 -- any two sessions of an input write the same bytes and end with the same status
 abbrev pub OneSession : Type 0
@@ -22,7 +16,7 @@ OneSession =
 abbrev pub RepliesComeFirst : Type 0
 RepliesComeFirst =
     (input : List ℕ) (front : List Command) (at : ℕ) (rest told : List ℕ) →
-    Begins 0 input front at rest → IsInOrder front → AreAllReplies front told →
+    BeginsWithCommands 0 input front at rest → IsInOrder front → AreAllReplies front told →
     (out : List ℕ) (status : ℕ) → IsSession input out status →
     (more : List ℕ) × (out ≡ told ++ more)
 
@@ -40,6 +34,6 @@ RepliesThenLastLine =
 abbrev pub RefusalIsAll : Type 0
 RefusalIsAll =
     (input block line : List ℕ) (at : ℕ) (rest : List ℕ) →
-    Begins 0 input (header ∷ grammar block ∷ []) at rest → IsRefused block line →
+    BeginsWithCommands 0 input (header ∷ grammar block ∷ []) at rest → IsRefused block line →
     (out : List ℕ) (status : ℕ) → IsSession input out status →
     (out ≡ line) × (status ≡ 2)

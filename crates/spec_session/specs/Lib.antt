@@ -1,6 +1,7 @@
 pub mod Sessions
-pub mod Script
-pub mod Replies
+pub mod Steps
+pub mod Answers
+pub mod GrammarReplies
+pub mod Lines
 pub mod Laws
 pub mod Existence
-pub mod Examples

@@ -2,10 +2,13 @@
 -- grammar and texts alone.
 use Rattle.std.specs.Prelude.{◌≡◌, ℕ, List, [], ◌∷◌, ◌++◌, codes, decimal}
 use Rattle.spec_grammar.specs.Grammars.{Grammar}
-use Rattle.spec_session.specs.Script.{Command, header, grammar, Ending, ended, broken, Begins}
-use Rattle.spec_session.specs.Script.{IsScript}
-use Rattle.spec_session.specs.Replies.{as_line, IsAccepted, IsRefused, grammar_reply, IsReply}
-use Rattle.spec_session.specs.Replies.{texts_after}
+use Rattle.spec_script.specs.Script.{Command, header, grammar, Ending, ended, broken}
+use Rattle.spec_script.specs.Script.{BeginsWithCommands}
+use Rattle.spec_script.specs.Script.{IsScript}
+use Rattle.spec_session.specs.Lines.{as_line}
+use Rattle.spec_session.specs.GrammarReplies.{IsAccepted, IsRefused, grammar_reply}
+use Rattle.spec_session.specs.Steps.{IsReply}
+use Rattle.spec_session.specs.Steps.{texts_after}
 
 -- the bytes are the replies to the commands, in order
 abbrev pub AreReplies : Grammar → List (List ℕ) → List Command → List ℕ → Type 0
@@ -37,7 +40,7 @@ AreAllReplies commands out = ⊥
 -- the session of the input writes these bytes and ends with this status: it ends at a grammar that
 -- is refused, with its line alone and status 2; else it goes to the script's end
 pub data IsSession (input out : List ℕ) (status : ℕ) : Type 0 where
-  refused : (block rest : List ℕ) (at : ℕ) → Begins 0 input (header ∷ grammar block ∷ []) at rest
+  refused : (block rest : List ℕ) (at : ℕ) → BeginsWithCommands 0 input (header ∷ grammar block ∷ []) at rest
       → IsRefused block out → status ≡ 2 → IsSession input out status
   whole : (commands : List Command) (ending : Ending) (replies : List ℕ)
       → IsScript input commands ending → AreAllReplies commands replies

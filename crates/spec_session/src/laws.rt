@@ -1,12 +1,6 @@
-//! Laws of scripts and sessions. Each is the contract of a function with an empty body.
-ghost use Rattle.spec_session.specs.Laws.{OneScript, OneSession, RepliesComeFirst};
+//! Laws of sessions. Each is the contract of a function with an empty body.
+ghost use Rattle.spec_session.specs.Laws.{OneSession, RepliesComeFirst};
 ghost use Rattle.spec_session.specs.Laws.{RepliesThenLastLine, RefusalIsAll};
-ghost use Rattle.spec_session.specs.Examples.{SmallSessions};
-
-/// An input is at most one script: its commands, and where it ends or breaks.
-pub fn one_script()
-    ensures { OneScript }
-{}
 
 /// An input has at most one session: the bytes that it writes, and its status.
 pub fn one_session()
@@ -28,9 +22,4 @@ pub fn replies_then_last_line()
 /// Where the grammar is refused, its refusal is all that the session writes, and its status is 2.
 pub fn refusal_is_all()
     ensures { RefusalIsAll }
-{}
-
-/// What the sessions of small inputs write, and their status, by hand.
-pub fn small_sessions()
-    ensures { SmallSessions }
 {}

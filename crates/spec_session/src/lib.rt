@@ -1,12 +1,9 @@
-//! Scripts and sessions: the commands that an input spells, the reply to each, and what a session
-//! writes. There is no other code here than laws of these.
+//! Sessions: the reply to each command of a script, and what a session writes. There is no other code
+//! here than laws of these.
 #![tactic(auto)]
 
 mod existence;
 mod laws;
 
 pub use existence::some_session;
-pub use laws::{
-    one_script, one_session, refusal_is_all, replies_come_first, replies_then_last_line,
-    small_sessions,
-};
+pub use laws::{one_session, refusal_is_all, replies_come_first, replies_then_last_line};

@@ -1,6 +1,6 @@
 -- The session ends at a grammar whose reply was cut short, or that is refused.
 use Rattle.std.proofs.Common.{inr, refl}
-use Rattle.spec_session.specs.Replies.{grammar_reply}
+use Rattle.spec_session.specs.GrammarReplies.{grammar_reply}
 use Rattle.chart_service.proofs.OpeningLemmas.{cut_short}
 use Rattle.chart_service.proofs.opening.accept.Goals as goal
 

@@ -2,7 +2,7 @@
 -- be missing.
 use Rattle.std.proofs.Common.{◌<◌, ◌^◌, ℕ, List, Option, arith}
 use Rattle.cyk_io.specs.Streams.{coming}
-use Rattle.chart_service.proofs.ProgressLemmas.{read_stop}
+use Rattle.chart_service.proofs.ProgressLemmas.{fault_stop}
 use Rattle.chart_service.proofs.BeginningLemmas.{with_header, no_header, no_grammar, with_grammar}
 use Rattle.chart_service.proofs.BeginningLemmas.{grammar_ends, with_accepted, text_stopped, no_text}
 use Rattle.chart_service.proofs.BeginningLemmas.{text_opened, taken_early, grammar_early, on_ok}
@@ -94,4 +94,5 @@ returns-clause-ok g c input before comes written =
     let accepted =
     with_accepted taken (g.K.Sink.written c.accept.new.sink) c.in-Ok.language c.in-Ok.ensures.ok in
     text_stopped accepted
-    c.in-Err-read_text.status (read_stop c.in-Err-read_text.status c.in-Err-read_text.ensures.stop.err)
+    c.from.result
+    (fault_stop c.in-Err-read_text.fault c.in-Err-read_text.ensures.stop.err c.from.result c.from.ensures)

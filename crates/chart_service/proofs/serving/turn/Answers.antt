@@ -1,7 +1,7 @@
 -- One line of a session: a question is answered, the session ends, or the script is broken here.
 use Rattle.cyk_io.specs.Streams.{coming}
-use Rattle.chart_service.specs.Forms.{meant}
-use Rattle.chart_service.proofs.ProgressLemmas.{read_stop, write_stop, no_line_ends}
+use Rattle.script_reader.specs.Forms.{meant}
+use Rattle.chart_service.proofs.ProgressLemmas.{fault_stop, write_stop, no_line_ends}
 use Rattle.chart_service.proofs.ProgressLemmas.{other_line_ends, end_line_ends, question_asked}
 use Rattle.chart_service.proofs.ProgressLemmas.{running_stopped, running_answered, running_cut}
 use Rattle.chart_service.proofs.serving.turn.Goals as goal
@@ -16,7 +16,8 @@ returns-in-Ok-false-clause-ok g c input before r =
 
 pub returns-in-Err-clause-ok : goal.returns-in-Err-clause-ok
 returns-in-Err-clause-ok g c input before r =
-    running_stopped r c.in-Err.status (read_stop c.in-Err.status c.in-Err.ensures.stop.err)
+    running_stopped r c.from.result
+    (fault_stop c.in-Err.fault c.in-Err.ensures.stop.err c.from.result c.from.ensures)
 
 pub returns-in-None-clause-ok : goal.returns-in-None-clause-ok
 returns-in-None-clause-ok g c input before r =
@@ -43,7 +44,7 @@ returns-in-Ok-clause-ok g c input before r =
     let asked = question_asked r c.next_line.new.ahead.offset next c.next_line.new.line
     (rw c.in-Ok-true.field-0-test at c.in-Ok-true.ensures.ok) (meant c.in-Some-Has.constituent)
     (rw (c.in-Some-Has.field-0-is, c.as_bytes.ensures.bytes) at c.in-Some-Has.ensures) in
-    running_answered r asked (c.answer_of.ensures r.text r.tokens r.is_opened)
+    running_answered r asked _ (c.answer_of.ensures r.text r.tokens r.is_opened)
     (g.K.Sink.written c.say_answer.new.sink) c.in-Ok.ensures.ok
 
 pub returns-in-Err-say_answer-clause-ok : goal.returns-in-Err-say_answer-clause-ok
@@ -52,7 +53,7 @@ returns-in-Err-say_answer-clause-ok g c input before r =
     let asked = question_asked r c.next_line.new.ahead.offset next c.next_line.new.line
     (rw c.in-Ok-true.field-0-test at c.in-Ok-true.ensures.ok) (meant c.in-Some-Has.constituent)
     (rw (c.in-Some-Has.field-0-is, c.as_bytes.ensures.bytes) at c.in-Some-Has.ensures) in
-    running_cut r asked (c.answer_of.ensures r.text r.tokens r.is_opened)
+    running_cut r asked _ (c.answer_of.ensures r.text r.tokens r.is_opened)
     (g.K.Sink.written c.say_answer.new.sink) c.in-Err-say_answer.ensures.err
     c.in-Err-say_answer.status
     (write_stop c.in-Err-say_answer.status c.in-Err-say_answer.ensures.stop)

@@ -6,8 +6,9 @@ pub returns-clause-bytes : goal.returns-clause-bytes
 returns-clause-bytes c =
     let copy = c.copy_front-count in
     let fields = c.self.inside in
-    let bytes = fields.bytes.items in (
-      omega (arith, copy.ensures.fits),
+    let bytes = fields.bytes.items in
+    let counted = rw c.as_slice.ensures.value at copy.ensures.count in (
+      omega (arith, copy.ensures.count),
       takes_copied bytes _ copy.new.into fields.at copy.result c.self.view_is (rw c.as_slice.ensures.value at copy.ensures.bytes),
-      λ none some. at_end_copied bytes fields.at copy.result none (rw c.as_slice.ensures.value at (copy.ensures.end none (omega arith))),
+      λ none some. at_end_copied bytes fields.at copy.result none (omega (arith, none, counted, some)),
     )

@@ -1,8 +1,0 @@
--- A line begins so where its front is those bytes.
-use Rattle.std.proofs.lemmas.Bool.Decides.{Decides-eqb}
-use Rattle.std.proofs.lemmas.Slice.Eq.{strip_prefix_is}
-use Rattle.chart_service.proofs.forms.behind.Goals as goal
-
-pub returns : goal.returns
-returns c =
-    strip_prefix_is Decides-eqb c.args.line.now c.args.beginning.now _ c.strip_prefix.ensures.cases

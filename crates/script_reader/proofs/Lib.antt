@@ -1,0 +1,3 @@
+mod FormsLemmas
+mod QuestionLemmas
+pub mod ReadingLemmas

@@ -1,0 +1,152 @@
+//! The forms of a script's lines. A line is told by its bytes without the LF.
+ghost use Rattle.std.specs.Prelude.{◌≡◌, ◌<◌, ◌^◌, ◌⊎◌, ◌↔◌, ◌∷◌, ◌++◌, ℕ, IsTrue, length};
+ghost use Rattle.std.specs.Prelude.{slice_index};
+ghost use Rattle.std.specs.Prelude.{option_map};
+ghost use Rattle.std.specs.List.{list_all};
+ghost use Rattle.std.specs.Char.{is_ascii_digit};
+ghost use Rattle.cyk_io.specs.Lines.{HasNoLf};
+ghost use Rattle.spec_script.specs.Script.{AreOfWord};
+ghost use Rattle.script_reader.specs.Forms.{HasNumberForm, ReadsNumber, ReadsBehind, ReadsCount};
+ghost use Rattle.script_reader.specs.Forms.{CutsAtSpace, ReadsConstituent, ReadsHas};
+ghost use Rattle.script_reader.specs.Forms.{ReadsQuestion};
+
+use spec_script::Constituent;
+
+/// What a line behind the text asks for.
+#[derive(Drop)]
+pub enum Question<'a> {
+    /// Whether the constituent is derived.
+    Has(Constituent<&'a [u8]>),
+    /// The script's end.
+    End,
+}
+
+/// The first number that has ten digits.
+const TEN_DIGITS: u32 = 1_000_000_000;
+
+/// Whether the bytes are decimal digits alone.
+fn are_digits(word: &[u8]) -> bool
+    ensures { result ≡ list_all is_ascii_digit word.now }
+{
+    word.iter().all(|byte| byte.is_ascii_digit())
+}
+
+/// Whether a `0` stands before another byte.
+fn has_leading_zero(word: &[u8]) -> bool
+    ensures { IsTrue result ↔ ((1 < length word.now) × (slice_index word.now 0 ≡ 48)) }
+{
+    word.len() > 1 && word[0] == b'0'
+}
+
+/// Whether the bytes are digits, the first of which may be `0` only where it is alone.
+fn has_number_form(word: &[u8]) -> bool
+    ensures { IsTrue result ↔ HasNumberForm word.now }
+{
+    are_digits(word) && !has_leading_zero(word)
+}
+
+/// The number that the word spells: `0`, or one to nine digits of which the first is not `0`.
+fn number(word: &[u8]) -> Option<u32>
+    ensures { ReadsNumber word.now result }
+{
+    if !has_number_form(word) {
+        return None;
+    }
+    let Ok(text) = str::from_utf8(word) else {
+        return None;
+    };
+    match text.parse::<u32>() {
+        Ok(number) if number < TEN_DIGITS => Some(number),
+        _ => None,
+    }
+}
+
+/// The bytes behind the beginning, where the line begins so.
+fn behind<'a>(line: &'a [u8], beginning: &[u8]) -> Option<&'a [u8]>
+    ensures { ReadsBehind line.now beginning.now result }
+{
+    line.strip_prefix(beginning)
+}
+
+/// The number behind the line's beginning, where it is not above `most`.
+pub(crate) fn count_behind(line: &[u8], beginning: &[u8], most: u32) -> Option<u32>
+    ensures { ReadsCount line.now beginning.now most result }
+{
+    match number(behind(line, beginning)?) {
+        Some(count) if count <= most => Some(count),
+        _ => None,
+    }
+}
+
+/// The bytes before the first space and those behind it.
+fn cut_at_space(bytes: &[u8]) -> Option<(&[u8], &[u8])>
+    ensures { CutsAtSpace bytes.now (option_map (λ cut. (cut.0.now, cut.1.now)) result) }
+{
+    for (place, byte) in bytes.iter().enumerate() {
+        if *byte == b' ' {
+            return Some((&bytes[..place], &bytes[place + 1..]));
+        }
+    }
+    None
+}
+
+/// The category over the whole text, where it has a byte.
+fn category_whole(category: &[u8]) -> Option<Constituent<&[u8]>>
+    requires { AreOfWord category.now }
+    ensures { ReadsConstituent (32 ∷ category.now) result }
+{
+    if category.is_empty() {
+        return None;
+    }
+    Some(Constituent::CategoryWhole(category))
+}
+
+/// The category over the span of two numbers.
+fn category_span<'a>(category: &'a [u8], span: &[u8]) -> Option<Constituent<&'a [u8]>>
+    requires { AreOfWord category.now }
+    ensures { ReadsConstituent (32 ∷ (category.now ++ (32 ∷ span.now))) result }
+{
+    if category.is_empty() {
+        return None;
+    }
+    let (first, end) = cut_at_space(span)?;
+    Some(Constituent::CategorySpan {
+        category,
+        first: number(first)?,
+        end: number(end)?,
+    })
+}
+
+/// The constituent that the bytes behind a question's first word name.
+fn constituent_of(bytes: &[u8]) -> Option<Constituent<&[u8]>>
+    requires { HasNoLf bytes.now }
+    ensures { ReadsConstituent bytes.now result }
+{
+    if bytes.is_empty() {
+        return Some(Constituent::EntryWhole);
+    }
+    let named = behind(bytes, b" ".as_slice())?;
+    match cut_at_space(named) {
+        Some((category, span)) => category_span(category, span),
+        None => category_whole(named),
+    }
+}
+
+/// The constituent that the line asks for, where it begins with `has`.
+fn has_question(line: &[u8]) -> Option<Constituent<&[u8]>>
+    requires { HasNoLf line.now }
+    ensures { ReadsHas line.now result }
+{
+    constituent_of(behind(line, b"has".as_slice())?)
+}
+
+/// The question that the line asks, or the script's end.
+pub fn question_of(line: &[u8]) -> Option<Question<'_>>
+    requires { HasNoLf line.now }
+    ensures { ReadsQuestion line.now result }
+{
+    if line == b"end".as_slice() {
+        return Some(Question::End);
+    }
+    has_question(line).map(Question::Has)
+}

@@ -1,0 +1,289 @@
+-- How bytes spell commands: a line is told by its first LF, and a block by its length.
+use Rattle.std.proofs.Common.{◌≡◌, ℕ, zero, suc, ◌^◌, ◌<◌, ◌≤◌, ◌&&◌, List, [], ◌∷◌, ◌++◌, length, take, drop, Bool, true, false, not, nat_eq, codes, decimal, Contains, All, refl, sym, ◌∙◌, ap, subst, arith, get_or, append_assoc, length-append}
+use Rattle.std.specs.List.{list_all}
+use Rattle.std.specs.Str.{all_ascii_digits}
+use Rattle.std.specs.Str.Parse.{digits_value}
+use Rattle.std.proofs.lemmas.List.{get_or_default}
+use Rattle.std.proofs.lemmas.Str.Parse.{IsNumeralModel, numerals_by_value, tells_all_ascii_digits, not_in_digits}
+use Rattle.std.proofs.lemmas.Fmt.{digits_decimal, decimal_injective, length-decimal-le}
+use Rattle.std.proofs.Math.Seq.{take-append_seam}
+use Rattle.spec_script.specs.declared.question.Constituent.TheVariants.{EntryWhole, CategoryWhole, CategorySpan}
+use Rattle.spec_script.specs.Script.{Constituent, constituent_text, IsNameable}
+use Rattle.spec_script.specs.Script.{Query, has, query_line, IsAskable, Command, header, grammar, opens, ask, line_of, block_of, text_of, IsWord, IsWithinLimits}
+
+-- the list does not have the byte
+abbrev pub Lacks : List ℕ → ℕ → Type 0
+Lacks bytes byte = Contains bytes byte → ⊥
+
+-- what a list has, a longer one has
+contains_later : (x : ℕ) (xs : List ℕ) (y : ℕ) → Contains xs y → Contains (x ∷ xs) y
+contains_later x xs y h = (suc h.0, omega (arith, h.1), h.2)
+
+-- two lists that lack a byte lack it when they are joined
+pub lacks_joined : (byte : ℕ) (front back : List ℕ) →
+    Lacks front byte → Lacks back byte → Lacks (front ++ back) byte
+lacks_joined byte [] back a b h = b h
+lacks_joined byte (x ∷ front) back a b (zero, lt, e) = a (zero, omega arith, e)
+lacks_joined byte (x ∷ front) back a b (suc k, lt, e) =
+    let lacks : Lacks front byte = λ h. a (contains_later x front byte h) in
+    lacks_joined byte front back lacks b (k, omega arith, e)
+
+second : (a b : Bool) → (a && b) ≡ true → b ≡ true
+second true b e = e
+second false b e = let h : false ≡ true = e in cc
+
+-- a test tells that a list lacks a byte
+abbrev pub is_without : ℕ → List ℕ → Bool
+is_without byte bytes = list_all (λ x. not (nat_eq x byte)) bytes
+
+pub tested : (byte : ℕ) (bytes : List ℕ) → is_without byte bytes ≡ true → Lacks bytes byte
+tested byte [] e (k, lt, is) = omega arith
+tested byte (x ∷ bytes) e (zero, lt, is) =
+    let P : ℕ → Type 0 = λ n. (not (nat_eq n byte) && is_without byte bytes) ≡ true in
+    grind (arith, subst P is e)
+tested byte (x ∷ bytes) e (suc k, lt, is) =
+    tested byte bytes (second (not (nat_eq x byte)) (is_without byte bytes) e) (k, omega arith, is)
+
+-- each byte of a list that lacks one is another
+pub each_differs : (byte : ℕ) (bytes : List ℕ) → Lacks bytes byte → All (λ x. x ≡ byte → ⊥) bytes
+each_differs byte bytes lacks k d lt e = lacks (k, lt, get_or_default bytes k byte d lt ∙ e)
+
+-- and the other way round
+pub lacks_if_each_differs : (byte : ℕ) (bytes : List ℕ) → All (λ x. x ≡ byte → ⊥) bytes → Lacks bytes byte
+lacks_if_each_differs byte bytes each h = each h.0 byte h.1 h.2
+
+-- the parts round the first such byte are the same parts
+pub cut_same : (sign : ℕ) (word rest other more : List ℕ) → Lacks word sign → Lacks other sign →
+    word ++ (sign ∷ rest) ≡ other ++ (sign ∷ more) → (word ≡ other) × (rest ≡ more)
+cut_same sign [] rest [] more a b e = (refl, ap (drop 1) e)
+cut_same sign [] rest (y ∷ ys) more a b e =
+    absurd (b (0, omega arith, sym (ap (λ bytes. get_or bytes 0 0) e)))
+cut_same sign (x ∷ xs) rest [] more a b e =
+    absurd (a (0, omega arith, ap (λ bytes. get_or bytes 0 0) e))
+cut_same sign (x ∷ xs) rest (y ∷ ys) more a b e =
+    let lacks : Lacks xs sign = λ h. a (contains_later x xs sign h) in
+    let lacks_too : Lacks ys sign = λ h. b (contains_later y ys sign h) in
+    let tail = cut_same sign xs rest ys more lacks lacks_too (ap (drop 1) e) in
+    let head : x ≡ y = ap (λ bytes. get_or bytes 0 0) e in
+    (ap (λ bytes. x ∷ bytes) tail.0 ∙ ap (λ byte. byte ∷ ys) head, tail.1)
+
+-- behind one beginning stand the same bytes
+pub same_rest : (beginning rest other : List ℕ) → beginning ++ rest ≡ beginning ++ other → rest ≡ other
+same_rest [] rest other e = e
+same_rest (x ∷ beginning) rest other e = same_rest beginning rest other (ap (drop 1) e)
+
+-- beginnings of one length are the same
+pub same_front : (front back other more : List ℕ) → length front ≡ length other →
+    front ++ back ≡ other ++ more → front ≡ other
+same_front front back other more size e =
+    sym (take-append_seam front back) ∙ ap (take (length front)) e
+    ∙ ap (λ n. take n (other ++ more)) size ∙ take-append_seam other more
+
+-- and so are the bytes behind them
+pub same_back : (front back other more : List ℕ) → length front ≡ length other →
+    front ++ back ≡ other ++ more → back ≡ more
+same_back front back other more size e =
+    let fronts : front ≡ other = same_front front back other more size e in
+    same_rest other back more (ap (λ bytes. bytes ++ back) (sym fronts) ∙ e)
+
+-- decimal texts are told by the test of digits
+pub model : IsNumeralModel (λ word. all_ascii_digits word ≡ true) (digits_value 10)
+model = numerals_by_value (λ word. all_ascii_digits word ≡ true) tells_all_ascii_digits
+
+-- a number has digits alone
+pub digits_lack : (n byte : ℕ) → n < 10 ^ 9 → byte < 48 → Lacks (decimal n) byte
+digits_lack n byte small low h =
+    let digits : all_ascii_digits (decimal n) ≡ true = digits_decimal model n (omega arith) in
+    let is : get_or (decimal n) h.0 0 ≡ byte = get_or_default (decimal n) h.0 0 byte h.1 ∙ h.2 in
+    not_in_digits model (decimal n) byte digits (λ r. omega (arith, r.0)) h.0 h.1 is
+
+-- numbers of nine digits with one text are equal
+pub same_number : (n other : ℕ) → n < 10 ^ 9 → other < 10 ^ 9 → decimal n ≡ decimal other → n ≡ other
+same_number n other small small_too e = decimal_injective n other (omega arith) (omega arith) e
+
+-- a word has no space and no LF
+pub word_lacks_space : (word : List ℕ) → IsWord word → Lacks word 32
+word_lacks_space word is_word h = (is_word.each h.0 32 h.1).0 h.2
+
+pub word_lacks_lf : (word : List ℕ) → IsWord word → Lacks word 10
+word_lacks_lf word is_word h = (is_word.each h.0 10 h.1).1 h.2
+
+-- a beginning and a number have no LF
+counted_lacks_lf : (beginning : List ℕ) (n : ℕ) → is_without 10 beginning ≡ true → n < 10 ^ 9 →
+    Lacks (beginning ++ decimal n) 10
+counted_lacks_lf beginning n clean small =
+    lacks_joined 10 beginning (decimal n) (tested 10 beginning clean) (digits_lack n 10 small (omega arith))
+
+-- a space and what stands behind it have no LF
+spaced_lacks_lf : (bytes : List ℕ) → Lacks bytes 10 → Lacks (32 ∷ bytes) 10
+spaced_lacks_lf bytes lacks = lacks_joined 10 (32 ∷ []) bytes (tested 10 (32 ∷ []) refl) lacks
+
+-- the span of a question
+abbrev span_text : ℕ → ℕ → List ℕ
+span_text first end = decimal first ++ (32 ∷ decimal end)
+
+-- the category and the span of a question
+abbrev question_text : List ℕ → ℕ → ℕ → List ℕ
+question_text category first end = category ++ (32 ∷ span_text first end)
+
+-- what names a constituent has no LF
+constituent_lacks_lf : (constituent : Constituent) → IsNameable constituent →
+    Lacks (constituent_text constituent) 10
+constituent_lacks_lf EntryWhole nameable = tested 10 [] refl
+constituent_lacks_lf (CategoryWhole category) nameable =
+    spaced_lacks_lf category (word_lacks_lf category nameable)
+constituent_lacks_lf (CategorySpan category first end) nameable =
+    let first_lacks : Lacks (decimal first) 10 = digits_lack first 10 nameable.1 (omega arith) in
+    let end_lacks : Lacks (decimal end) 10 = digits_lack end 10 nameable.2 (omega arith) in
+    let span_lacks : Lacks (span_text first end) 10 =
+    lacks_joined 10 (decimal first) (32 ∷ decimal end) first_lacks (spaced_lacks_lf (decimal end) end_lacks) in
+    let behind_lacks : Lacks (question_text category first end) 10 =
+    lacks_joined 10 category (32 ∷ span_text first end) (word_lacks_lf category nameable.0)
+    (spaced_lacks_lf (span_text first end) span_lacks) in
+    spaced_lacks_lf (question_text category first end) behind_lacks
+
+-- the line of a query has no LF
+query_lacks_lf : (query : Query) → IsAskable query → Lacks (query_line query) 10
+query_lacks_lf (has constituent) askable =
+    lacks_joined 10 (codes "has") (constituent_text constituent) (tested 10 (codes "has") refl)
+    (constituent_lacks_lf constituent askable)
+
+-- the line of a command within its limits has no LF
+pub line_lacks_lf : (command : Command) → IsWithinLimits command → Lacks (line_of command) 10
+line_lacks_lf header within = tested 10 (codes "script 1") refl
+line_lacks_lf (grammar block) within =
+    counted_lacks_lf (codes "grammar ") (length block) refl (omega (arith, within))
+line_lacks_lf (opens text) within =
+    counted_lacks_lf (codes "open ") (length text) refl (omega (arith, within.0))
+line_lacks_lf (ask query) within = query_lacks_lf query within.0
+
+-- a beginning and a number are short
+counted_is_short : (beginning : List ℕ) (n : ℕ) → length beginning ≤ 100 → n < 10 ^ 9 →
+    length (beginning ++ decimal n) ≤ 256
+counted_is_short beginning n short small =
+    let digits : length (decimal n) ≤ 9 = length-decimal-le 9 n (omega arith) small (omega arith) in
+    omega (arith, length-append beginning (decimal n))
+
+-- the line of a command within its limits has at most 256 bytes
+pub line_is_short : (command : Command) → IsWithinLimits command → length (line_of command) ≤ 256
+line_is_short header within = omega arith
+line_is_short (grammar block) within =
+    counted_is_short (codes "grammar ") (length block) (omega arith) (omega (arith, within))
+line_is_short (opens text) within =
+    counted_is_short (codes "open ") (length text) (omega arith) (omega (arith, within.0))
+line_is_short (ask query) within = within.1
+
+-- a line before an LF is that of the command that the bytes begin with, and the block comes next
+pub command_line : (command : Command) (line rest more : List ℕ) → IsWithinLimits command → Lacks line 10 →
+    line ++ (10 ∷ rest) ≡ text_of command ++ more → (line ≡ line_of command) × (rest ≡ block_of command ++ more)
+command_line command line rest more within lacks e =
+    cut_same 10 line rest (line_of command) (block_of command ++ more) lacks (line_lacks_lf command within)
+    (e ∙ append_assoc (line_of command) (10 ∷ block_of command) more)
+
+-- blocks of one length before an LF are the same, and so is what stands behind
+same_block : (beginning block other rest more : List ℕ) → length block < 10 ^ 9 → length other < 10 ^ 9 →
+    beginning ++ decimal (length block) ≡ beginning ++ decimal (length other) →
+    (block ++ 10 ∷ []) ++ rest ≡ (other ++ 10 ∷ []) ++ more → (block ≡ other) × (rest ≡ more)
+same_block beginning block other rest more small small_too e f =
+    let digits = same_rest beginning (decimal (length block)) (decimal (length other)) e in
+    let size : length block ≡ length other = same_number (length block) (length other) small small_too digits in
+    let whole : block ++ (10 ∷ rest) ≡ other ++ (10 ∷ more) =
+    sym (append_assoc block (10 ∷ []) rest) ∙ f ∙ append_assoc other (10 ∷ []) more in (
+      same_front block (10 ∷ rest) other (10 ∷ more) size whole,
+      ap (drop 1) (same_back block (10 ∷ rest) other (10 ∷ more) size whole),
+    )
+
+-- a word, a space and what stands behind it have a space
+pub has_space : (word rest : List ℕ) → Contains (word ++ (32 ∷ rest)) 32
+has_space [] rest = (0, omega arith, refl)
+has_space (x ∷ word) rest = contains_later x (word ++ (32 ∷ rest)) 32 (has_space word rest)
+
+-- a word is not another with a span
+word_or_span : (category name : List ℕ) (start stop : ℕ) →
+    IsWord category → category ≡ question_text name start stop → ⊥
+word_or_span category name start stop is_word e =
+    word_lacks_space category is_word
+    (subst (λ bytes. Contains bytes 32) (sym e) (has_space name (span_text start stop)))
+
+-- a category with a span is named in one way
+same_span : (category : List ℕ) (first end : ℕ) (name : List ℕ) (start stop : ℕ) →
+    IsNameable (CategorySpan category first end) → IsNameable (CategorySpan name start stop) →
+    question_text category first end ≡ question_text name start stop →
+    CategorySpan category first end ≡ CategorySpan name start stop
+same_span category first end name start stop v w e =
+    let parts = cut_same 32 category (span_text first end) name (span_text start stop)
+    (word_lacks_space category v.0) (word_lacks_space name w.0) e in
+    let numbers = cut_same 32 (decimal first) (decimal end) (decimal start) (decimal stop)
+    (digits_lack first 32 v.1 (omega arith)) (digits_lack start 32 w.1 (omega arith)) parts.1 in
+    let firsts : first ≡ start = same_number first start v.1 w.1 numbers.0 in
+    let ends : end ≡ stop = same_number end stop v.2 w.2 numbers.1 in
+    let categories : category ≡ name = parts.0 in
+    cc
+
+-- constituents that are named alike are the same
+pub same_constituent : (a b : Constituent) → IsNameable a → IsNameable b →
+    constituent_text a ≡ constituent_text b → a ≡ b
+same_constituent EntryWhole EntryWhole v w e = refl
+same_constituent EntryWhole (CategoryWhole name) v w e = absurd (omega (arith, ap length e))
+same_constituent EntryWhole (CategorySpan name start stop) v w e = absurd (omega (arith, ap length e))
+same_constituent (CategoryWhole category) EntryWhole v w e = absurd (omega (arith, ap length e))
+same_constituent (CategoryWhole category) (CategoryWhole name) v w e = ap CategoryWhole (ap (drop 1) e)
+same_constituent (CategoryWhole category) (CategorySpan name start stop) v w e =
+    absurd (word_or_span category name start stop v (ap (drop 1) e))
+same_constituent (CategorySpan category first end) EntryWhole v w e = absurd (omega (arith, ap length e))
+same_constituent (CategorySpan category first end) (CategoryWhole name) v w e =
+    absurd (word_or_span name category first end w (sym (ap (drop 1) e)))
+same_constituent (CategorySpan category first end) (CategorySpan name start stop) v w e =
+    same_span category first end name start stop v w (ap (drop 1) e)
+
+-- queries with one line are the same
+same_query : (a b : Query) → IsAskable a → IsAskable b → query_line a ≡ query_line b → a ≡ b
+same_query (has constituent) (has other) v w e =
+    let behind = same_rest (codes "has") (constituent_text constituent) (constituent_text other) e in
+    ap has (same_constituent constituent other v w behind)
+
+-- the first byte of a line, which tells the commands apart
+abbrev first_byte : List ℕ → ℕ
+first_byte line = get_or line 0 0
+
+-- commands with one line, before what stands behind it, are the same
+same_by_line : (a b : Command) (rest more : List ℕ) → IsWithinLimits a → IsWithinLimits b →
+    line_of a ≡ line_of b → block_of a ++ rest ≡ block_of b ++ more → (a ≡ b) × (rest ≡ more)
+same_by_line header header rest more v w e f = (refl, f)
+same_by_line (grammar block) (grammar other) rest more v w e f =
+    let small : length block < 10 ^ 9 = omega (arith, v) in
+    let small_too : length other < 10 ^ 9 = omega (arith, w) in
+    let same = same_block (codes "grammar ") block other rest more small small_too e f in
+    (ap grammar same.0, same.1)
+same_by_line (opens text) (opens other) rest more v w e f =
+    let small : length text < 10 ^ 9 = omega (arith, v.0) in
+    let small_too : length other < 10 ^ 9 = omega (arith, w.0) in
+    let same = same_block (codes "open ") text other rest more small small_too e f in
+    (ap opens same.0, same.1)
+same_by_line (ask query) (ask other) rest more v w e f = (ap ask (same_query query other v.0 w.0 e), f)
+same_by_line a (ask (has other)) rest more v w e f = absurd (omega (arith, ap first_byte e))
+same_by_line (ask (has constituent)) b rest more v w e f = absurd (omega (arith, ap first_byte e))
+same_by_line a b rest more v w e f = absurd (omega (arith, ap first_byte e))
+
+-- bytes begin with one command at most, and so one rest stands behind it
+pub same_command : (a b : Command) (rest more : List ℕ) → IsWithinLimits a → IsWithinLimits b →
+    text_of a ++ rest ≡ text_of b ++ more → (a ≡ b) × (rest ≡ more)
+same_command a b rest more v w e =
+    let whole : line_of a ++ (10 ∷ (block_of a ++ rest)) ≡ text_of b ++ more =
+    sym (append_assoc (line_of a) (10 ∷ block_of a) rest) ∙ e in
+    let lines = command_line b (line_of a) (block_of a ++ rest) more w (line_lacks_lf a v) whole in
+    same_by_line a b rest more v w lines.0 lines.1
+
+-- the line `end` is the line of no command
+end_is_no_line : (command : Command) → codes "end" ≡ line_of command → ⊥
+end_is_no_line header e = omega (arith, ap first_byte e)
+end_is_no_line (grammar block) e = omega (arith, ap first_byte e)
+end_is_no_line (opens text) e = omega (arith, ap first_byte e)
+end_is_no_line (ask (has constituent)) e = omega (arith, ap first_byte e)
+
+-- bytes that begin with the line `end` begin with no command
+pub end_is_no_command : (command : Command) (rest more : List ℕ) → IsWithinLimits command →
+    codes "end" ++ (10 ∷ rest) ≡ text_of command ++ more → ⊥
+end_is_no_command command rest more within e =
+    let lines = command_line command (codes "end") rest more within (tested 10 (codes "end") refl) e in
+    end_is_no_line command lines.0

@@ -1,0 +1,172 @@
+-- A grammar of one rule, `A. S ::= "a"`, and the text `a` under it, worked by hand.
+use Rattle.std.proofs.Common.{◌≡◌, ℕ, zero, suc, inr, List, [], ◌∷◌, ◌++◌, length, Some, slice_get, codes, refl, sym, ◌∙◌, ap, arith, get_or, length-append}
+use Rattle.std.specs.Char.{encode_utf8}
+use Rattle.std.specs.Str.{chars, is_utf8}
+use Rattle.std.proofs.lemmas.Fmt.{decimal_digit}
+use Rattle.std.proofs.lemmas.Str.{IsUtf8-from_is_utf8}
+use Rattle.std.proofs.lemmas.Option.{none-some, same_Some}
+use Rattle.std.proofs.lemmas.List.Elements.{All-from_recursion}
+use Rattle.spec_grammar.specs.declared.rule.Label.TheVariants.{Named}
+use Rattle.spec_grammar.specs.declared.rule.Symbol.{Symbol}
+use Rattle.spec_grammar.specs.declared.rule.Symbol.TheVariants.{Category, Kind}
+use Rattle.spec_grammar.specs.declared.rule.Rule.{Rule as GrammarRule}
+use Rattle.spec_grammar.specs.Trees.{leaf, node, no_trees, trees}
+use Rattle.spec_grammar.specs.Derivation.{Derives}
+use Rattle.spec_grammar.specs.Cycles.{StepsTo}
+use Rattle.spec_grammar.proofs.DerivationLemmas.{AreFull, derives_grows}
+use Rattle.spec_lexing.specs.declared.token.Token.{Token}
+use Rattle.spec_lexing.specs.Tokens.{AreTokensOf, kinds_of}
+use Rattle.spec_lexing.specs.Examples.{token}
+use Rattle.spec_lexing.proofs.KindsLemmas.{tokens_of_is}
+use Rattle.spec_lbnf.specs.declared.definition.RawItem.TheVariants.{Word}
+use Rattle.spec_lbnf.specs.declared.definition.Def.{Def}
+use Rattle.spec_lbnf.specs.declared.definition.Def.TheVariants.{Rule}
+use Rattle.spec_lbnf.specs.Faults.{Spells}
+use Rattle.spec_grammar.specs.Grammars.{Grammar}
+use Rattle.spec_lbnf.specs.Expansion.{expansion_of}
+use Rattle.spec_lbnf.specs.Checks.{IsPredefined, IsFree, IsKnown, IsWellLabelled, NamesKnown, AreFit}
+use Rattle.lbnf_readers.specs.Scanning.{scan_of, behind_closing, behind_space, identifier_at, number_token_at, literal_from, string_at, character_at, sign_token_at, token_at, tokens_from}
+use Rattle.lbnf_readers.specs.FileReading.{next_on, take_token, sign_at, name_at, text_at, number_at, closes_at, bracketed_at, category_at, nil_at, one_at, colon_label_at, paren_label_at, sign_label_at, label_at, item_at, items_at, side_at, rule_at, macro_at, list_macro_at, coercions_at, more_entries_at, entries_at, to_end, def_by, def_at}
+use Rattle.lbnf_readers.specs.FileDefinitions.{piece_def, defs_at}
+use Rattle.lbnf_readers.proofs.ScanLemmas.{scanned}
+use Rattle.lbnf_readers.proofs.FaultLemmas.{defs_are}
+use Rattle.spec_script.specs.Script.{Constituent, has, ask}
+use Rattle.spec_script.specs.declared.question.Constituent.TheVariants.{EntryWhole, CategoryWhole}
+use Rattle.spec_script.specs.declared.question.Constituent.TheVariants.{CategorySpan}
+use Rattle.spec_session.specs.Lines.{as_line}
+use Rattle.spec_session.specs.GrammarReplies.{IsAccepted}
+use Rattle.spec_session.specs.Answers.{IsDerived, IsHasAnswer, refused_has, of_no_category, of_no_span, yes, no}
+use Rattle.spec_session.specs.Steps.{IsReply}
+
+-- the grammar's block
+abbrev pub rule_block : List ℕ
+rule_block = codes "A.S::=\"a\""
+
+-- the definition that it spells
+abbrev rule_def : Def
+rule_def = Rule (record { label = Named (codes "A"); cat = record { name = codes "S"; depth = 0 }; items = Word (codes "a") ∷ [] })
+
+abbrev rule_defs : List Def
+rule_defs = rule_def ∷ []
+
+-- the grammar that this stands for
+abbrev pub rule_grammar : Grammar
+rule_grammar = expansion_of rule_defs
+
+-- so the block is read
+spells : Spells rule_block rule_defs
+unfolding encode_utf8 chars is_utf8 behind_closing behind_space identifier_at number_token_at literal_from string_at character_at sign_token_at token_at tokens_from next_on take_token sign_at name_at text_at number_at closes_at bracketed_at category_at nil_at one_at colon_label_at paren_label_at sign_label_at label_at item_at items_at side_at rule_at macro_at list_macro_at coercions_at more_entries_at entries_at to_end def_by def_at piece_def defs_at
+spells =
+    defs_are rule_block (scan_of rule_block).0 (scan_of rule_block).1 (scanned rule_block) rule_defs (omega arith) (IsUtf8-from_is_utf8 rule_block refl) refl refl
+
+-- no predefined name has one byte
+own_name : IsPredefined (codes "S") → ⊥
+own_name (zero, lt, e) = omega (arith, ap length e)
+own_name (suc zero, lt, e) = omega (arith, ap length e)
+own_name (suc (suc zero), lt, e) = omega (arith, ap length e)
+own_name (suc (suc (suc zero)), lt, e) = omega (arith, ap length e)
+own_name (suc (suc (suc (suc zero))), lt, e) = omega (arith, ap length e)
+own_name (suc (suc (suc (suc (suc k)))), lt, e) = omega (arith, lt)
+
+-- the right side has no category
+no_category : (before : List Symbol) (b : ℕ) (behind : List Symbol) → Kind 0 ∷ [] ≡ before ++ (Category b ∷ behind) → ⊥
+no_category [] b behind e = cc e
+no_category (x ∷ before) b behind e = omega (arith, ap length e, length-append before (Category b ∷ behind))
+
+-- so no category steps to one
+no_step : (a b : ℕ) → StepsTo rule_grammar.rules a b → ⊥
+no_step a b s = by s.r s.is_rule
+  where
+    by : (r : ℕ) → slice_get rule_grammar.rules r ≡ Some s.rule → ⊥
+    by zero is =
+        no_category s.before b s.behind (ap (λ (x : GrammarRule). x.items) (same_Some _ s.rule is) ∙ s.is_item)
+    by (suc r) is = none-some s.rule is
+
+-- the definition passes all checks
+fit : AreFit rule_defs
+fit = record {
+  labelled = All-from_recursion IsWellLabelled rule_defs ((λ bad. cc bad.0, λ bad. omega (arith, bad)), tt);
+  few = omega arith;
+  own_names = All-from_recursion IsFree (codes "S" ∷ []) (own_name, tt);
+  known = All-from_recursion (NamesKnown rule_defs) rule_defs (All-from_recursion (IsKnown rule_defs) [] tt, tt);
+  acyclic = λ c is. no_step c is.1.0 is.1.1;
+}
+
+-- so the block is accepted
+pub accepted : IsAccepted rule_block rule_grammar
+accepted = (rule_defs, spells, record { fit = fit; few = omega arith }, refl)
+
+-- the text's one token
+abbrev pub one_token : List Token
+one_token = token 0 0 1 ∷ []
+
+-- the lexer computes it
+pub are_tokens : AreTokensOf rule_grammar.lexicon.kinds (codes "a") one_token
+are_tokens = tokens_of_is rule_grammar.lexicon.kinds (codes "a") one_token refl
+
+-- the category derives it
+derived : Derives rule_grammar.rules (kinds_of one_token) (Category 0) 0 1
+derived = (
+  node 0 0 1 (trees (leaf 0 0 1) no_trees),
+  (_, refl, refl, (_, _, _, refl, (refl, refl, refl, refl, refl), (refl, refl)), refl, refl),
+)
+
+-- no right side is empty
+full : AreFull rule_grammar.rules
+full zero other is empty = cc
+full (suc r) other is empty = cc
+
+-- the texts so far
+abbrev pub one_text : List (List ℕ)
+one_text = codes "a" ∷ []
+
+-- the constituents of the questions
+abbrev pub category_s : Constituent
+category_s = CategoryWhole (codes "S")
+
+abbrev pub category_t : Constituent
+category_t = CategoryWhole (codes "T")
+
+abbrev pub span_to : ℕ → Constituent
+span_to end = CategorySpan (codes "S") 0 end
+
+-- a question has the reply that is its answer
+reply : (constituent : Constituent) (line : List ℕ) → IsHasAnswer rule_grammar one_token constituent line → IsReply rule_grammar one_text (ask (has constituent)) line
+reply constituent line answer = (codes "a", one_token, ([], refl), are_tokens, answer)
+
+-- the entry and the category derive the text
+pub entry_reply : IsReply rule_grammar one_text (ask (has EntryWhole)) (codes "yes\n")
+entry_reply =
+    reply EntryWhole (codes "yes\n")
+    (yes (omega arith, omega arith) (record { category = 0; is_category = refl; derives = derived }) refl)
+
+pub category_reply : IsReply rule_grammar one_text (ask (has category_s)) (codes "yes\n")
+category_reply =
+    reply category_s (codes "yes\n")
+    (yes (omega arith, omega arith) (record { category = 0; is_category = refl; derives = derived }) refl)
+
+-- the category derives no empty span
+pub empty_reply : IsReply rule_grammar one_text (ask (has (span_to 0))) (codes "no\n")
+empty_reply =
+    reply (span_to 0) (codes "no\n")
+    (no (0, refl) (omega arith, omega arith)
+    (λ (d : IsDerived rule_grammar one_token (span_to 0)).
+    omega (arith, derives_grows rule_grammar.rules (kinds_of one_token) full (Category d.category) 0 0 d.derives)) refl)
+
+-- no category has the name `T`
+no_other : (category : ℕ) → slice_get rule_grammar.categories category ≡ Some (codes "T") → ⊥
+no_other zero is = omega (arith, ap (λ name. get_or name 0 0) (same_Some (codes "S") (codes "T") is))
+no_other (suc category) is = none-some (codes "T") is
+
+-- so a question on it is refused
+pub unknown_reply : IsReply rule_grammar one_text (ask (has category_t)) (codes "refused category\n")
+unknown_reply =
+    reply category_t (codes "refused category\n")
+    (refused_has (of_no_category (λ known. no_other known.0 known.1) refl))
+
+-- the text has no two tokens
+pub outside_reply : IsReply rule_grammar one_text (ask (has (span_to 2))) (codes "refused span 1\n")
+outside_reply =
+    reply (span_to 2) (codes "refused span 1\n")
+    (refused_has (of_no_span (0, refl) (inr (omega arith))
+    (ap (λ digits. codes "refused span " ++ as_line digits) (sym (decimal_digit 1 (omega arith))))))

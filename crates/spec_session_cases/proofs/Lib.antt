@@ -1,0 +1,3 @@
+mod GrammarExample
+mod ExamplesLemmas
+mod SessionExamples

@@ -1,0 +1,186 @@
+-- Sessions over a grammar of one rule, `A. S ::= "a"`, and the text `a`, worked by hand.
+use Rattle.std.proofs.Common.{◌≡◌, ℕ, ◌+◌, ◌^◌, ◌<◌, List, [], ◌∷◌, ◌++◌, length, drop, codes, decimal, refl, sym, ◌∙◌, ap, subst, arith, get_or, length-append}
+use Rattle.std.proofs.lemmas.Fmt.{decimal_digit, decimal-digits_value}
+use Rattle.std.specs.Str.{IsAscii}
+use Rattle.std.proofs.lemmas.Str.Ascii.{IsAscii-from_all}
+use Rattle.std.proofs.lemmas.List.Elements.{All-from_recursion}
+use Rattle.spec_script.specs.Script.{Constituent, Command, header, grammar, opens, has, ask, text_of}
+use Rattle.spec_script.specs.Script.{line_of, IsWord, IsNameable, IsWithinLimits, AreQuestions}
+use Rattle.spec_script.specs.Script.{BeginsWithCommands, EndsAs, Ending, ended, broken, IsScript}
+use Rattle.spec_script.specs.declared.question.Constituent.TheVariants.{EntryWhole}
+use Rattle.spec_session.specs.Lines.{as_line}
+use Rattle.spec_session.specs.GrammarReplies.{grammar_reply}
+use Rattle.spec_session.specs.Steps.{version_reply, IsReply}
+use Rattle.spec_session.specs.Sessions.{AreReplies, last_line, last_status, IsSession, whole}
+use Rattle.spec_session_cases.specs.Examples.{front, front_replies}
+use Rattle.spec_script.proofs.ScriptLemmas.{model}
+use Rattle.spec_session_cases.proofs.GrammarExample.{rule_block, rule_grammar, accepted, one_token, are_tokens, one_text, category_s, category_t, span_to, entry_reply, category_reply, empty_reply, unknown_reply, outside_reply}
+
+-- the answer to a question comes before those to others
+told : (constituent : Constituent) (line rest : List ℕ) (questions : List Command) →
+    IsReply rule_grammar one_text (ask (has constituent)) line → AreReplies rule_grammar one_text questions rest →
+    AreReplies rule_grammar one_text (ask (has constituent) ∷ questions) (line ++ rest)
+told constituent line rest questions is others = (line, rest, is, refl, others)
+
+-- a command that has these bytes stands before other commands
+next : (command : Command) (bytes : List ℕ) (at end : ℕ) (commands : List Command) (more rest : List ℕ) →
+    text_of command ≡ bytes → at < 2 ^ 48 → IsWithinLimits command →
+    BeginsWithCommands (at + length bytes) more commands end rest → BeginsWithCommands at (bytes ++ more) (command ∷ commands) end rest
+next command bytes at end commands more rest is early within begins = (
+  more,
+  early,
+  within,
+  ap (λ front. front ++ more) (sym is),
+  subst (λ (front : List ℕ). BeginsWithCommands (at + length front) more commands end rest) (sym is) begins,
+)
+
+-- the reply to the grammar
+abbrev counts : List ℕ
+counts = codes "grammar rules 1 categories 1 kinds 1\n"
+
+counts_are : counts ≡ grammar_reply rule_grammar
+counts_are =
+    ap (λ digits. codes "grammar rules " ++ (digits ++ (codes " categories " ++ (digits ++ (codes " kinds " ++ as_line digits)))))
+    (sym (decimal_digit 1 (omega arith)))
+
+-- the reply to the text
+abbrev version : List ℕ
+version = codes "version 0 tokens 1\n"
+
+version_is : version ≡ version_reply 0 1
+version_is =
+    ap (λ digits. codes "version " ++ (digits ++ codes " tokens 1\n")) (sym (decimal_digit 0 (omega arith)))
+    ∙ ap (λ digits. codes "version " ++ (decimal 0 ++ (codes " tokens " ++ as_line digits))) (sym (decimal_digit 1 (omega arith)))
+
+-- the commands before the questions
+abbrev commands : List Command → List Command
+commands questions = header ∷ grammar rule_block ∷ opens (codes "a") ∷ questions
+
+-- where questions have these bytes and these answers, and the script ends so behind them
+module _ (questions : List Command) (asked answers last : List ℕ) (at : ℕ) (rest : List ℕ) (ending : Ending)
+    (in_order : AreQuestions questions) (begins : BeginsWithCommands 38 asked questions at rest)
+    (replies : AreReplies rule_grammar one_text questions answers)
+    (ends : EndsAs (commands questions) at rest ending) (last_is : last ≡ last_line ending) where
+  ascii : IsAscii (codes "a")
+  ascii = IsAscii-from_all (codes "a") (All-from_recursion (λ (byte : ℕ). byte < 128) (codes "a") (omega arith, tt))
+
+  -- the input begins with the commands
+  begins_all : BeginsWithCommands 0 (front ++ asked) (commands questions) at rest
+  begins_all =
+      next header (codes "script 1\n") 0 at (grammar rule_block ∷ opens (codes "a") ∷ questions) _ rest refl (omega arith) tt
+      (next (grammar rule_block) (codes "grammar 9\nA.S::=\"a\"\n") 9 at (opens (codes "a") ∷ questions) _ rest
+      (ap (λ digits. (codes "grammar " ++ digits) ++ (10 ∷ (rule_block ++ 10 ∷ []))) (decimal_digit 9 (omega arith)))
+      (omega arith) (omega arith)
+      (next (opens (codes "a")) (codes "open 1\na\n") 29 at questions asked rest
+      (ap (λ digits. (codes "open " ++ digits) ++ codes "\na\n") (decimal_digit 1 (omega arith)))
+      (omega arith) (omega arith, ascii) begins))
+
+  -- the text and the questions have these replies
+  all_replies : AreReplies rule_grammar [] (opens (codes "a") ∷ questions) (version ++ answers)
+  all_replies = (version, answers, (one_token, are_tokens, version_is), refl, replies)
+
+  -- the session is these replies and the last line
+  pub small_session : IsSession (front ++ asked) (front_replies ++ (answers ++ last)) (last_status ending)
+  small_session =
+      let script : IsScript (front ++ asked) (commands questions) ending =
+      record { at = at; rest = rest; in_order = in_order; begins = begins_all; ends = ends } in
+      let told_all : List ℕ = grammar_reply rule_grammar ++ (version ++ answers) in
+      let out_is : front_replies ++ (answers ++ last) ≡ told_all ++ last_line ending =
+      ap (λ bytes. (bytes ++ (version ++ answers)) ++ last) counts_are
+      ∙ ap (λ bytes. told_all ++ bytes) last_is in
+      whole (commands questions) ending told_all script (rule_grammar, version ++ answers, accepted, all_replies, refl) out_is refl
+
+-- the bytes of a question on a span from 0 to one digit
+span_text : (end : ℕ) → end < 10 → text_of (ask (has (span_to end))) ≡ codes "has S 0 " ++ ((48 + end) ∷ 10 ∷ [])
+span_text end small =
+    ap (λ digits. codes "has S " ++ ((digits ++ (32 ∷ decimal end)) ++ 10 ∷ [])) (decimal_digit 0 (omega arith))
+    ∙ ap (λ digits. codes "has S 0 " ++ (digits ++ 10 ∷ [])) (decimal_digit end small)
+
+-- a byte that is neither a space nor LF is a word
+one_byte : (byte : ℕ) → (byte ≡ 32 → ⊥) → (byte ≡ 10 → ⊥) → IsWord (byte ∷ [])
+one_byte byte space lf = record {
+  some = omega arith;
+  each = All-from_recursion (λ (b : ℕ). (b ≡ 32 → ⊥) × (b ≡ 10 → ⊥)) (byte ∷ []) ((space, lf), tt);
+}
+
+-- the names of the questions are words
+word_s : IsWord (codes "S")
+word_s = one_byte 83 (λ e. omega (arith, e)) (λ e. omega (arith, e))
+
+word_t : IsWord (codes "T")
+word_t = one_byte 84 (λ e. omega (arith, e)) (λ e. omega (arith, e))
+
+-- a question on such a span keeps the limits
+span_within : (end : ℕ) → end < 10 → IsWithinLimits (ask (has (span_to end)))
+span_within end small =
+    let named : IsNameable (span_to end) = (word_s, omega arith, omega arith) in
+    let size = length-append (line_of (ask (has (span_to end)))) (10 ∷ []) in
+    (named, omega (arith, ap length (span_text end small), size))
+
+-- a script without questions
+pub no_question : IsSession (front ++ codes "end\n") (front_replies ++ codes "end\n") 0
+no_question =
+    small_session [] (codes "end\n") [] (codes "end\n") 38 (codes "end\n") ended tt (refl, refl) refl
+    (record { more = []; early = omega arith; complete = tt; spelled = refl }) refl
+
+-- the questions of the whole session
+abbrev questions : List Command
+questions =
+    ask (has EntryWhole) ∷ ask (has category_s) ∷ ask (has (span_to 0)) ∷ ask (has category_t)
+    ∷ ask (has (span_to 2)) ∷ []
+
+-- and their bytes
+questions_begin : BeginsWithCommands 38 (codes "has\nhas S\nhas S 0 0\nhas T\nhas S 0 2\nend\nhas") questions 74 (codes "end\nhas")
+questions_begin =
+    let end : List ℕ = codes "end\nhas" in
+    let fifth = next (ask (has (span_to 2))) (codes "has S 0 2\n") 64 74 [] end end
+    (span_text 2 (omega arith)) (omega arith) (span_within 2 (omega arith)) (refl, refl) in
+    let fourth = next (ask (has category_t)) (codes "has T\n") 58 74 (drop 4 questions) (codes "has S 0 2\nend\nhas") end
+    refl (omega arith) (word_t, omega arith) fifth in
+    let third = next (ask (has (span_to 0))) (codes "has S 0 0\n") 48 74 (drop 3 questions) (codes "has T\nhas S 0 2\nend\nhas") end
+    (span_text 0 (omega arith)) (omega arith) (span_within 0 (omega arith)) fourth in
+    let second = next (ask (has category_s)) (codes "has S\n") 42 74 (drop 2 questions) (codes "has S 0 0\nhas T\nhas S 0 2\nend\nhas") end
+    refl (omega arith) (word_s, omega arith) third in
+    next (ask (has EntryWhole)) (codes "has\n") 38 74 (drop 1 questions) (codes "has S\nhas S 0 0\nhas T\nhas S 0 2\nend\nhas") end
+    refl (omega arith) (tt, omega arith) second
+
+-- and their answers
+questions_told : AreReplies rule_grammar one_text questions (codes "yes\nyes\nno\nrefused category\nrefused span 1\n")
+questions_told =
+    let fifth = told (span_to 2) (codes "refused span 1\n") [] [] outside_reply refl in
+    let fourth = told category_t (codes "refused category\n") (codes "refused span 1\n") (drop 4 questions) unknown_reply fifth in
+    let third = told (span_to 0) (codes "no\n") (codes "refused category\nrefused span 1\n") (drop 3 questions) empty_reply fourth in
+    let second = told category_s (codes "yes\n") (codes "no\nrefused category\nrefused span 1\n") (drop 2 questions) category_reply third in
+    told EntryWhole (codes "yes\n") (codes "yes\nno\nrefused category\nrefused span 1\n") (drop 1 questions) entry_reply second
+
+-- each answer once, and the end
+pub whole_session : IsSession
+    (front ++ codes "has\nhas S\nhas S 0 0\nhas T\nhas S 0 2\nend\nhas")
+    (front_replies ++ codes "yes\nyes\nno\nrefused category\nrefused span 1\nend\n") 0
+whole_session =
+    small_session questions _ (codes "yes\nyes\nno\nrefused category\nrefused span 1\n") (codes "end\n") 74 (codes "end\nhas") ended tt
+    questions_begin questions_told
+    (record { more = codes "has"; early = omega arith; complete = tt; spelled = refl }) refl
+
+-- a second text is no question
+no_second : (command : Command) (more : List ℕ) → AreQuestions (command ∷ []) → codes "open 1\na\nend\n" ≡ text_of command ++ more → ⊥
+no_second header more are e = are
+no_second (grammar block) more are e = are
+no_second (opens text) more are e = are
+no_second (ask (has constituent)) more are e = omega (arith, ap (λ bytes. get_or bytes 0 0) e)
+
+-- a script that breaks at a place of two digits
+refused_line : codes "script refused 44\n" ≡ last_line (broken 44)
+refused_line =
+    ap (λ digits. codes "script refused " ++ as_line digits)
+    (sym (decimal-digits_value model (codes "44") refl (omega arith) (λ e. omega (arith, e)) (omega arith)))
+
+-- behind a question no text follows
+pub second_text : IsSession
+    (front ++ codes "has S\nopen 1\na\nend\n") (front_replies ++ codes "yes\nscript refused 44\n") 3
+second_text =
+    small_session (ask (has category_s) ∷ []) _ (codes "yes\n") (codes "script refused 44\n") 44 (codes "open 1\na\nend\n") (broken 44) tt
+    (next (ask (has category_s)) (codes "has S\n") 38 44 [] _ _ refl (omega arith) (word_s, omega arith) (refl, refl))
+    (told category_s (codes "yes\n") [] [] category_reply refl)
+    (refl, (λ go. no_second go.command go.more go.in_order go.spelled), (λ end. omega (arith, ap (λ bytes. get_or bytes 0 0) end.spelled)))
+    refused_line

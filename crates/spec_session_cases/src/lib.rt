@@ -1,0 +1,6 @@
+//! Small sessions by hand, which the definitions of sessions give.
+#![tactic(auto)]
+
+mod laws;
+
+pub use laws::small_sessions;
