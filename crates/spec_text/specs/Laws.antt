@@ -1,5 +1,5 @@
 -- The laws of scalars.
-use Rattle.std.specs.Prelude.{◌≡◌, ℕ, List, length, slice_index}
+use Rattle.std.specs.Prelude.{◌≡◌, ℕ, length, slice_index}
 use Rattle.std.specs.Char.{IsScalar, encode_utf8}
 use Rattle.spec_text.specs.Scalars.{scalar_len}
 
