@@ -25,7 +25,12 @@ impl Model for Grammar {
     ghost use Rattle.spec_lbnf.specs.Expansion.{Expansion};
     ghost use Rattle.lbnf_grammar.specs.Ranks.{AreRanks};
 
+    ghost use Rattle.std.specs.Coded.{codes};
+    ghost use Rattle.spec_lexing.specs.contracts.expression.Expr as expr;
+
     ghost Value = { Expansion };
+
+    ghost coded = { Prim.hlevel (codes, expr.the_row.coded) };
 
     ghost view = { λ g. g.parts };
 

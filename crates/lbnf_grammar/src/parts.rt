@@ -23,7 +23,12 @@ impl Model for GrammarParts {
     ghost use Rattle.spec_lbnf.specs.Expansion.{Expansion, HasOwnSymbols, IsSymbolOf, item_count};
     ghost use Rattle.lbnf_grammar.specs.Grammars.{grammar_of_parts};
 
+    ghost use Rattle.std.specs.Coded.{codes};
+    ghost use Rattle.spec_lexing.specs.contracts.expression.Expr as expr;
+
     ghost Value = { Expansion };
+
+    ghost coded = { Prim.hlevel (codes, expr.the_row.coded) };
 
     ghost view = { λ g. grammar_of_parts g.rules.items g.categories.items g.kinds.items g.entry };
 

@@ -1,5 +1,5 @@
 -- Tests of what the kinds of a lexicon match, and the lexer of a lexicon.
-use Rattle.std.proofs.Common.{◌≡◌, ℕ, List, [], ◌∷◌, ◌++◌, length, Bool, true, false, ◌&&◌, not, nat_eq, refl, sym, ◌∙◌, arith}
+use Rattle.std.proofs.Common.{◌≡◌, ℕ, List, [], ◌∷◌, ◌++◌, length, Bool, true, false, ◌&&◌, not, nat_eq, refl, ap₂, subst, arith}
 use Rattle.std.specs.Bool.{Decides}
 use Rattle.std.specs.Str.{bytes_eq}
 use Rattle.std.proofs.lemmas.Bool.Decides.{Decides-like, Decides-and, Decides-not, Decides-by_and}
@@ -9,8 +9,8 @@ use Rattle.spec_lexing.specs.declared.kind_def.KindDef.{KindDef}
 use Rattle.spec_lexing.specs.declared.kind_def.KindDef.TheVariants.{Word, Token as TokenDef}
 use Rattle.spec_lexing.specs.declared.token.Token.{Token}
 use Rattle.spec_lexing.specs.Expressions.{expression_of}
-use Rattle.spec_lexing.specs.Lexicon.{Lexicon}
-use Rattle.spec_lexing.specs.Kinds.{LexKind, white, line_comment, block_comment, symbol, IsOnLine, EndsFirst, MatchesDef, MatchesKind, token_kind, lex_kinds}
+use Rattle.spec_lexing.specs.Lexicon.{Lexicon, lexicon_of}
+use Rattle.spec_lexing.specs.Kinds.{LexKind, white, line_comment, block_comment, symbol, HasWordsAlone, IsOnLine, EndsFirst, MatchesDef, MatchesKind, token_kind, lex_kinds}
 use Rattle.spec_lexing.specs.Tokens.{Match, tokens_of as tokens_of_matches, AreTokensOf}
 use Rattle.spec_lexing.proofs.MatchingTests.{is_empty, is_empty-Decides, some_cut, HasCut, some_cut-Decides, matches as expression_matches, matches-Decides as expression_matches-Decides}
 use Rattle.spec_lexing.proofs.LexerByTests.{matches_from, matches_are}
@@ -158,12 +158,13 @@ tokens_of lexicon text = tokens_of_matches token_kind (matches_of lexicon text)
 
 -- these are the tokens of the text
 are_tokens : (lexicon : Lexicon) (text : List ℕ) → AreTokensOf lexicon text (tokens_of lexicon text)
-are_tokens lexicon text = (
-  matches_of lexicon text,
-  matches_are MatchesKind matches matches-Decides (lex_kinds lexicon) text (length text) 0
-      (omega arith) (omega arith),
-  refl,
-)
+are_tokens lexicon text = record {
+  matches = matches_of lexicon text;
+  are_matches =
+      matches_are MatchesKind matches matches-Decides (lex_kinds lexicon) text (length text) 0
+      (omega arith) (omega arith);
+  kept = refl;
+}
 
 -- the text has tokens
 pub some_tokens : (lexicon : Lexicon) (text : List ℕ) → (tokens : List Token) × AreTokensOf lexicon text tokens
@@ -172,6 +173,10 @@ some_tokens lexicon text = (tokens_of lexicon text, are_tokens lexicon text)
 -- what the lexer gives are the tokens of the text
 pub tokens_of_is : (lexicon : Lexicon) (text : List ℕ) (tokens : List Token) →
     tokens_of lexicon text ≡ tokens → AreTokensOf lexicon text tokens
-tokens_of_is lexicon text tokens e =
-    let are = are_tokens lexicon text in
-    (are.0, are.1, sym e ∙ are.2)
+tokens_of_is lexicon text tokens e = subst (AreTokensOf lexicon text) e (are_tokens lexicon text)
+
+-- a lexicon of words alone is that of its kinds
+pub lexicon_of_words : (lexicon : Lexicon) → HasWordsAlone lexicon → lexicon ≡ lexicon_of lexicon.kinds
+lexicon_of_words lexicon words =
+    ap₂ (λ lines blocks. record { line_comments = lines; block_comments = blocks; kinds = lexicon.kinds })
+    words.no_lines words.no_blocks

@@ -1,5 +1,5 @@
 -- Lists of matches are unique and cover their texts; and the tokens before those of a later place.
-use Rattle.std.proofs.Common.{◌≡◌, ℕ, ◌+◌, ◌<◌, ◌≤◌, List, [], ◌∷◌, length, Option, Some, None, slice_get, slice_index, refl, ap, arith}
+use Rattle.std.proofs.Common.{◌≡◌, ℕ, ◌+◌, ◌<◌, ◌≤◌, List, [], ◌∷◌, length, Option, Some, None, slice_get, slice_index, refl, sym, ◌∙◌, ap, arith}
 use Rattle.std.proofs.lemmas.Bool.Decides.{nat_tests}
 use Rattle.std.specs.List.{cons_option}
 use Rattle.spec_text.specs.Scalars.{scalar_len}
@@ -97,16 +97,16 @@ module _ {K : Type 0} (Matches : K → List ℕ → Type 0) (kinds : List K) (te
   covering place matches (stray _ end others before none e rest) =
       (refl, omega (arith, (scalar_end_within text place before).0), covering end others rest)
 
-module _ {K : Type 0} (Matches : K → List ℕ → Type 0) (number_of : K → Option ℕ) (kinds : List K)
+module _ {K : Type 0} (Matches : K → List ℕ → Type 0) (token_number : K → Option ℕ) (kinds : List K)
     (text : List ℕ) where
   -- two token lists from a place are equal
   pub one_token_list : (place : ℕ) (tokens others : List Token) →
-      AreTokensFrom Matches number_of kinds text place tokens →
-      AreTokensFrom Matches number_of kinds text place others → tokens ≡ others
+      AreTokensFrom Matches token_number kinds text place tokens →
+      AreTokensFrom Matches token_number kinds text place others → tokens ≡ others
   one_token_list place tokens others t u =
-      let same : t.0 ≡ u.0 = one_list Matches kinds text place t.0 u.0 t.1 u.1 in
-      let of_same : tokens_of number_of t.0 ≡ tokens_of number_of u.0 = ap (tokens_of number_of) same in
-      cc
+      let same : t.matches ≡ u.matches =
+      one_list Matches kinds text place t.matches u.matches t.are_matches u.are_matches in
+      t.kept ∙ ap (tokens_of token_number) same ∙ sym u.kept
 
   -- at most one token more
   one_more : (token : Option Token) (tokens : List Token) →
@@ -116,56 +116,56 @@ module _ {K : Type 0} (Matches : K → List ℕ → Type 0) (number_of : K → O
 
   -- a list of matches has at most as many tokens as bytes
   few : (place : ℕ) (matches : List (Match K)) → AreMatchesFrom Matches kinds text place matches →
-      place + length (tokens_of number_of matches) ≤ length text
+      place + length (tokens_of token_number matches) ≤ length text
   few place matches (at_end _ e) = omega arith
   few place matches (longest _ end order kind others m is rest) =
       omega (
         arith,
         m.some,
         few end others rest,
-        one_more (token_at number_of place end (Some kind)) (tokens_of number_of others),
+        one_more (token_at token_number place end (Some kind)) (tokens_of token_number others),
       )
   few place matches (stray _ end others before none e rest) =
       omega (arith, (scalar_end_within text place before).0, few end others rest)
 
   -- there are at most as many tokens from a place on as there are bytes
   pub few_tokens : (place : ℕ) (tokens : List Token) →
-      AreTokensFrom Matches number_of kinds text place tokens → place + length tokens ≤ length text
-  few_tokens place tokens t = omega (arith, few place t.0 t.1, ap length t.2)
+      AreTokensFrom Matches token_number kinds text place tokens → place + length tokens ≤ length text
+  few_tokens place tokens t = omega (arith, few place t.matches t.are_matches, ap length t.kept)
 
   -- at the end of the text there are no tokens
-  pub no_tokens : (place : ℕ) → place ≡ length text → AreTokensFrom Matches number_of kinds text place []
-  no_tokens place e = ([], at_end place e, refl)
+  pub no_tokens : (place : ℕ) → place ≡ length text → AreTokensFrom Matches token_number kinds text place []
+  no_tokens place e = record { matches = []; are_matches = at_end place e; kept = refl }
 
   -- a longest match that gives no token, before tokens
   pub skips : (start end order : ℕ) (kind : K) (tokens : List Token) →
       IsLongestMatch Matches kinds text order start end → slice_get kinds order ≡ Some kind →
-      number_of kind ≡ None → AreTokensFrom Matches number_of kinds text end tokens →
-      AreTokensFrom Matches number_of kinds text start tokens
-  skips start end order kind tokens m is none rest = (
-    record { kind = Some kind; first = start; end = end } ∷ rest.0,
-    longest start end order kind rest.0 m is rest.1,
-    rw none rest.2,
-  )
+      token_number kind ≡ None → AreTokensFrom Matches token_number kinds text end tokens →
+      AreTokensFrom Matches token_number kinds text start tokens
+  skips start end order kind tokens m is none rest = record {
+    matches = record { kind = Some kind; first = start; end = end } ∷ rest.matches;
+    are_matches = longest start end order kind rest.matches m is rest.are_matches;
+    kept = rw none rest.kept;
+  }
 
   -- a longest match that is a token of its kind, before tokens
   pub keeps : (start end order number : ℕ) (kind : K) (tokens : List Token) →
       IsLongestMatch Matches kinds text order start end → slice_get kinds order ≡ Some kind →
-      number_of kind ≡ Some number → AreTokensFrom Matches number_of kinds text end tokens →
-      AreTokensFrom Matches number_of kinds text start (token_of (Some number) start end ∷ tokens)
-  keeps start end order number kind tokens m is some rest = (
-    record { kind = Some kind; first = start; end = end } ∷ rest.0,
-    longest start end order kind rest.0 m is rest.1,
-    rw some (ap (λ ts. token_of (Some number) start end ∷ ts) rest.2),
-  )
+      token_number kind ≡ Some number → AreTokensFrom Matches token_number kinds text end tokens →
+      AreTokensFrom Matches token_number kinds text start (token_of (Some number) start end ∷ tokens)
+  keeps start end order number kind tokens m is some rest = record {
+    matches = record { kind = Some kind; first = start; end = end } ∷ rest.matches;
+    are_matches = longest start end order kind rest.matches m is rest.are_matches;
+    kept = rw some (ap (λ ts. token_of (Some number) start end ∷ ts) rest.kept);
+  }
 
   -- a stray token before tokens
   pub strays : (start end : ℕ) (tokens : List Token) → start < length text →
       IsUnmatched Matches kinds text start → end ≡ scalar_end text start →
-      AreTokensFrom Matches number_of kinds text end tokens →
-      AreTokensFrom Matches number_of kinds text start (token_of None start end ∷ tokens)
-  strays start end tokens before none e rest = (
-    record { kind = None; first = start; end = end } ∷ rest.0,
-    stray start end rest.0 before none e rest.1,
-    ap (λ ts. token_of None start end ∷ ts) rest.2,
-  )
+      AreTokensFrom Matches token_number kinds text end tokens →
+      AreTokensFrom Matches token_number kinds text start (token_of None start end ∷ tokens)
+  strays start end tokens before none e rest = record {
+    matches = record { kind = None; first = start; end = end } ∷ rest.matches;
+    are_matches = stray start end rest.matches before none e rest.are_matches;
+    kept = ap (λ ts. token_of None start end ∷ ts) rest.kept;
+  }

@@ -32,10 +32,10 @@ HasOneMatchList {K} Matches =
 
 -- any two token lists from a place to the end of the text are equal
 abbrev pub HasOneTokenList : {K : Type 0} → (K → List ℕ → Type 0) → (K → Option ℕ) → Type 0
-HasOneTokenList {K} Matches number_of =
+HasOneTokenList {K} Matches token_number =
     (kinds : List K) (text : List ℕ) (place : ℕ) (tokens others : List Token) →
-    AreTokensFrom Matches number_of kinds text place tokens →
-    AreTokensFrom Matches number_of kinds text place others →
+    AreTokensFrom Matches token_number kinds text place tokens →
+    AreTokensFrom Matches token_number kinds text place others →
     tokens ≡ others
 
 -- each list of bytes has a token list under each lexicon
@@ -59,7 +59,7 @@ HasCoveringMatches {K} Matches =
 
 -- there are at most as many tokens from a place on as there are bytes
 abbrev pub HasFewTokens : {K : Type 0} → (K → List ℕ → Type 0) → (K → Option ℕ) → Type 0
-HasFewTokens {K} Matches number_of =
+HasFewTokens {K} Matches token_number =
     (kinds : List K) (text : List ℕ) (place : ℕ) (tokens : List Token) →
-    AreTokensFrom Matches number_of kinds text place tokens →
+    AreTokensFrom Matches token_number kinds text place tokens →
     place + length tokens ≤ length text

@@ -35,25 +35,25 @@ module _ {K : Type 0} (Matches : K → List ℕ → Type 0) (kinds : List K) (te
         AreMatchesFrom end matches →
         AreMatchesFrom start (record { kind = None; first = start; end = end } ∷ matches)
 
-module _ {K : Type 0} (number_of : K → Option ℕ) where
+module _ {K : Type 0} (token_number : K → Option ℕ) where
   -- the token of these bytes, if the kind bears a number; a stray token has none
   abbrev pub token_at : ℕ → ℕ → Option K → Option Token
   token_at first end None = Some (record { kind = None; first = first; end = end })
   token_at first end (Some kind) =
       option_map (λ number. record { kind = Some number; first = first; end = end })
-      (number_of kind)
+      (token_number kind)
 
   -- the tokens of the matches: those that are kept
   abbrev pub tokens_of : List (Match K) → List Token
   tokens_of matches = filter_map (λ m. token_at m.first m.end m.kind) matches
 
-module _ {K : Type 0} (Matches : K → List ℕ → Type 0) (number_of : K → Option ℕ) (kinds : List K)
+module _ {K : Type 0} (Matches : K → List ℕ → Type 0) (token_number : K → Option ℕ) (kinds : List K)
     (text : List ℕ) where
-  -- the tokens from this place to the end of the text are these
-  abbrev pub AreTokensFrom : ℕ → List Token → Type 0
-  AreTokensFrom place tokens =
-      (matches : List (Match K)) × AreMatchesFrom Matches kinds text place matches
-      × (tokens ≡ tokens_of number_of matches)
+  -- the tokens from this place to the end of the text are these: those of its matches that are kept
+  pub record AreTokensFrom (place : ℕ) (tokens : List Token) : Type 0 where
+    pub matches : List (Match K)
+    pub are_matches : AreMatchesFrom Matches kinds text place matches
+    pub kept : tokens ≡ tokens_of token_number matches
 
 -- the text's tokens under the lexicon are these
 abbrev pub AreTokensOf : Lexicon → List ℕ → List Token → Type 0

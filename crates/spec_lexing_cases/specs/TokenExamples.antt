@@ -7,16 +7,12 @@ use Rattle.spec_lexing.specs.declared.kind_def.KindDef.TheVariants.{Word, Token 
 use Rattle.spec_lexing.specs.declared.token.Token.{Token}
 use Rattle.spec_lexing.specs.Expressions.{expression_of}
 use Rattle.spec_lexing.specs.Predefined.{ident}
-use Rattle.spec_lexing.specs.Lexicon.{Lexicon}
+use Rattle.spec_lexing.specs.Lexicon.{Lexicon, lexicon_of}
 use Rattle.spec_lexing.specs.Tokens.{AreTokensOf}
 
 -- the lexicon of these words, numbered from 0, without comments
 abbrev pub words : List String → Lexicon
-words texts = record {
-  line_comments = [];
-  block_comments = [];
-  kinds = map (λ (text : String). Word (codes text)) texts;
-}
+words texts = lexicon_of (map (λ (text : String). Word (codes text)) texts)
 
 -- the lexicon of these words, with line comments from -- on and block comments between /* and */
 abbrev pub commented : List String → Lexicon
@@ -28,11 +24,7 @@ commented texts = record {
 
 -- the lexicon of a word and of a token with this expression behind it
 abbrev pub word_and_token : String → Expr → Lexicon
-word_and_token text expr = record {
-  line_comments = [];
-  block_comments = [];
-  kinds = Word (codes text) ∷ TokenDef (codes "T") expr ∷ [];
-}
+word_and_token text expr = lexicon_of (Word (codes text) ∷ TokenDef (codes "T") expr ∷ [])
 
 -- the token of this kind from start up to end
 abbrev pub token : ℕ → ℕ → ℕ → Token

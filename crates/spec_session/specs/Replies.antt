@@ -4,6 +4,7 @@ use Rattle.std.specs.Prelude.{slice_get, Some}
 use Rattle.spec_grammar.specs.declared.rule.Symbol.TheVariants.{Category}
 use Rattle.spec_grammar.specs.Derivation.{Derives}
 use Rattle.spec_lexing.specs.declared.token.Token.{Token}
+use Rattle.spec_lexing.specs.Lexicon.{lexicon_of}
 use Rattle.spec_lexing.specs.Tokens.{AreTokensOf, kinds_of}
 use Rattle.spec_lbnf.specs.declared.definition.Def.{Def}
 use Rattle.spec_lbnf.specs.Faults.{Spells, IsFirstFault, FileFault, too_large, not_utf8, syntax}
@@ -185,8 +186,8 @@ abbrev pub IsReply : Expansion → List (List ℕ) → Command → List ℕ → 
 IsReply g texts header line = ⊥
 IsReply g texts (grammar block) line = ⊥
 IsReply g texts (opens text) line =
-    (tokens : List Token) × AreTokensOf g.kinds text tokens
+    (tokens : List Token) × AreTokensOf (lexicon_of g.kinds) text tokens
     × (line ≡ version_reply (length texts) (length tokens))
 IsReply g texts (has constituent) line =
-    (text : List ℕ) × (tokens : List Token) × IsCurrent texts text × AreTokensOf g.kinds text tokens
-    × IsAnswer g tokens constituent line
+    (text : List ℕ) × (tokens : List Token) × IsCurrent texts text
+    × AreTokensOf (lexicon_of g.kinds) text tokens × IsAnswer g tokens constituent line
