@@ -33,7 +33,12 @@ impl<C: Cell> Model for Binary<C> {
     ghost use Rattle.std.specs.Prelude.{◌≡◌, []};
     ghost use Rattle.spec_grammar.specs.Grammars.{Grammar};
 
+    ghost use Rattle.std.specs.Coded.{codes};
+    ghost use Rattle.spec_lexing.specs.contracts.expression.Expr as expr;
+
     ghost Value = { Grammar };
+
+    ghost coded = { Prim.hlevel (codes, expr.the_row.coded) };
 
     ghost use Rattle.binary_form.specs.Forms.{AreParts, AreCounts};
 

@@ -1,7 +1,8 @@
 -- The binary forms of two small grammars: numbers, closures, products and nullable symbols.
 use Rattle.std.specs.Prelude.{◌≡◌, ℕ, [], ◌∷◌, Some, None, codes}
+use Rattle.spec_lexing.specs.Lexicon.{lexicon_of}
 use Rattle.spec_grammar.specs.declared.rule.Symbol.TheVariants.{Category, Kind}
-use Rattle.spec_grammar.specs.Grammars.{rule_of, lexicon_of_kinds}
+use Rattle.spec_grammar.specs.Grammars.{rule_of}
 use Rattle.spec_lexing.specs.declared.kind_def.KindDef.TheVariants.{Word}
 use Rattle.spec_grammar.specs.Grammars.{Grammar, symbol_count}
 use Rattle.binary_form.specs.Symbols.{BinarySymbol, plain, suffix, symbol_number}
@@ -14,7 +15,7 @@ triples = record {
   rules =
       rule_of 0 (Category 0 ∷ Category 0 ∷ Category 0 ∷ []) ∷ rule_of 0 (Kind 0 ∷ []) ∷ [];
   categories = codes "S" ∷ [];
-  lexicon = lexicon_of_kinds (Word (codes "a") ∷ []);
+  lexicon = lexicon_of (Word (codes "a") ∷ []);
   entry = Some (Category 0);
 }
 
@@ -23,7 +24,7 @@ abbrev pub brackets : Grammar
 brackets = record {
   rules = rule_of 0 (Kind 0 ∷ Category 0 ∷ Kind 1 ∷ []) ∷ rule_of 0 [] ∷ [];
   categories = codes "S" ∷ [];
-  lexicon = lexicon_of_kinds (Word (codes "(") ∷ Word (codes ")") ∷ []);
+  lexicon = lexicon_of (Word (codes "(") ∷ Word (codes ")") ∷ []);
   entry = Some (Category 0);
 }
 

@@ -1,5 +1,6 @@
 -- What the chart has is what the grammar derives, and an empty span is derived where the category is nullable.
-use Rattle.std.proofs.Common.{◌≡◌, ℕ, ◌<◌, ◌≤◌, ◌↔◌, List, [], length, Bool, IsTrue, Contains, sym, subst, ap, arith}
+use Rattle.std.proofs.Common.{◌≡◌, ℕ, ◌<◌, ◌≤◌, ◌↔◌, List, [], length, Bool, IsTrue, Contains, refl, sym, ◌∙◌, subst, ap, arith}
+use Rattle.std.proofs.lemmas.List.{length-map}
 use Rattle.spec_grammar.specs.declared.rule.Symbol.TheVariants.{Category}
 use Rattle.spec_grammar.specs.Derivation.{Derives}
 use Rattle.spec_grammar.proofs.DerivationLemmas.{nullable_derives}
@@ -11,7 +12,9 @@ use Rattle.binary_form.specs.Symbols.{BinarySymbol, plain, BinaryDerives, symbol
 use Rattle.binary_form.specs.BinaryForm.{IsNumberOf, IsNullableNumber}
 use Rattle.binary_form.proofs.NumberLemmas.{number_is_one}
 use Rattle.valiant.specs.Charts.{ChartValue}
-use Rattle.chart_service.specs.Opening.{IsOpened}
+use Rattle.spec_session.specs.Script.{Constituent, entry_whole, category_whole, category_span}
+use Rattle.spec_session.specs.Replies.{IsOfCategory, first_of, end_of, IsWithin, IsDerived, IsAnswer, yes_line, no_line, yes, no}
+use Rattle.chart_service.specs.Opening.{HasNamesAndWords, IsOpened}
 
 module _ (g : Grammar) (chart : ChartValue) (text : List ℕ) (tokens : List Token)
     (o : IsOpened g chart text tokens) (category : ℕ) (own : category < length g.categories)
@@ -54,3 +57,49 @@ module _ (g : Grammar) (chart : ChartValue) (text : List ℕ) (tokens : List Tok
             subst P same (nullable.0 (subst Q same_symbol found.2))),
         (λ d. h.1 (plain (Category category), is_its, nullable.1 (subst P (sym same) d))),
       )
+
+-- a constituent is of one category
+one_category : (g : Expansion) (constituent : Constituent) (c d : ℕ) → HasNamesAndWords g
+    → IsOfCategory g constituent c → IsOfCategory g constituent d → c ≡ d
+one_category g entry_whole c d names is other = cc
+one_category g (category_whole name) c d names is other = names.distinct c d name is other
+one_category g (category_span name first end) c d names is other = names.distinct c d name is other
+
+-- the answer on a constituent of a category within the text, by whether the category derives it
+module _ (g : Expansion) (chart : ChartValue) (text : List ℕ) (tokens : List Token)
+    (o : IsOpened g chart text tokens) (constituent : Constituent) (category size first end : ℕ)
+    (is : IsOfCategory g constituent category) (size_is : size ≡ length chart.kinds)
+    (first_is : first ≡ first_of constituent) (end_is : end ≡ end_of size constituent)
+    (forward : first ≤ end) (inside : end ≤ size) where
+  all_tokens : size ≡ length tokens
+  all_tokens = size_is ∙ ap length (o.is_chart).same_kinds ∙ length-map tokens (λ (token : Token). token.kind)
+
+  ends : end ≡ end_of (length tokens) constituent
+  ends = end_is ∙ ap (λ n. end_of n constituent) all_tokens
+
+  within : IsWithin (length tokens) constituent
+  within = (omega (arith, ends, first_is, forward), omega (arith, ends, all_tokens, inside))
+
+  -- the constituent's span is the one from first to end
+  abbrev DerivesSpan : ℕ → ℕ → Type 0
+  DerivesSpan i j = Derives g.rules (kinds_of tokens) (Category category) i j
+
+  pub answer_yes : Derives g.rules (kinds_of tokens) (Category category) first end →
+      IsAnswer g tokens constituent yes_line
+  answer_yes d =
+      yes within (record {
+        category = category;
+        is_category = is;
+        derives = subst (DerivesSpan (first_of constituent)) ends (subst (λ i. DerivesSpan i end) first_is d);
+      }) refl
+
+  pub answer_no : (Derives g.rules (kinds_of tokens) (Category category) first end → ⊥) →
+      IsAnswer g tokens constituent no_line
+  answer_no never =
+      no (category, is) within
+      (λ d. let same : d.category ≡ category = one_category g constituent d.category category o.distinct d.is_category is in
+      never (subst (λ i. DerivesSpan i end) (sym first_is)
+      (subst (DerivesSpan (first_of constituent)) (sym ends)
+      (subst (λ c. Derives g.rules (kinds_of tokens) (Category c) (first_of constituent) (end_of (length tokens) constituent))
+      same d.derives))))
+      refl

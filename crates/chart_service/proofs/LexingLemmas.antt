@@ -9,14 +9,15 @@ use Rattle.std.proofs.lemmas.Option.{slice_get_within}
 use Rattle.std.proofs.lemmas.Slice.Eq.{starts_is}
 use Rattle.spec_text.specs.Bytes.{is_white}
 use Rattle.spec_text.specs.Scalars.{scalar_len}
-use Rattle.spec_lexing.specs.Tokens.{skips, keeps, strays}
+use Rattle.spec_lexing.specs.Tokens.{scalar_end}
 use Rattle.spec_lexing.specs.declared.kind_def.KindDef.{KindDef}
 use Rattle.spec_lexing.specs.declared.kind_def.KindDef.TheVariants.{Word}
 use Rattle.spec_lexing.specs.LongestMatch.{IsLongestMatch, IsUnmatched, MatchesAt}
-use Rattle.spec_lexing.specs.Kinds.{LexKind, white, symbol, Matches, MatchesDef, numbered_from, lex_kinds}
+use Rattle.spec_lexing.specs.Kinds.{LexKind, white, symbol, MatchesKind as Matches, MatchesDef, token_kind, numbered_from}
+use Rattle.spec_lexing.proofs.TokensLemmas.{skips, keeps, strays}
 use Rattle.chart_service.specs.declared.lexing.Matched.TheVariants.{White, Kind}
 use Rattle.chart_service.specs.declared.lexing.LongestMatch.{LongestMatch}
-use Rattle.chart_service.specs.Lexing.{kind_of, IsLongestOfKind, IsNowhere, IsLongest, IsBest, IsStep}
+use Rattle.chart_service.specs.Lexing.{words_and_white, kind_of, IsLongestOfKind, IsNowhere, IsLongest, IsBest, IsStep}
 
 -- a part of a text has as many bytes as lie between its bounds
 length-range : (text : List ℕ) (start end : ℕ) → start ≤ end → end ≤ length text →
@@ -93,7 +94,7 @@ range_one text start before =
     rw (size, rest) refl
 
 -- what matches before each kind of the grammar is white space
-only_white : (text : List ℕ) (place start end : ℕ) → MatchesAt Matches (lex_kinds []) text place start end →
+only_white : (text : List ℕ) (place start end : ℕ) → MatchesAt Matches (words_and_white []) text place start end →
     Matches white (slice_range text start end)
 only_white text zero start end m =
     let is : m.0 ≡ white = cc in
@@ -130,7 +131,7 @@ white_is_longest text start before is = record {
 
 -- before each kind of the grammar, nothing matches where no white byte stands
 pub not_white_is_unmatched : (text : List ℕ) (start : ℕ) → is_white (slice_index text start) ≡ false →
-    IsUnmatched Matches (lex_kinds []) text start
+    IsUnmatched Matches (words_and_white []) text start
 not_white_is_unmatched text start other place end some within m =
     both_ways (is_white (slice_index text start)) other (white_match text start end some within (only_white text place start end m)).1
 
@@ -228,9 +229,9 @@ numbered-push (first ∷ kinds) kind number =
     let size : (number + 1) + length kinds ≡ number + length (first ∷ kinds) = omega arith in
     rw (numbered-push kinds kind (number + 1), size) refl
 
-lex_kinds-push : (kinds : List KindDef) (kind : KindDef) →
-    lex_kinds (kinds ++ kind ∷ []) ≡ lex_kinds kinds ++ symbol (length kinds) kind ∷ []
-lex_kinds-push kinds kind =
+words_and_white-push : (kinds : List KindDef) (kind : KindDef) →
+    words_and_white (kinds ++ kind ∷ []) ≡ words_and_white kinds ++ symbol (length kinds) kind ∷ []
+words_and_white-push kinds kind =
     let size : 0 + length kinds ≡ length kinds = omega arith in
     rw (numbered-push kinds kind 0, size) refl
 
@@ -242,9 +243,9 @@ module _ (kinds : List KindDef) (kind : KindDef) (text : List ℕ) (start : ℕ)
       (later : ℕ) → end < later → later ≤ length text → MatchesDef kind (slice_range text start later) → ⊥
 
   -- what holds of all that is looked for, with the kind behind it, holds of what is looked for with the kind
-  with_kind : (P : List LexKind → Type 0) → P (lex_kinds kinds ++ symbol (length kinds) kind ∷ []) →
-      P (lex_kinds (kinds ++ kind ∷ []))
-  with_kind P holds = subst P (sym (lex_kinds-push kinds kind)) holds
+  with_kind : (P : List LexKind → Type 0) → P (words_and_white kinds ++ symbol (length kinds) kind ∷ []) →
+      P (words_and_white (kinds ++ kind ∷ []))
+  with_kind P holds = subst P (sym (words_and_white-push kinds kind)) holds
 
   -- the longest match stays so, if the kind matches nothing longer
   kept : (found : LongestMatch) → IsLongest kinds text start found → KindEndsBy found.end →
@@ -253,34 +254,34 @@ module _ (kinds : List KindDef) (kind : KindDef) (text : List ℕ) (start : ℕ)
     order = best.order;
     kind = best.kind;
     is_longest = with_kind (λ all. IsLongestMatch Matches all text best.order start found.end)
-        (kept_match Matches (lex_kinds kinds) (symbol (length kinds) kind) text start best.order found.end
+        (kept_match Matches (words_and_white kinds) (symbol (length kinds) kind) text start best.order found.end
         best.is_longest ends);
     stands = with_kind (λ all. slice_get all best.order ≡ Some best.kind)
-        (get_front (lex_kinds kinds) (symbol (length kinds) kind) best.kind best.order best.stands);
+        (get_front (words_and_white kinds) (symbol (length kinds) kind) best.kind best.order best.stands);
     number = best.number;
   }
 
   -- the kind's longest match is the longest, if it is longer than all that the others match
   taken : (number end : ℕ) → number ≡ length kinds → IsLongestOfKind kind text start end →
       ((place later : ℕ) → end ≤ later → later ≤ length text →
-      MatchesAt Matches (lex_kinds kinds) text place start later → ⊥) →
+      MatchesAt Matches (words_and_white kinds) text place start later → ⊥) →
       IsLongest (kinds ++ kind ∷ []) text start (record { matched = Kind number; end = end })
   taken number end size is longer = record {
-    order = length (lex_kinds kinds);
+    order = length (words_and_white kinds);
     kind = symbol (length kinds) kind;
-    is_longest = with_kind (λ all. IsLongestMatch Matches all text (length (lex_kinds kinds)) start end)
-        (taken_match Matches (lex_kinds kinds) (symbol (length kinds) kind) text start end
+    is_longest = with_kind (λ all. IsLongestMatch Matches all text (length (words_and_white kinds)) start end)
+        (taken_match Matches (words_and_white kinds) (symbol (length kinds) kind) text start end
         is.some is.within is.matches is.longest longer);
-    stands = with_kind (λ all. slice_get all (length (lex_kinds kinds)) ≡ Some (symbol (length kinds) kind))
-        (get_push (lex_kinds kinds) (symbol (length kinds) kind));
+    stands = with_kind (λ all. slice_get all (length (words_and_white kinds)) ≡ Some (symbol (length kinds) kind))
+        (get_push (words_and_white kinds) (symbol (length kinds) kind));
     number = ap Some (sym size);
   }
 
   -- nothing matches, if nothing did and the kind does not
-  unmatched : IsUnmatched Matches (lex_kinds kinds) text start → IsNowhere kind text start →
-      IsUnmatched Matches (lex_kinds (kinds ++ kind ∷ [])) text start
+  unmatched : IsUnmatched Matches (words_and_white kinds) text start → IsNowhere kind text start →
+      IsUnmatched Matches (words_and_white (kinds ++ kind ∷ [])) text start
   unmatched none nowhere = with_kind (λ all. IsUnmatched Matches all text start)
-      (still_unmatched Matches (lex_kinds kinds) (symbol (length kinds) kind) text start none nowhere)
+      (still_unmatched Matches (words_and_white kinds) (symbol (length kinds) kind) text start none nowhere)
 
 -- the kinds up to a number are those below it and the kind of that number
 module _ (kinds : List KindDef) (number : ℕ) (kind : KindDef) (below : number < length kinds)
@@ -298,7 +299,7 @@ module _ (kinds : List KindDef) (number : ℕ) (kind : KindDef) (below : number 
   pub best_without : (best : Option LongestMatch) → IsBest (take number kinds) text start best →
       IsNowhere kind text start → IsBest (take (number + 1) kinds) text start best
   best_without None none nowhere =
-      up_to (λ ks. IsUnmatched Matches (lex_kinds ks) text start)
+      up_to (λ ks. IsUnmatched Matches (words_and_white ks) text start)
       (unmatched (take number kinds) kind text start none nowhere)
   best_without (Some found) best nowhere =
       up_to (λ ks. IsLongest ks text start found)
@@ -324,7 +325,7 @@ module _ (kinds : List KindDef) (number : ℕ) (kind : KindDef) (below : number 
       (λ place later after inside m. best.is_longest.longest place later (omega arith) inside m))
 
   -- the first match is the best
-  pub first_is_best : (end : ℕ) → IsUnmatched Matches (lex_kinds (take number kinds)) text start →
+  pub first_is_best : (end : ℕ) → IsUnmatched Matches (words_and_white (take number kinds)) text start →
       IsLongestOfKind kind text start end →
       IsLongest (take (number + 1) kinds) text start (record { matched = Kind number; end = end })
   first_is_best end none is =
@@ -341,16 +342,18 @@ best_of_all kinds number text start best all is =
 -- a step from a place on, by what was found there
 module _ (kinds : List KindDef) (text : List ℕ) (start : ℕ) where
   -- in an ASCII text a stray token is one byte
-  pub stray_step : IsAscii text → start < length text → IsUnmatched Matches (lex_kinds kinds) text start →
+  pub stray_step : IsAscii text → start < length text → IsUnmatched Matches (words_and_white kinds) text start →
       IsStep kinds text start
       (record { token = Some (record { kind = None; first = start; end = start + 1 }); end = start + 1 })
   stray_step ascii before none =
       let small : slice_index text start < 128 = ascii start in
       let one : scalar_len (slice_index text start) ≡ 1 = grind (arith, nat_tests) in
+      let ends : start + 1 ≡ scalar_end text start = rw one (grind arith) in
       record {
         forward = omega arith;
         within = omega arith;
-        tokens = λ rest are. strays start (start + 1) rest none (omega (arith, one)) (omega arith) are;
+        tokens = λ rest are.
+            strays Matches token_kind (words_and_white kinds) text start (start + 1) rest before none ends are;
       }
 
   -- a match of a kind of the grammar is a token
@@ -362,7 +365,7 @@ module _ (kinds : List KindDef) (text : List ℕ) (start : ℕ) where
     forward = best.is_longest.some;
     within = best.is_longest.within;
     tokens = λ rest are.
-        keeps start found.end best.order number best.kind rest best.is_longest best.stands (best.number ∙ ap kind_of is) are;
+        keeps Matches token_kind (words_and_white kinds) text start found.end best.order number best.kind rest best.is_longest best.stands (best.number ∙ ap kind_of is) are;
   }
 
   -- a match of white space is no token
@@ -372,5 +375,5 @@ module _ (kinds : List KindDef) (text : List ℕ) (start : ℕ) where
     forward = best.is_longest.some;
     within = best.is_longest.within;
     tokens = λ rest are.
-        skips start found.end best.order best.kind rest best.is_longest best.stands (best.number ∙ ap kind_of is) are;
+        skips Matches token_kind (words_and_white kinds) text start found.end best.order best.kind rest best.is_longest best.stands (best.number ∙ ap kind_of is) are;
   }

@@ -1,14 +1,18 @@
 -- Accepting a grammar or refusing it, and opening a text.
-use Rattle.std.proofs.Common.{◌≡◌, ℕ, inl, inr, List, [], length, Option, Some, None, Ok, Err, ◌<◌}
+use Rattle.std.proofs.Common.{◌≡◌, ℕ, inl, inr, List, [], length, Option, Some, None, Ok, Err, ◌<◌, map, refl}
 use Rattle.std.proofs.Common.{◌≤◌, arith, sym, ◌∙◌, ap, subst, option_map}
 use Rattle.std.proofs.lemmas.List.{length-map}
 use Rattle.std.proofs.lemmas.Option.{same_Some, none-some}
+use Rattle.std.proofs.lemmas.List.Elements.{All-map}
 use Rattle.spec_lbnf.proofs.NameLemmas.{distinct_names}
 use Rattle.cyk_io.specs.Streams.{GrowsByPrefix}
 use Rattle.spec_lexing.specs.declared.token.Token.{Token}
+use Rattle.spec_lexing.specs.declared.kind_def.KindDef.TheVariants.{Word as WordKind}
+use Rattle.spec_lexing.specs.Lexicon.{lexicon_of}
+use Rattle.spec_lexing.specs.Kinds.{IsWord, HasWordsAlone}
 use Rattle.spec_lbnf.specs.declared.definition.Def.{Def}
 use Rattle.spec_grammar.specs.Grammars.{Grammar, symbol_count}
-use Rattle.spec_lbnf.specs.Expansion.{expansion_of}
+use Rattle.spec_lbnf.specs.Expansion.{expansion_of, rules_of, words_of}
 use Rattle.spec_lbnf.specs.declared.fault.TextFault.{TextFault}
 use Rattle.spec_lbnf.specs.declared.fault.TextFault.TheVariants.{TooLarge}
 use Rattle.spec_lbnf.specs.declared.fault.TextFault.TheVariants as file
@@ -36,14 +40,25 @@ use Rattle.chart_service.specs.declared.status.Status.TheVariants.{ReadFault, Wr
 use Rattle.chart_service.specs.declared.status.Status.TheVariants.{OutOfMemory}
 use Rattle.chart_service.specs.Statuses.{IsWriteStop}
 use Rattle.chart_service.specs.Writing.{EndsWith}
-use Rattle.chart_service.specs.Opening.{HasDistinctNames, ReadsLanguage, reason_of, IsRefusal}
+use Rattle.chart_service.specs.Opening.{HasNamesAndWords, ReadsLanguage, reason_of, IsRefusal}
 use Rattle.chart_service.specs.Opening.{text_reason_of, grammar_reason_of}
 use Rattle.chart_service.specs.Opening.{IsGrammarLine, EndsAtGrammar, IsOpened, EndsAtText}
 
--- no category's text stands twice in the grammar that definitions stand for
-spelled_distinct : (defs : List Def) (g : Grammar) → g ≡ expansion_of defs → HasDistinctNames g
+-- kinds that are made of words have words alone
+words_alone : (words : List (List ℕ)) → HasWordsAlone (lexicon_of (map WordKind words))
+words_alone words = record {
+  no_lines = refl;
+  no_blocks = refl;
+  words = All-map IsWord WordKind words (λ other place below. tt);
+}
+
+-- no category's text stands twice in the grammar that definitions stand for, and its kinds are words
+spelled_distinct : (defs : List Def) (g : Grammar) → g ≡ expansion_of defs → HasNamesAndWords g
 spelled_distinct defs g e =
-    subst HasDistinctNames (sym e) (record { distinct = (distinct_names _).once })
+    subst HasNamesAndWords (sym e) (record {
+      distinct = (distinct_names _).once;
+      words = words_alone (words_of (rules_of defs));
+    })
 
 -- the language of what a block spells is accepted, where the definitions are fit
 pub accepted : (block : List ℕ) (defs : List Def) (g : Grammar) (language : Language)

@@ -5,11 +5,16 @@ use Rattle.spec_lexing.specs.declared.kind_def.KindDef.{KindDef}
 use Rattle.spec_lexing.specs.declared.token.Token.{Token}
 use Rattle.spec_lexing.specs.LongestMatch.{IsLongestMatch, IsUnmatched}
 use Rattle.spec_lexing.specs.Tokens.{AreTokensFrom}
-use Rattle.spec_lexing.specs.Kinds.{LexKind, Matches, MatchesDef, token_kind, lex_kinds}
+use Rattle.spec_lexing.specs.Lexicon.{lexicon_of}
+use Rattle.spec_lexing.specs.Kinds.{LexKind, MatchesKind, MatchesDef, token_kind, lex_kinds}
 use Rattle.chart_service.specs.declared.lexing.Matched.{Matched}
 use Rattle.chart_service.specs.declared.lexing.Matched.TheVariants.{White, Kind}
 use Rattle.chart_service.specs.declared.lexing.LongestMatch.{LongestMatch}
 use Rattle.chart_service.specs.declared.lexing.Step.{Step}
+
+-- what is looked for under these kinds, where there are no comments
+abbrev pub words_and_white : List KindDef → List LexKind
+words_and_white kinds = lex_kinds (lexicon_of kinds)
 
 -- the bytes from start up to end are one or more, and the most that the kind matches at start
 pub record IsLongestOfKind (kind : KindDef) (text : List ℕ) (start end : ℕ) : Type 0 where
@@ -39,14 +44,15 @@ pub record IsLongest (kinds : List KindDef) (text : List ℕ) (start : ℕ)
     (found : LongestMatch) : Type 0 where
   pub order : ℕ
   pub kind : LexKind
-  pub is_longest : IsLongestMatch Matches (lex_kinds kinds) text order start found.end
-  pub stands : slice_get (lex_kinds kinds) order ≡ Some kind
+  pub is_longest : IsLongestMatch MatchesKind (words_and_white kinds) text order start found.end
+  pub stands : slice_get (words_and_white kinds) order ≡ Some kind
   pub number : token_kind kind ≡ kind_of found.matched
 
 -- this is the longest match at start, or nothing matches there
 abbrev pub IsBest : List KindDef → List ℕ → ℕ → Option LongestMatch → Type 0
 IsBest kinds text start best =
-    MatchOption best (IsUnmatched Matches (lex_kinds kinds) text start) (IsLongest kinds text start)
+    MatchOption best (IsUnmatched MatchesKind (words_and_white kinds) text start)
+    (IsLongest kinds text start)
 
 -- the token, if there is one, before the others
 abbrev pub before : Option Token → List Token → List Token
@@ -58,5 +64,5 @@ pub record IsStep (kinds : List KindDef) (text : List ℕ) (start : ℕ) (step :
   pub forward : start < step.end
   pub within : step.end ≤ length text
   pub tokens : (rest : List Token) →
-      AreTokensFrom Matches token_kind (lex_kinds kinds) text step.end rest →
-      AreTokensFrom Matches token_kind (lex_kinds kinds) text start (before step.token rest)
+      AreTokensFrom MatchesKind token_kind (words_and_white kinds) text step.end rest →
+      AreTokensFrom MatchesKind token_kind (words_and_white kinds) text start (before step.token rest)

@@ -3,6 +3,8 @@
 use Rattle.std.specs.Prelude.{◌≡◌, ℕ, ◌⊎◌, List, [], length, slice_get, Some}
 use Rattle.std.specs.Prelude.{Option, None, Result, Ok, Err, option_map}
 use Rattle.spec_lexing.specs.declared.token.Token.{Token}
+use Rattle.spec_lexing.specs.Lexicon.{lexicon_of}
+use Rattle.spec_lexing.specs.Kinds.{HasWordsAlone}
 use Rattle.spec_lexing.specs.Tokens.{AreTokensOf, kinds_of}
 use Rattle.spec_lbnf.specs.declared.definition.Def.{Def}
 use Rattle.spec_grammar.specs.Grammars.{Grammar}
@@ -36,16 +38,17 @@ use Rattle.chart_service.specs.declared.status.Status.TheVariants.{Ended, BadGra
 use Rattle.chart_service.specs.declared.status.Status.TheVariants.{BadScript, ReadFault, WriteFault}
 use Rattle.chart_service.specs.declared.status.Status.TheVariants.{OutOfMemory}
 
--- no category's text stands twice
-pub record HasDistinctNames (g : Grammar) : Type 0 where
+-- no category's text stands twice, and the grammar's kinds are words
+pub record HasNamesAndWords (g : Grammar) : Type 0 where
   pub distinct : (c d : ℕ) (name : List ℕ) → slice_get g.categories c ≡ Some name
       → slice_get g.categories d ≡ Some name → c ≡ d
+  pub words : HasWordsAlone g.lexicon
 
 -- the grammar that the block spells, or the fault of the first layer that gives none: of reading
 -- the file, of expanding what it spells, or of making its binary form; each layer may want memory
 abbrev pub ReadsLanguage : List ℕ → Result Language LanguageFault → Type 0
 ReadsLanguage block (Ok language) =
-    IsAccepted block language.grammar × HasDistinctNames language.grammar
+    IsAccepted block language.grammar × HasNamesAndWords language.grammar
 ReadsLanguage block (Err (Text fault)) = ReadsDefs block (Err fault)
 ReadsLanguage block (Err (UnfitGrammar fault)) =
     (defs : List Def) × Spells block defs × Expands defs (Err fault)
@@ -56,8 +59,8 @@ ReadsLanguage block (Err (Binary fault)) =
 -- the chart is that of the text's tokens under the grammar
 pub record IsOpened (g : Grammar) (chart : ChartValue) (text : List ℕ)
     (tokens : List Token) : Type 0 where
-  pub distinct : HasDistinctNames g
-  pub are_tokens : AreTokensOf g.lexicon.kinds text tokens
+  pub distinct : HasNamesAndWords g
+  pub are_tokens : AreTokensOf g.lexicon text tokens
   pub is_chart : IsChartOf g (kinds_of tokens) chart
 
 -- the reason that is told of a fault of a grammar file, and None for want of memory
@@ -102,7 +105,7 @@ EndsAtGrammar block old new ReadFault = ⊥
 -- the block's grammar was accepted and its reply written, or the session was ended there
 abbrev pub Accepts : List ℕ → Option (List ℕ) → Option (List ℕ) → Result Language Status → Type 0
 Accepts block old new (Ok language) =
-    IsAccepted block language.grammar × HasDistinctNames language.grammar
+    IsAccepted block language.grammar × HasNamesAndWords language.grammar
     × Grows old new (grammar_reply language.grammar)
 Accepts block old new (Err status) = EndsAtGrammar block old new status
 

@@ -1,7 +1,9 @@
 //! Lexing: the tokens of a whole ASCII text, each by longest match from where the last one ended.
-ghost use Rattle.std.specs.Prelude.{◌≡◌, [], ◌+◌, ◌^◌, ◌<◌, ◌≤◌, take, length, IfOk};
+ghost use Rattle.std.specs.Prelude.{◌≡◌, [], ◌+◌, ◌^◌, ◌<◌, ◌≤◌, take, length, All, IfOk};
 ghost use Rattle.std.specs.Str.{IsAscii};
 ghost use Rattle.spec_lexing.specs.declared.kind_def.KindDef.TheVariants.{Word};
+ghost use Rattle.spec_lexing.specs.Lexicon.{lexicon_of};
+ghost use Rattle.spec_lexing.specs.Kinds.{IsWord, HasWordsAlone};
 ghost use Rattle.spec_lexing.specs.Tokens.{AreTokensOf, kinds_of};
 ghost use Rattle.chart_service.specs.Lexing.{IsKindEnd, IsBest, IsStep};
 
@@ -34,11 +36,13 @@ struct Step {
 
 /// Where the kind's longest match at start ends. None if it matches no byte there.
 fn kind_end(kind: &KindDef, text: &[u8], start: usize) -> Option<usize>
-    requires { start ≤ length text.now }
+    requires word { IsWord kind.now }
+    requires start { start ≤ length text.now }
     ensures { IsKindEnd kind.now text.now start result }
 {
     match kind {
         KindDef::Word(word) => word_end(word.as_slice(), text, start),
+        KindDef::Token { .. } => unreachable!(),
     }
 }
 
@@ -81,6 +85,7 @@ fn with_kind(
     best: Option<LongestMatch>,
 ) -> Option<LongestMatch>
     requires few { length kinds.now < 2 ^ 16 }
+    requires words { All IsWord kinds.now }
     requires number { number < length kinds.now }
     requires start { start ≤ length text.now }
     requires best { IsBest (take number kinds.now) text.now start best }
@@ -102,6 +107,7 @@ fn with_kind(
 /// The longest match at a place, of the least kind. None where nothing matches.
 fn longest_match(kinds: &[KindDef], text: &[u8], start: usize) -> Option<LongestMatch>
     requires few { length kinds.now < 2 ^ 16 }
+    requires words { All IsWord kinds.now }
     requires start { start < length text.now }
     ensures { IsBest kinds.now text.now start result }
 {
@@ -115,7 +121,9 @@ fn longest_match(kinds: &[KindDef], text: &[u8], start: usize) -> Option<Longest
 /// What lies at a place: a match, or a stray byte where nothing matches.
 fn step_at(kinds: &[KindDef], text: &[u8], start: usize) -> Step
     requires few { length kinds.now < 2 ^ 16 }
+    requires words { All IsWord kinds.now }
     requires ascii { IsAscii text.now }
+    requires short { length text.now < 2 ^ 32 }
     requires start { start < length text.now }
     ensures { IsStep kinds.now text.now start result }
 {
@@ -124,8 +132,8 @@ fn step_at(kinds: &[KindDef], text: &[u8], start: usize) -> Step
         return Step {
             token: Some(Token {
                 kind: None,
-                first: start,
-                end,
+                first: start as u32,
+                end: end as u32,
             }),
             end,
         };
@@ -133,8 +141,8 @@ fn step_at(kinds: &[KindDef], text: &[u8], start: usize) -> Step
     let token = match found.matched {
         Matched::Kind(kind) => Some(Token {
             kind: Some(kind),
-            first: start,
-            end: found.end,
+            first: start as u32,
+            end: found.end as u32,
         }),
         Matched::White => None,
     };
@@ -152,8 +160,10 @@ pub(crate) fn tokens_of(
     text: &[u8],
 ) -> Result<Vec<Token>, AllocError>
     requires few { length kinds.now < 2 ^ 16 }
+    requires words { HasWordsAlone (lexicon_of kinds.now) }
     requires ascii { IsAscii text.now }
-    ensures ok { IfOk result (λ tokens. AreTokensOf kinds.now text.now tokens.items) }
+    requires short { length text.now < 2 ^ 32 }
+    ensures ok { IfOk result (λ tokens. AreTokensOf (lexicon_of kinds.now) text.now tokens.items) }
     ensures most { IfOk result (λ tokens. length tokens.items ≤ length text.now) }
 {
     let mut tokens = Vec::new(alloc);
@@ -181,7 +191,7 @@ mod tests {
     use spec_text::Name;
     use std::test::Fail;
 
-    fn token(kind: u16, first: usize, end: usize) -> Token {
+    fn token(kind: u16, first: u32, end: u32) -> Token {
         Token {
             kind: Some(kind),
             first,
@@ -189,7 +199,7 @@ mod tests {
         }
     }
 
-    fn stray(first: usize, end: usize) -> Token {
+    fn stray(first: u32, end: u32) -> Token {
         Token {
             kind: None,
             first,

@@ -11,7 +11,7 @@ ghost use Rattle.chart_service.specs.Statuses.{IsWriteStop};
 ghost use Rattle.script_reader.specs.Reading.{IsBlock};
 ghost use Rattle.binary_form.specs.BinaryForm.{MakesBinary};
 ghost use Rattle.std.specs.Result.{result_map_both};
-ghost use Rattle.chart_service.specs.Opening.{ReadsLanguage, HasDistinctNames, IsRefusal};
+ghost use Rattle.chart_service.specs.Opening.{ReadsLanguage, HasNamesAndWords, IsRefusal};
 ghost use Rattle.chart_service.specs.Opening.{text_reason_of, grammar_reason_of, reason_of};
 ghost use Rattle.chart_service.specs.Opening.{EndsAtGrammar, Accepts, IsOpened, OpensText};
 
@@ -208,7 +208,7 @@ pub(crate) struct Opened {
 
 /// The chart of the text's tokens.
 fn chart_of(alloc: Global, language: &Language, text: &[u8]) -> Result<Chart<ListCell>, AllocError>
-    requires distinct { HasDistinctNames language.now.grammar }
+    requires distinct { HasNamesAndWords language.now.grammar }
     requires ascii { IsAscii text.now }
     requires short { length text.now ≤ 4096 }
     ensures { IfOk result
@@ -249,7 +249,7 @@ pub(crate) fn open_text<K: Sink>(
     language: Language,
     text: &[u8],
 ) -> Result<Opened, Status>
-    requires distinct { HasDistinctNames language.grammar }
+    requires distinct { HasNamesAndWords language.grammar }
     requires ascii { IsAscii text.now }
     requires short { length text.now ≤ 4096 }
     ensures ok { OpensText language.grammar text.now

@@ -69,7 +69,9 @@ fn kinds_are_the_words_without_repetitions(rt: HostRuntime) -> Result<(), Fail> 
     assert_eq!(rt; grammar.kinds().len(), 2);
     for (number, word) in [(0, b"+".as_slice()), (1, b"1".as_slice())] {
         assert!(rt; number < grammar.kind_count());
-        let KindDef::Word(name) = grammar.kind(number);
+        let KindDef::Word(name) = grammar.kind(number) else {
+            return Err("a word".into());
+        };
         assert_eq!(rt; name.as_slice(), word, "at {number}");
     }
     Ok(())

@@ -1,11 +1,12 @@
 -- What a caller sees of making grammars from their parts, and of finding a category.
 use Rattle.std.specs.Prelude.{◌≡◌, ◌<◌, ◌^◌, ◌⊎◌, ℕ, List, [], ◌∷◌, Option, Some, None}
 use Rattle.std.specs.Prelude.{Result, Ok, Err, length, slice_get, Contains, IfSome, MatchOption}
+use Rattle.spec_lexing.specs.Lexicon.{lexicon_of}
 use Rattle.spec_lexing.specs.declared.kind_def.KindDef.{KindDef}
 use Rattle.spec_grammar.specs.declared.rule.Rule.{Rule}
 use Rattle.spec_grammar.specs.declared.rule.Symbol.{Symbol}
 use Rattle.spec_grammar.specs.declared.rule.Symbol.TheVariants.{Category}
-use Rattle.spec_grammar.specs.Grammars.{Grammar, lexicon_of_kinds, HasOwnSymbols, item_count}
+use Rattle.spec_grammar.specs.Grammars.{Grammar, HasOwnSymbols, item_count}
 use Rattle.spec_grammar.specs.Grammars.{name_number, category_symbol}
 use Rattle.spec_grammar.specs.Cycles.{IsCyclic, IsAcyclic}
 use Rattle.numbered_grammar.specs.declared.fault.CycleFault.{CycleFault}
@@ -16,7 +17,7 @@ abbrev pub grammar_of_parts : List Rule → List (List ℕ) → List KindDef →
 grammar_of_parts rules categories kinds entry = record {
   rules = rules;
   categories = categories;
-  lexicon = lexicon_of_kinds kinds;
+  lexicon = lexicon_of kinds;
   entry = entry;
 }
 

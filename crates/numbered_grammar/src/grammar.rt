@@ -28,7 +28,12 @@ impl Model for Grammar {
     ghost use Rattle.numbered_grammar.specs.Nullable.{AreNullableFlags};
     ghost use Rattle.numbered_grammar.specs.Ranks.{AreRanks};
 
+    ghost use Rattle.std.specs.Coded.{codes};
+    ghost use Rattle.spec_lexing.specs.contracts.expression.Expr as expr;
+
     ghost Value = { Grammar };
+
+    ghost coded = { Prim.hlevel (codes, expr.the_row.coded) };
 
     ghost view = { λ g. g.parts };
 

@@ -23,7 +23,12 @@ impl Model for GrammarParts {
     ghost use Rattle.spec_grammar.specs.Grammars.{Grammar, HasOwnSymbols, IsSymbolOf, item_count};
     ghost use Rattle.numbered_grammar.specs.Making.{grammar_of_parts};
 
+    ghost use Rattle.std.specs.Coded.{codes};
+    ghost use Rattle.spec_lexing.specs.contracts.expression.Expr as expr;
+
     ghost Value = { Grammar };
+
+    ghost coded = { Prim.hlevel (codes, expr.the_row.coded) };
 
     ghost view = { λ g. grammar_of_parts g.rules.items g.categories.items g.kinds.items g.entry };
 

@@ -17,10 +17,6 @@ pub record Grammar : Type 0 where
   pub lexicon : Lexicon
   pub entry : Option Symbol
 
--- the lexicon of these kinds and no comments
-abbrev pub lexicon_of_kinds : List KindDef → Lexicon
-lexicon_of_kinds kinds = record { line_comments = []; block_comments = []; kinds = kinds }
-
 -- the rule that gives these items to the category, and that makes no node
 abbrev pub rule_of : ℕ → List Symbol → Rule
 rule_of category items = record { label = Wild; category = category; items = items }

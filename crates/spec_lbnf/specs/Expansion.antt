@@ -6,8 +6,9 @@ use Rattle.std.specs.Prelude.{Option, Some, None}
 use Rattle.std.specs.Option.{option_map, option_or}
 use Rattle.std.specs.Fmt.{decimal}
 use Rattle.std.specs.List.{range_with_len}
+use Rattle.spec_lexing.specs.Lexicon.{lexicon_of}
 use Rattle.spec_grammar.specs.declared.rule.Label.TheVariants.{Wild, Nil, Cons, One}
-use Rattle.spec_grammar.specs.Grammars.{Grammar, lexicon_of_kinds, name_number, category_symbol}
+use Rattle.spec_grammar.specs.Grammars.{Grammar, name_number, category_symbol}
 use Rattle.spec_lbnf.specs.Words.{is_empty, words_in}
 use Rattle.spec_grammar.specs.declared.rule.Symbol.{Symbol}
 use Rattle.spec_grammar.specs.declared.rule.Symbol.TheVariants.{Category, Kind}
@@ -186,6 +187,6 @@ expansion_of defs =
     record {
       rules = map (numbered_rule (categories_of defs) (words_of rules)) rules;
       categories = categories_of defs;
-      lexicon = lexicon_of_kinds (map WordKind (words_of rules));
+      lexicon = lexicon_of (map WordKind (words_of rules));
       entry = option_map (category_symbol (categories_of defs)) (entry_text defs);
     }

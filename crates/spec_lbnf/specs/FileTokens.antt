@@ -5,6 +5,7 @@ use Rattle.std.specs.Prelude.{Option, Some, None, nat_eq, not, IfSome}
 use Rattle.std.specs.Char.{IsScalar, encode_utf8}
 use Rattle.std.specs.Str.Parse.{digits_value}
 use Rattle.spec_text.specs.Bytes.{is_white}
+pub use Rattle.spec_text.specs.Bytes.{is_letter, is_digit}
 use Rattle.spec_lbnf.specs.declared.token.Sign.{Sign}
 use Rattle.spec_lbnf.specs.declared.token.Sign.TheVariants.{Dot, Semicolon, Gives, Colon}
 use Rattle.spec_lbnf.specs.declared.token.Sign.TheVariants.{OpenBracket, CloseBracket}
@@ -17,14 +18,6 @@ use Rattle.spec_lbnf.specs.declared.token.FileToken.TheVariants.{Character}
 use Rattle.spec_lbnf.specs.declared.token.FileToken.TheVariants.{Sign as SignToken}
 use Rattle.spec_lbnf.specs.declared.token.PlacedToken.{PlacedToken}
 use Rattle.spec_lbnf.specs.FileBytes.{is_upper, is_name_byte, Stops}
-
--- the byte is a letter
-abbrev pub is_letter : ℕ → Bool
-is_letter byte = is_upper byte || (nat_le 97 byte && nat_le byte 122)
-
--- the byte is a digit
-abbrev pub is_digit : ℕ → Bool
-is_digit byte = nat_le 48 byte && nat_le byte 57
 
 -- the bytes begin with one that passes
 abbrev pub Begins : (ℕ → Bool) → List ℕ → Type 0

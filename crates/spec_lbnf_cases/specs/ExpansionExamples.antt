@@ -1,9 +1,9 @@
 -- What small definitions stand for, by hand.
 use Rattle.std.specs.Prelude.{◌≡◌, ℕ, List, [], ◌∷◌, codes, Some, None, true, false}
+use Rattle.spec_lexing.specs.Lexicon.{lexicon_of}
 use Rattle.spec_grammar.specs.declared.rule.Label.{Label}
 use Rattle.spec_grammar.specs.declared.rule.Label.TheVariants.{Named, Wild, Nil, Cons, One}
 use Rattle.spec_grammar.specs.declared.rule.Symbol.TheVariants.{Category, Kind}
-use Rattle.spec_grammar.specs.Grammars.{lexicon_of_kinds}
 use Rattle.spec_lexing.specs.declared.kind_def.KindDef.TheVariants.{Word as WordKind}
 use Rattle.spec_lbnf.specs.declared.definition.RawItem.{RawItem}
 use Rattle.spec_lbnf.specs.declared.definition.RawItem.TheVariants.{Cat, Word}
@@ -83,7 +83,7 @@ pub record SmallExpansions : Type 0 where
             record { label = Wild; category = 0; items = Kind 0 ∷ Category 1 ∷ Kind 0 ∷ [] }
             ∷ record { label = Named (codes "B"); category = 1; items = Kind 1 ∷ [] } ∷ [];
         categories = codes "S" ∷ codes "T" ∷ codes "U" ∷ [];
-        lexicon = lexicon_of_kinds (WordKind (codes "a") ∷ WordKind (codes "b") ∷ []);
+        lexicon = lexicon_of (WordKind (codes "a") ∷ WordKind (codes "b") ∷ []);
         entry = Some (Category 1);
       }
   -- without entry points the entry is the category of the first rule; without rules there is none

@@ -1,17 +1,19 @@
--- Tests of what the kinds of a grammar match, and the lexer of a grammar.
-use Rattle.std.proofs.Common.{◌≡◌, ℕ, ◌+◌, ◌<◌, List, [], ◌∷◌, length, Option, Some, None, Bool, true, false, slice_index, MatchOption, refl, arith}
-use Rattle.std.specs.Str.{bytes_eq, IsAscii}
-use Rattle.std.proofs.lemmas.Bool.Decides.{nat_tests}
-use Rattle.std.proofs.lemmas.Option.{MatchOption-at_some}
+-- Tests of what the kinds of a lexicon match, and the lexer of a lexicon.
+use Rattle.std.proofs.Common.{◌≡◌, ℕ, List, [], ◌∷◌, ◌++◌, length, Bool, true, false, ◌&&◌, not, nat_eq, refl, ap₂, subst, arith}
+use Rattle.std.specs.Bool.{Decides}
+use Rattle.std.specs.Str.{bytes_eq}
+use Rattle.std.proofs.lemmas.Bool.Decides.{Decides-like, Decides-and, Decides-not, Decides-by_and}
 use Rattle.std.proofs.lemmas.Slice.Eq.{bytes_eq-Decides}
 use Rattle.spec_text.specs.Bytes.{is_white}
-use Rattle.spec_text.specs.Scalars.{scalar_len}
 use Rattle.spec_lexing.specs.declared.kind_def.KindDef.{KindDef}
-use Rattle.spec_lexing.specs.declared.kind_def.KindDef.TheVariants.{Word}
+use Rattle.spec_lexing.specs.declared.kind_def.KindDef.TheVariants.{Word, Token as TokenDef}
 use Rattle.spec_lexing.specs.declared.token.Token.{Token}
-use Rattle.spec_lexing.specs.Kinds.{LexKind, white, symbol, Matches, token_kind, lex_kinds}
-use Rattle.spec_lexing.specs.Tokens.{AreTokensOf}
-use Rattle.spec_lexing.proofs.LexerByTests.{tokens_from, tokens_are, HasCutScalar}
+use Rattle.spec_lexing.specs.Expressions.{expression_of}
+use Rattle.spec_lexing.specs.Lexicon.{Lexicon, lexicon_of}
+use Rattle.spec_lexing.specs.Kinds.{LexKind, white, line_comment, block_comment, symbol, HasWordsAlone, IsOnLine, EndsFirst, MatchesDef, MatchesKind, token_kind, lex_kinds}
+use Rattle.spec_lexing.specs.Tokens.{Match, tokens_of as tokens_of_matches, AreTokensOf}
+use Rattle.spec_lexing.proofs.MatchingTests.{is_empty, is_empty-Decides, some_cut, HasCut, some_cut-Decides, matches as expression_matches, matches-Decides as expression_matches-Decides}
+use Rattle.spec_lexing.proofs.LexerByTests.{matches_from, matches_are}
 
 -- whether the bytes are one white byte
 abbrev pub is_one_white : List ℕ → Bool
@@ -19,67 +21,162 @@ is_one_white [] = false
 is_one_white (byte ∷ []) = is_white byte
 is_one_white (byte ∷ second ∷ bytes) = false
 
+is_one_white-Decides : (bytes : List ℕ) → Decides (is_one_white bytes) (MatchesKind white bytes)
+is_one_white-Decides [] = (λ e. cc, λ m. let empty : [] ≡ m.0 ∷ [] = m.1 in cc)
+is_one_white-Decides (byte ∷ []) =
+    (λ e. (byte, refl, e), λ m. let same : byte ≡ m.0 = cc in rw same m.2)
+is_one_white-Decides (byte ∷ second ∷ bytes) =
+    (λ e. cc, λ m. let long : byte ∷ second ∷ bytes ≡ m.0 ∷ [] = m.1 in cc)
+
+-- whether there is no LF among the bytes
+abbrev pub is_on_line : List ℕ → Bool
+is_on_line [] = true
+is_on_line (byte ∷ bytes) = not (nat_eq byte 10) && is_on_line bytes
+
+is_on_line-Decides : (bytes : List ℕ) → Decides (is_on_line bytes) (IsOnLine bytes)
+is_on_line-Decides =
+    Decides-by_and (λ byte. not (nat_eq byte 10)) (λ byte. nat_eq byte 10 ≡ false) is_on_line
+    (λ byte. is_false (nat_eq byte 10)) refl (λ byte bytes. refl)
+  where
+    is_false : (b : Bool) → Decides (not b) (b ≡ false)
+    is_false true = (λ e. cc, λ e. cc)
+    is_false false = (λ _. refl, λ _. refl)
+
+-- whether the closing text stands somewhere in the bytes with more behind it
+abbrev pub closes_early : List ℕ → List ℕ → Bool
+closes_early closing bytes =
+    some_cut (λ before from. some_cut (λ here behind. bytes_eq here closing && not (is_empty behind)) from)
+    bytes
+
+-- the closing text stands somewhere in the bytes with more behind it
+abbrev ClosesEarly : List ℕ → List ℕ → Type 0
+ClosesEarly closing bytes =
+    HasCut (λ before from. HasCut (λ here behind. (here ≡ closing) × (behind ≡ [] → ⊥)) from) bytes
+
+closes_early-Decides : (closing bytes : List ℕ) → Decides (closes_early closing bytes) (ClosesEarly closing bytes)
+closes_early-Decides closing bytes =
+    some_cut-Decides (λ before from. HasCut (λ here behind. (here ≡ closing) × (behind ≡ [] → ⊥)) from)
+    (λ before from. some_cut (λ here behind. bytes_eq here closing && not (is_empty behind)) from) bytes
+    (λ before from e.
+    some_cut-Decides (λ here behind. (here ≡ closing) × (behind ≡ [] → ⊥))
+    (λ here behind. bytes_eq here closing && not (is_empty behind)) from
+    (λ here behind f. Decides-and (bytes_eq here closing) (not (is_empty behind))
+    (bytes_eq-Decides here closing) (Decides-not (is_empty behind) (is_empty-Decides behind))))
+
+-- whether the closing text stands at the end of the bytes, and nowhere before
+abbrev pub ends_first : List ℕ → List ℕ → Bool
+ends_first bytes closing =
+    some_cut (λ inside end. bytes_eq end closing) bytes && not (closes_early closing bytes)
+
+ends_first-Decides : (bytes closing : List ℕ) → Decides (ends_first bytes closing) (EndsFirst bytes closing)
+ends_first-Decides bytes closing =
+    Decides-like (ends_first bytes closing) to from
+    (Decides-and (some_cut (λ inside end. bytes_eq end closing) bytes) (not (closes_early closing bytes))
+    (some_cut-Decides (λ inside end. end ≡ closing) (λ inside end. bytes_eq end closing) bytes
+    (λ inside end e. bytes_eq-Decides end closing))
+    (Decides-not (closes_early closing bytes) (closes_early-Decides closing bytes)))
+  where
+    last : (behind : List ℕ) (early : Bool) → is_empty behind ≡ early → (early ≡ false → ⊥) → behind ≡ []
+    last behind true e not_early = (is_empty-Decides behind).0 e
+    last behind false e not_early = absurd (not_early refl)
+
+    to : HasCut (λ inside end. end ≡ closing) bytes × (ClosesEarly closing bytes → ⊥) → EndsFirst bytes closing
+    to ((inside, end, e, is), never) = record {
+      inside = inside;
+      whole = rw is at e;
+      first = λ before behind f.
+          last behind (is_empty behind) refl
+          (λ early. never (
+            before,
+            closing ++ behind,
+            f,
+            (
+              closing,
+              behind,
+              refl,
+              (
+                refl,
+                λ none.
+                    let full : is_empty behind ≡ true = (is_empty-Decides behind).1 none in cc,
+              ),
+            ),
+          ));
+    }
+
+    from : EndsFirst bytes closing → HasCut (λ inside end. end ≡ closing) bytes × (ClosesEarly closing bytes → ⊥)
+    from ends = (
+      (ends.inside, closing, ends.whole, refl),
+      λ early. early.3.3.1 (ends.first early.0 early.3.1
+          (let front : early.1 ≡ closing ++ early.3.1 = rw early.3.3.0 at early.3.2 in rw front at early.2)),
+    )
+
+-- whether the kind of the lexicon matches the bytes
+abbrev pub matches_def : KindDef → List ℕ → Bool
+matches_def (Word word) bytes = bytes_eq bytes word
+matches_def (TokenDef name expr) bytes = expression_matches (expression_of expr) bytes
+
+matches_def-Decides : (kind : KindDef) (bytes : List ℕ) → Decides (matches_def kind bytes) (MatchesDef kind bytes)
+matches_def-Decides (Word word) bytes = bytes_eq-Decides bytes word
+matches_def-Decides (TokenDef name expr) bytes = expression_matches-Decides (expression_of expr) bytes
+
 -- whether the kind matches the bytes
 abbrev pub matches : LexKind → List ℕ → Bool
 matches white bytes = is_one_white bytes
-matches (symbol number (Word word)) bytes = bytes_eq bytes word
+matches (line_comment opening) bytes =
+    some_cut (λ front rest. bytes_eq front opening && is_on_line rest) bytes
+matches (block_comment opening closing) bytes =
+    some_cut (λ front rest. bytes_eq front opening && ends_first rest closing) bytes
+matches (symbol number kind) bytes = matches_def kind bytes
 
--- what passes the test is matched
-pub matches_passes : (kind : LexKind) (bytes : List ℕ) → matches kind bytes ≡ true → Matches kind bytes
-matches_passes white [] e = cc
-matches_passes white (byte ∷ []) e = (byte, refl, e)
-matches_passes white (byte ∷ second ∷ bytes) e = cc
-matches_passes (symbol number (Word word)) bytes e = (bytes_eq-Decides bytes word).0 e
+-- bytes that are an opening text and a rest with a property
+opened-Decides : (opening : List ℕ) (Rest : List ℕ → Type 0) (test : List ℕ → Bool) →
+    ((rest : List ℕ) → Decides (test rest) (Rest rest)) → (bytes : List ℕ) →
+    Decides (some_cut (λ front rest. bytes_eq front opening && test rest) bytes)
+    ((rest : List ℕ) × (bytes ≡ opening ++ rest) × Rest rest)
+opened-Decides opening Rest test each bytes =
+    Decides-like (some_cut (λ front rest. bytes_eq front opening && test rest) bytes)
+    (λ h. (h.1, rw h.3.0 at h.2, h.3.1)) (λ h. (opening, h.0, h.1, (refl, h.2)))
+    (some_cut-Decides (λ front rest. (front ≡ opening) × Rest rest)
+    (λ front rest. bytes_eq front opening && test rest) bytes
+    (λ front rest e. Decides-and (bytes_eq front opening) (test rest) (bytes_eq-Decides front opening) (each rest)))
 
--- what fails the test is not matched
-pub matches_fails : (kind : LexKind) (bytes : List ℕ) → matches kind bytes ≡ false → Matches kind bytes → ⊥
-matches_fails white [] e m = let empty : [] ≡ m.0 ∷ [] = m.1 in cc
-matches_fails white (byte ∷ []) e m =
-    let same : byte ≡ m.0 = cc in
-    let is : is_white byte ≡ true = rw same m.2 in
-    cc
-matches_fails white (byte ∷ second ∷ bytes) e m =
-    let long : byte ∷ second ∷ bytes ≡ m.0 ∷ [] = m.1 in cc
-matches_fails (symbol number (Word word)) bytes e m =
-    let same : bytes_eq bytes word ≡ true = (bytes_eq-Decides bytes word).1 m in cc
+pub matches-Decides : (kind : LexKind) (bytes : List ℕ) → Decides (matches kind bytes) (MatchesKind kind bytes)
+matches-Decides white bytes = is_one_white-Decides bytes
+matches-Decides (line_comment opening) bytes =
+    opened-Decides opening IsOnLine is_on_line is_on_line-Decides bytes
+matches-Decides (block_comment opening closing) bytes =
+    opened-Decides opening (λ rest. EndsFirst rest closing) (λ rest. ends_first rest closing)
+    (λ rest. ends_first-Decides rest closing) bytes
+matches-Decides (symbol number kind) bytes = matches_def-Decides kind bytes
 
--- the tokens of the text under the grammar's kinds, None where a stray scalar does not end within the text
-abbrev pub tokens_of : List KindDef → List ℕ → Option (List Token)
-tokens_of kinds text = tokens_from matches token_kind (lex_kinds kinds) text (length text + 1) 0
+-- the matches of the text under the lexicon, and its tokens
+abbrev pub matches_of : Lexicon → List ℕ → List (Match LexKind)
+matches_of lexicon text = matches_from matches (lex_kinds lexicon) text (length text) 0
 
--- this answer is the token list of the text, or None where a scalar is cut
-abbrev IsRight : List KindDef → List ℕ → Option (List Token) → Type 0
-IsRight kinds text answer =
-    MatchOption answer (length text < (length text + 1) + 0 → HasCutScalar text) (AreTokensOf kinds text)
+abbrev pub tokens_of : Lexicon → List ℕ → List Token
+tokens_of lexicon text = tokens_of_matches token_kind (matches_of lexicon text)
 
--- the lexer's answer is right
-tokens_of_right : (kinds : List KindDef) (text : List ℕ) → IsRight kinds text (tokens_of kinds text)
-tokens_of_right kinds text =
-    tokens_are Matches matches matches_passes matches_fails token_kind (lex_kinds kinds) text
-    (length text + 1) 0 (omega arith)
+-- these are the tokens of the text
+are_tokens : (lexicon : Lexicon) (text : List ℕ) → AreTokensOf lexicon text (tokens_of lexicon text)
+are_tokens lexicon text = record {
+  matches = matches_of lexicon text;
+  are_matches =
+      matches_are MatchesKind matches matches-Decides (lex_kinds lexicon) text (length text) 0
+      (omega arith) (omega arith);
+  kept = refl;
+}
 
--- where the lexer gives tokens, they are those of the text
-pub tokens_of_is : (kinds : List KindDef) (text : List ℕ) (tokens : List Token) →
-    tokens_of kinds text ≡ Some tokens → AreTokensOf kinds text tokens
-tokens_of_is kinds text tokens e =
-    MatchOption-at_some (length text < (length text + 1) + 0 → HasCutScalar text) (AreTokensOf kinds text) tokens e
-    (tokens_of_right kinds text)
+-- the text has tokens
+pub some_tokens : (lexicon : Lexicon) (text : List ℕ) → (tokens : List Token) × AreTokensOf lexicon text tokens
+some_tokens lexicon text = (tokens_of lexicon text, are_tokens lexicon text)
 
--- no scalar of an ASCII text is cut
-ascii_not_cut : (text : List ℕ) → IsAscii text → HasCutScalar text → ⊥
-ascii_not_cut text ascii cut =
-    let below : slice_index text cut.0 < 128 = ascii cut.0 in
-    let one : scalar_len (slice_index text cut.0) ≡ 1 = grind (arith, nat_tests) in
-    omega (arith, one, cut.1, cut.2)
+-- what the lexer gives are the tokens of the text
+pub tokens_of_is : (lexicon : Lexicon) (text : List ℕ) (tokens : List Token) →
+    tokens_of lexicon text ≡ tokens → AreTokensOf lexicon text tokens
+tokens_of_is lexicon text tokens e = subst (AreTokensOf lexicon text) e (are_tokens lexicon text)
 
--- a right answer for an ASCII text has tokens
-some_of_right : (kinds : List KindDef) (text : List ℕ) → IsAscii text →
-    (answer : Option (List Token)) → IsRight kinds text answer →
-    (tokens : List Token) × AreTokensOf kinds text tokens
-some_of_right kinds text ascii None right = absurd (ascii_not_cut text ascii (right (omega arith)))
-some_of_right kinds text ascii (Some tokens) right = (tokens, right)
-
--- an ASCII text has tokens
-pub some_tokens : (kinds : List KindDef) (text : List ℕ) → IsAscii text →
-    (tokens : List Token) × AreTokensOf kinds text tokens
-some_tokens kinds text ascii = some_of_right kinds text ascii (tokens_of kinds text) (tokens_of_right kinds text)
+-- a lexicon of words alone is that of its kinds
+pub lexicon_of_words : (lexicon : Lexicon) → HasWordsAlone lexicon → lexicon ≡ lexicon_of lexicon.kinds
+lexicon_of_words lexicon words =
+    ap₂ (λ lines blocks. record { line_comments = lines; block_comments = blocks; kinds = lexicon.kinds })
+    words.no_lines words.no_blocks

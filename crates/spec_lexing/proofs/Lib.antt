@@ -1,4 +1,5 @@
 pub mod LongestMatchLemmas
 pub mod TokensLemmas
+pub mod MatchingTests
 pub mod LexerByTests
 pub mod KindsLemmas

@@ -1,7 +1,9 @@
 -- Longest matches are unique, and a test of what each kind matches finds them.
 use Rattle.std.proofs.Common.{inl, inr, ◌≡◌, ℕ, suc, zero, ◌+◌, ◌<◌, ◌≤◌, List, [], ◌∷◌, length, Option, Some, None, Bool, true, false, cond, slice_get, slice_range, MatchOption, refl, ap, arith}
 use Rattle.std.specs.Option.{option_map}
+use Rattle.std.specs.Bool.{Decides}
 use Rattle.std.proofs.lemmas.Bool.{cases_lt}
+use Rattle.std.proofs.lemmas.Bool.Decides.{not_from_Decides}
 use Rattle.spec_lexing.specs.LongestMatch.{IsLongestMatch, IsUnmatched, MatchesAt}
 
 module _ {K : Type 0} (MatchesKind : K → List ℕ → Type 0) (kinds : List K) (text : List ℕ) where
@@ -85,8 +87,7 @@ module _ {K : Type 0} (matches : K → List ℕ → Bool) where
       (longest_within kinds text start size)
 
 module _ {K : Type 0} (MatchesKind : K → List ℕ → Type 0) (matches : K → List ℕ → Bool)
-    (passes : (kind : K) (bytes : List ℕ) → matches kind bytes ≡ true → MatchesKind kind bytes)
-    (fails : (kind : K) (bytes : List ℕ) → matches kind bytes ≡ false → MatchesKind kind bytes → ⊥) where
+    (decides : (kind : K) (bytes : List ℕ) → Decides (matches kind bytes) (MatchesKind kind bytes)) where
   -- no kind of the list matches the bytes
   abbrev NoneMatches : List K → List ℕ → Type 0
   NoneMatches kinds bytes =
@@ -109,18 +110,18 @@ module _ {K : Type 0} (MatchesKind : K → List ℕ → Type 0) (matches : K →
       IsLeastOrNone (kind ∷ kinds) bytes (cond first (Some (first_ranked kind)) (option_map one_later others))
   least_of_more kind kinds bytes true e others behind = record {
     stands = refl;
-    match = passes kind bytes e;
+    match = (decides kind bytes).0 e;
     least = λ other kind' below is m. absurd (omega arith);
   }
   least_of_more kind kinds bytes false e None behind = elim [
-    | zero ↦ λ kind' is m. let same : kind ≡ kind' = cc in fails kind bytes e (rw same m)
+    | zero ↦ λ kind' is m. let same : kind ≡ kind' = cc in not_from_Decides (matches kind bytes) (decides kind bytes) e (rw same m)
     | suc other ↦ λ kind' is m. behind other kind' is m
   ]
   least_of_more kind kinds bytes false e (Some ranked) behind = record {
     stands = behind.stands;
     match = behind.match;
     least = elim [
-      | zero ↦ λ kind' below is m. let same : kind ≡ kind' = cc in fails kind bytes e (rw same m)
+      | zero ↦ λ kind' below is m. let same : kind ≡ kind' = cc in not_from_Decides (matches kind bytes) (decides kind bytes) e (rw same m)
       | suc other ↦ λ kind' below is m. behind.least other kind' (omega arith) is m
     ];
   }

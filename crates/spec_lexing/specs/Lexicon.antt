@@ -1,5 +1,5 @@
 -- All that a lexer of a grammar looks for behind white space.
-use Rattle.std.specs.Prelude.{ℕ, List}
+use Rattle.std.specs.Prelude.{ℕ, List, []}
 use Rattle.spec_lexing.specs.declared.kind_def.KindDef.{KindDef}
 
 -- the words that begin line comments, the words that begin and end block comments, and the kinds
@@ -8,3 +8,7 @@ pub record Lexicon : Type 0 where
   pub line_comments : List (List ℕ)
   pub block_comments : List (List ℕ × List ℕ)
   pub kinds : List KindDef
+
+-- the lexicon of these kinds, without comments
+abbrev pub lexicon_of : List KindDef → Lexicon
+lexicon_of kinds = record { line_comments = []; block_comments = []; kinds = kinds }

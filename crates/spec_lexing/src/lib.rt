@@ -1,12 +1,12 @@
 //! What the kinds of a lexer match, longest match, and the tokens of a whole text.
 #![tactic(auto)]
 
+mod expression;
 mod kind_def;
 mod laws;
 mod token;
 
+pub use expression::{Class, Expr};
 pub use kind_def::KindDef;
-pub use laws::{
-    TokenKind, one_longest_match, one_token_list, small_cases, some_token_list, tokens_lie_in_order,
-};
+pub use laws::{TokenKind, matches_cover, one_longest_match, one_token_list, some_token_list};
 pub use token::Token;

@@ -4,6 +4,6 @@
 #[derive(Clone, Copy, Debug, PartialEq, Eq)]
 pub struct Token {
     pub kind: Option<u16>,
-    pub first: usize,
-    pub end: usize,
+    pub first: u32,
+    pub end: u32,
 }

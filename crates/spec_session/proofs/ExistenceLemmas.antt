@@ -1,8 +1,8 @@
 -- Each input is a script, and the commands of a script have replies. So no input is without a session.
 use Rattle.std.proofs.Common.{◌≡◌, ℕ, zero, suc, ◌+◌, ◌^◌, ◌<◌, ◌⊎◌, inl, inr, List, [], ◌∷◌, ◌++◌, length, refl, sym, ◌∙◌, ap, arith, length-append}
-use Rattle.std.specs.Str.{IsAscii}
 use Rattle.std.proofs.lemmas.Bool.{cases_lt}
 use Rattle.spec_lexing.specs.declared.token.Token.{Token}
+use Rattle.spec_lexing.specs.Lexicon.{lexicon_of}
 use Rattle.spec_lexing.proofs.KindsLemmas.{some_tokens}
 use Rattle.spec_grammar.specs.Grammars.{Grammar}
 use Rattle.spec_script.specs.Script.{Constituent, Query, has, Command, header, grammar, opens, ask, line_of}
@@ -168,33 +168,32 @@ some_answer : (g : Grammar) (tokens : List Token) (query : Query) → IsUndeniab
 some_answer g tokens (has constituent) = some_has_answer g tokens constituent
 
 module _ (g : Grammar) where
-  -- questions on a current text of ASCII have replies
+  -- questions on a current text have replies
   some_replies :
-      (texts : List (List ℕ)) (text : List ℕ) → IsCurrent texts text → IsAscii text →
+      (texts : List (List ℕ)) (text : List ℕ) → IsCurrent texts text →
       (questions : List Command) → AreQuestions questions →
       IsUndeniable ((out : List ℕ) × AreReplies g texts questions out)
-  some_replies texts text current ascii [] are denied = denied ([], refl)
-  some_replies texts text current ascii (ask query ∷ questions) are denied =
-      let tokens = some_tokens g.lexicon.kinds text ascii in
+  some_replies texts text current [] are denied = denied ([], refl)
+  some_replies texts text current (ask query ∷ questions) are denied =
+      let tokens = some_tokens g.lexicon text in
       some_answer g tokens.0 query
       (λ (answer : HasAnswer g tokens.0 query).
-      some_replies texts text current ascii questions are
+      some_replies texts text current questions are
       (λ (others : (out : List ℕ) × AreReplies g texts questions out).
       denied (
         answer.0 ++ others.0,
         (answer.0, others.0, (text, tokens.0, current, tokens.1, answer.1), refl, others.1),
       )))
-  some_replies texts text current ascii (command ∷ questions) are denied = are
+  some_replies texts text current (command ∷ questions) are denied = are
 
-  -- a text of ASCII and the questions behind it have replies
+  -- a text and the questions behind it have replies
   replies_from_text :
-      (text : List ℕ) → IsAscii text →
-      (questions : List Command) → AreQuestions questions →
+      (text : List ℕ) (questions : List Command) → AreQuestions questions →
       IsUndeniable ((out : List ℕ) × AreReplies g [] (opens text ∷ questions) out)
-  replies_from_text text ascii questions are denied =
-      let tokens = some_tokens g.lexicon.kinds text ascii in
+  replies_from_text text questions are denied =
+      let tokens = some_tokens g.lexicon text in
       let line : List ℕ = version_reply 0 (length tokens.0) in
-      some_replies (text ∷ []) text ([], refl) ascii questions are
+      some_replies (text ∷ []) text ([], refl) questions are
       (λ (others : (out : List ℕ) × AreReplies g (text ∷ []) questions out).
       denied (line ++ others.0, (line, others.0, (tokens.0, tokens.1, refl), refl, others.1)))
 
@@ -243,9 +242,8 @@ module _ (input : List ℕ) where
   session_of (header ∷ grammar block ∷ []) ending in_order script denied =
       session_of_grammar block [] ending script (λ g none. none ([], refl)) denied
   session_of (header ∷ grammar block ∷ opens text ∷ questions) ending in_order script denied =
-      let ascii : IsAscii text = script.begins.4.4.2.1 in
       session_of_grammar block (opens text ∷ questions) ending script
-      (λ g. replies_from_text g text ascii questions in_order) denied
+      (λ g. replies_from_text g text questions in_order) denied
   session_of commands ending in_order script denied = in_order
 
 -- no input is without a session

@@ -1,6 +1,7 @@
 -- A session as it goes: its replies with one reply more, and bytes that are a front of what it writes.
 use Rattle.std.proofs.Common.{◌≡◌, ℕ, List, [], ◌∷◌, ◌++◌, length, refl, sym, ◌∙◌, ap, append_assoc, append-nil}
 use Rattle.spec_lexing.specs.declared.token.Token.{Token}
+use Rattle.spec_lexing.specs.Lexicon.{lexicon_of}
 use Rattle.spec_lexing.specs.Tokens.{AreTokensOf}
 use Rattle.spec_grammar.specs.Grammars.{Grammar}
 use Rattle.spec_script.specs.Script.{Command, header, grammar, opens, ask, AreQuestions, IsInOrder}
@@ -36,7 +37,7 @@ grammar_told g block accepted = (g, [], accepted, refl, sym (append-nil (grammar
 
 -- the replies to a grammar, a text and questions
 pub text_told : (g : Grammar) (block text : List ℕ) (tokens : List Token) (questions : List Command)
-    (replies : List ℕ) → IsAccepted block g → AreTokensOf g.lexicon.kinds text tokens →
+    (replies : List ℕ) → IsAccepted block g → AreTokensOf g.lexicon text tokens →
     AreReplies g (text ∷ []) questions replies →
     AreAllReplies (header ∷ grammar block ∷ opens text ∷ questions)
     (grammar_reply g ++ (version_reply 0 (length tokens) ++ replies))

@@ -1,9 +1,10 @@
 -- A command has one reply: a grammar is accepted in one way or refused by one line, and so on.
 use Rattle.std.proofs.Common.{◌≡◌, ℕ, ◌≤◌, inl, inr, List, [], ◌∷◌, ◌++◌, length, drop, get_or, sym, subst, ◌∙◌, ap, arith, length-append}
 use Rattle.spec_lexing.specs.declared.token.Token.{Token}
-use Rattle.spec_lexing.specs.Kinds.{Matches, token_kind, lex_kinds}
+use Rattle.spec_lexing.specs.Lexicon.{lexicon_of}
+use Rattle.spec_lexing.specs.Kinds.{MatchesKind, token_kind, lex_kinds}
 use Rattle.spec_lexing.specs.Tokens.{AreTokensOf}
-use Rattle.spec_lexing.proofs.TokensLemmas.{one_list}
+use Rattle.spec_lexing.proofs.TokensLemmas.{one_token_list}
 use Rattle.spec_grammar.specs.Grammars.{Grammar, symbol_count}
 use Rattle.spec_lbnf.specs.Expansion.{expansion_of}
 use Rattle.spec_lbnf.specs.declared.definition.Def.{Def}
@@ -126,8 +127,8 @@ one_current texts text other h k = one_last h.0 text k.0 other (sym h.1 ∙ k.1)
 
 -- a text has one list of tokens under a grammar
 one_tokens : (g : Grammar) (text : List ℕ) (tokens others : List Token) →
-    AreTokensOf g.lexicon.kinds text tokens → AreTokensOf g.lexicon.kinds text others → tokens ≡ others
-one_tokens g text tokens others h k = one_list Matches token_kind (lex_kinds g.lexicon.kinds) text 0 tokens others h k
+    AreTokensOf g.lexicon text tokens → AreTokensOf g.lexicon text others → tokens ≡ others
+one_tokens g text tokens others h k = one_token_list MatchesKind token_kind (lex_kinds g.lexicon) text 0 tokens others h k
 
 -- a command has one reply
 pub one_reply : (g : Grammar) (texts : List (List ℕ)) (command : Command) (line other : List ℕ) →
@@ -140,6 +141,6 @@ one_reply g texts (opens text) line other h k =
     h.2 ∙ replies ∙ sym k.2
 one_reply g texts (ask query) line other h k =
     let one_text : h.0 ≡ k.0 = one_current texts h.0 k.0 h.2 k.2 in
-    let again : AreTokensOf g.lexicon.kinds h.0 k.1 = rw one_text k.3 in
+    let again : AreTokensOf g.lexicon h.0 k.1 = rw one_text k.3 in
     let same : h.1 ≡ k.1 = one_tokens g h.0 h.1 k.1 h.3 again in
     one_answer g h.1 query line other h.4 (rw same k.4)

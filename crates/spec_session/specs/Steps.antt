@@ -29,8 +29,8 @@ abbrev pub IsReply : Grammar → List (List ℕ) → Command → List ℕ → Ty
 IsReply g texts header line = ⊥
 IsReply g texts (grammar block) line = ⊥
 IsReply g texts (opens text) line =
-    (tokens : List Token) × AreTokensOf g.lexicon.kinds text tokens
+    (tokens : List Token) × AreTokensOf g.lexicon text tokens
     × (line ≡ version_reply (length texts) (length tokens))
 IsReply g texts (ask query) line =
-    (text : List ℕ) × (tokens : List Token) × IsCurrent texts text × AreTokensOf g.lexicon.kinds text tokens
+    (text : List ℕ) × (tokens : List Token) × IsCurrent texts text × AreTokensOf g.lexicon text tokens
     × IsAnswer g tokens query line

@@ -16,7 +16,7 @@ use Rattle.spec_grammar.specs.Cycles.{StepsTo}
 use Rattle.spec_grammar.proofs.DerivationLemmas.{AreFull, derives_grows}
 use Rattle.spec_lexing.specs.declared.token.Token.{Token}
 use Rattle.spec_lexing.specs.Tokens.{AreTokensOf, kinds_of}
-use Rattle.spec_lexing.specs.Examples.{token}
+use Rattle.spec_lexing.specs.Lexicon.{lexicon_of}
 use Rattle.spec_lexing.proofs.KindsLemmas.{tokens_of_is}
 use Rattle.spec_lbnf.specs.declared.definition.RawItem.TheVariants.{Word}
 use Rattle.spec_lbnf.specs.declared.definition.Def.{Def}
@@ -98,11 +98,11 @@ accepted = (rule_defs, spells, record { fit = fit; few = omega arith }, refl)
 
 -- the text's one token
 abbrev pub one_token : List Token
-one_token = token 0 0 1 ∷ []
+one_token = record { kind = Some 0; first = 0; end = 1 } ∷ []
 
 -- the lexer computes it
-pub are_tokens : AreTokensOf rule_grammar.lexicon.kinds (codes "a") one_token
-are_tokens = tokens_of_is rule_grammar.lexicon.kinds (codes "a") one_token refl
+pub are_tokens : AreTokensOf rule_grammar.lexicon (codes "a") one_token
+are_tokens = tokens_of_is rule_grammar.lexicon (codes "a") one_token refl
 
 -- the category derives it
 derived : Derives rule_grammar.rules (kinds_of one_token) (Category 0) 0 1

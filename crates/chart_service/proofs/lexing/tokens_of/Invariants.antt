@@ -1,16 +1,18 @@
 -- The tokens so far, with those from the place on, are those of the text.
 use Rattle.std.proofs.Common.{◌-◌, ◌≤◌, List, ◌++◌, length}
 use Rattle.spec_lexing.specs.declared.token.Token.{Token}
-use Rattle.spec_lexing.specs.Kinds.{Matches, token_kind, lex_kinds}
+use Rattle.spec_lexing.specs.Lexicon.{lexicon_of}
+use Rattle.spec_lexing.specs.Kinds.{MatchesKind, token_kind}
 use Rattle.spec_lexing.specs.Tokens.{AreTokensFrom, AreTokensOf}
+use Rattle.chart_service.specs.Lexing.{words_and_white}
 use Rattle.chart_service.proofs.lexing.tokens_of.Given as goal
 
 abbrev pub invariant-loop-place : goal.invariant-loop-place
 invariant-loop-place l = record {
   within : l.place ≤ length l.text;
   few : length l.tokens.items ≤ l.place;
-  so_far : (rest : List Token) → AreTokensFrom Matches token_kind (lex_kinds l.kinds) l.text l.place rest →
-      AreTokensOf l.kinds l.text (l.tokens.items ++ rest);
+  so_far : (rest : List Token) → AreTokensFrom MatchesKind token_kind (words_and_white l.kinds) l.text l.place rest →
+      AreTokensOf (lexicon_of l.kinds) l.text (l.tokens.items ++ rest);
 }
 
 abbrev pub decreases-loop-place : goal.decreases-loop-place

@@ -1,8 +1,8 @@
 -- The lexer computes the tokens.
 use Rattle.std.proofs.Common.{[], ◌∷◌, refl}
-use Rattle.spec_lexing.specs.Examples.{words}
 use Rattle.spec_lexing.proofs.KindsLemmas.{tokens_of_is}
-use Rattle.spec_lexing.proofs.laws.small_cases.Goals as goal
+use Rattle.spec_lexing_cases.specs.TokenExamples.{words}
+use Rattle.spec_lexing_cases.proofs.tokens_of_words.Goals as goal
 
 pub returns : goal.returns
 returns c = record {
@@ -20,4 +20,6 @@ returns c = record {
   front_of_word = tokens_of_is (words ("ab" ∷ [])) _ _ refl;
   empty_word = tokens_of_is (words ("" ∷ [])) _ _ refl;
   two_bytes = tokens_of_is (words ("a" ∷ [])) _ _ refl;
+  cut_scalar = tokens_of_is (words ("a" ∷ [])) _ _ refl;
+  no_scalar = tokens_of_is (words ("a" ∷ [])) _ _ refl;
 }

@@ -1,0 +1,2 @@
+pub mod CasesLemmas
+pub mod TokenLemmas

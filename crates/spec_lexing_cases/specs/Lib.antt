@@ -1,0 +1,2 @@
+pub mod MatchingExamples
+pub mod TokenExamples
