@@ -1,6 +1,5 @@
 //! The grammars that are measured. Their categories and kinds have no names.
-use lbnf_grammar::{Grammar, Items, KindDef, Rule, Symbol};
-use lbnf_text::{Label, Name};
+use numbered_grammar::{Grammar, Items, KindDef, Label, Name, Rule, Symbol};
 use std::alloc::{AllocError, Global};
 
 fn unnamed(alloc: Global) -> Name {

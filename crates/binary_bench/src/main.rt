@@ -8,7 +8,7 @@ mod grammars;
 use binary_form::{Binary, binary};
 use cell_sets::ListCell;
 use grammars::{chain, imperative};
-use lbnf_grammar::Grammar;
+use numbered_grammar::Grammar;
 use std::alloc::Global;
 use std::process::ExitCode;
 use std::{env, io};

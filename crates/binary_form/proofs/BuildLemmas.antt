@@ -1,7 +1,7 @@
 -- Cells and lists that are filled number by number.
 use Rattle.std.proofs.Common.{◌≡◌, ℕ, zero, suc, ◌+◌, ◌<◌, ◌≤◌, ◌↔◌, ◌⊎◌, List, [], ◌∷◌, ◌++◌, Some, Bool, inl, inr, length, length-append, slice_get, sym, subst, arith, Contains}
 use Rattle.std.proofs.lemmas.Bool.{cases_lt}
-use Rattle.spec_lbnf.specs.Expansion.{Expansion}
+use Rattle.spec_grammar.specs.Grammars.{Grammar}
 use Rattle.cell_sets.specs.Cells.{Adds, AddsSymbol}
 use Rattle.binary_form.specs.BinaryForm.{IsClosureOf}
 use Rattle.number_graph.specs.Graphs.{IsSet}
@@ -84,7 +84,7 @@ each_pushed P (y ∷ ys) last before it (suc n) x is =
 
 -- a list of closures goes on with that of the next number
 pub closures_more :
-    {C : Type 0} (symbols : C → List ℕ) (g : Expansion) (many : ℕ) (cells : List C) (last : C)
+    {C : Type 0} (symbols : C → List ℕ) (g : Grammar) (many : ℕ) (cells : List C) (last : C)
     → AreClosuresUpTo symbols g many cells → IsClosureOf g many (symbols last)
     → AreClosuresUpTo symbols g (many + 1) (cells ++ last ∷ [])
 closures_more {C = C} symbols g many cells last before it =

@@ -4,14 +4,14 @@ use Rattle.std.proofs.lemmas.List.Elements.{All-nil, All-cons}
 use Rattle.spec_grammar.specs.declared.rule.Symbol.{Symbol}
 use Rattle.spec_grammar.specs.declared.rule.Symbol.TheVariants.{Category, Kind}
 use Rattle.spec_grammar.specs.declared.rule.Rule.{Rule}
-use Rattle.spec_lbnf.specs.Expansion.{Expansion, IsSymbolOf, HasOwnSymbols}
+use Rattle.spec_grammar.specs.Grammars.{Grammar, IsSymbolOf, HasOwnSymbols}
 use Rattle.binary_form.specs.Symbols.{BinarySymbol, plain, suffix}
 use Rattle.binary_form.specs.UnitSteps.{HasItem}
 use Rattle.binary_form.specs.BinaryForm.{IsNumberOf, IsReachedNumber, IsClosureOf, IsTokenCell, MakesNumber, IsProductOf, IsProductNumber}
 use Rattle.binary_form.specs.NumberSteps.{StepNumber}
-use Rattle.number_graph.specs.Graphs.{NumberReaches}
+use Rattle.number_graph.specs.Graphs.{ReachesBy}
 use Rattle.binary_form.proofs.NumberLemmas.{number_is_one}
-use Rattle.number_graph.proofs.ReachLemmas.{number_reaches_within}
+use Rattle.number_graph.proofs.ReachLemmas.{reaches_within}
 use Rattle.binary_form.proofs.ReachLemmas.{reaches_numbers}
 
 -- the number is one of these
@@ -38,7 +38,7 @@ one_has (m ∷ ms) n (inr one) =
     let has = one_has ms n one in
     (suc has.0, omega (arith, has.1), has.2)
 
-module _ (g : Expansion) where
+module _ (g : Grammar) where
   -- the cell has just the numbers of what the symbol reaches
   abbrev pub HasReached : BinarySymbol → List ℕ → Type 0
   HasReached a cell = (n : ℕ) → Contains cell n ↔ IsReachedNumber g a n
@@ -46,15 +46,15 @@ module _ (g : Expansion) where
   -- each number of the cell is reached by this one
   abbrev pub AreReached : ℕ → List ℕ → Type 0
   AreReached m [] = Unit {0}
-  AreReached m (n ∷ ns) = NumberReaches (StepNumber g) m n × AreReached m ns
+  AreReached m (n ∷ ns) = ReachesBy (StepNumber g) m n × AreReached m ns
 
   -- what is one of the cell's numbers is reached
   one_reached :
       (m : ℕ) (cell : List ℕ) (n : ℕ)
-      → AreReached m cell → IsOneOf cell n → NumberReaches (StepNumber g) m n
+      → AreReached m cell → IsOneOf cell n → ReachesBy (StepNumber g) m n
   one_reached m [] n all one = absurd one
   one_reached m (k ∷ ks) n all (inl is) =
-      let Reached : ℕ → Type 0 = λ l. NumberReaches (StepNumber g) m l in
+      let Reached : ℕ → Type 0 = λ l. ReachesBy (StepNumber g) m l in
       subst Reached (sym is) all.0
   one_reached m (k ∷ ks) n all (inr one) = one_reached m ks n all.1 one
 
@@ -66,7 +66,7 @@ module _ (g : Expansion) where
       → HasReached a cell
   has_reached a m cell own is within closed all n =
       let by_number = reaches_numbers g a m n own is in
-      let kept = number_reaches_within (StepNumber g) (IsOneOf cell) m n closed within in (
+      let kept = reaches_within (StepNumber g) (IsOneOf cell) m n closed within in (
         (λ has. by_number.1 (one_reached m cell n all (has_one cell n has))),
         (λ reached. one_has cell n (kept (by_number.0 reached))),
       )
@@ -74,7 +74,7 @@ module _ (g : Expansion) where
   -- the cell of a token has what its kind reaches
   pub token_cell :
       (k : ℕ) (cell : List ℕ)
-      → k < length g.kinds → HasReached (plain (Kind k)) cell → IsTokenCell g (Some k) cell
+      → k < length g.lexicon.kinds → HasReached (plain (Kind k)) cell → IsTokenCell g (Some k) cell
   token_cell k cell known reached m = (
     (λ has. (k, refl, known, (reached m).0 has)),
     (λ x.
@@ -146,19 +146,19 @@ module _ (g : Expansion) where
           ]
 
 -- the items are symbols of the grammar, each by itself
-abbrev pub AreOwn : Expansion → List Symbol → Type 0
+abbrev pub AreOwn : Grammar → List Symbol → Type 0
 AreOwn g [] = Unit {0}
 AreOwn g (s ∷ items) = IsSymbolOf g s × AreOwn g items
 
 -- so all of them are
-own_items : (g : Expansion) (items : List Symbol) → AreOwn g items → All (IsSymbolOf g) items
+own_items : (g : Grammar) (items : List Symbol) → AreOwn g items → All (IsSymbolOf g) items
 own_items g [] own = All-nil (IsSymbolOf g)
 own_items g (s ∷ items) own =
     All-cons (IsSymbolOf g) s items own.0 (own_items g items own.1)
 
 -- a rule that is the other has its symbols
 pub own_rule :
-    (g : Expansion) (x rule : Rule)
+    (g : Grammar) (x rule : Rule)
     → Some x ≡ Some rule → IsSymbolOf g (Category x.category) → AreOwn g x.items
     → IsSymbolOf g (Category rule.category) × All (IsSymbolOf g) rule.items
 own_rule g x rule is category items =

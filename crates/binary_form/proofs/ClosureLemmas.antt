@@ -8,7 +8,8 @@ use Rattle.spec_grammar.specs.Trees.{Tree, leaf, node, Forest, no_trees, trees}
 use Rattle.spec_grammar.specs.Derivation.{IsParseTree, AreParseTrees, Derives, DerivesAll}
 use Rattle.spec_grammar.proofs.DerivationLemmas.{forest_ordered, tree_ordered, kind_derives, category_derives, some_derive, nullable_derives}
 use Rattle.binary_form.specs.Symbols.{BinarySymbol, plain, suffix, BinaryDerives}
-use Rattle.binary_form.specs.UnitSteps.{HasItem, UnitStep, whole_side, last_item, passed_item, Reaches, stay, step}
+use Rattle.binary_form.specs.UnitSteps.{HasItem, UnitStep, whole_side, last_item, passed_item, Reaches}
+use Rattle.number_graph.specs.Graphs.{stay, step}
 use Rattle.binary_form.specs.Laws.{IsOfToken, IsOfCut, ClosureIsDerivation}
 use Rattle.binary_form.proofs.ItemLemmas.{drop_behind, same_rule, items_behind}
 use Rattle.binary_form.proofs.EmptySpanLemmas.{items_nullable, nullable_items}

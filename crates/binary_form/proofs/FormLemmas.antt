@@ -2,8 +2,8 @@
 use Rattle.std.proofs.Common.{◌≡◌, ℕ, ◌+◌, ◌<◌, List, Some, length, slice_index, get_or, refl, sym, ap, arith}
 use Rattle.std.proofs.lemmas.Option.{slice_get_read, slice_get_within}
 use Rattle.spec_grammar.specs.declared.rule.Symbol.TheVariants.{Kind}
-use Rattle.spec_lbnf.specs.Expansion.{Expansion, symbol_count}
-use Rattle.binary_form.specs.Symbols.{BinarySymbol, plain, suffix, IsBinarySymbolOf, number_of}
+use Rattle.spec_grammar.specs.Grammars.{Grammar, symbol_count}
+use Rattle.binary_form.specs.Symbols.{BinarySymbol, plain, suffix, IsBinarySymbolOf, symbol_number}
 use Rattle.binary_form.specs.BinaryForm.{IsNumberOf, IsClosureOf, IsTokenCell}
 use Rattle.binary_form.specs.FirstSuffixes.{AreFirstSuffixes}
 use Rattle.binary_form.specs.Forms.{AreClosures}
@@ -12,13 +12,13 @@ use Rattle.binary_form.proofs.CellLemmas.{HasReached, token_cell}
 
 -- the place of an item, counted from the first suffix of its rule, is the suffix's number
 pub suffix_numbered :
-    (g : Expansion) (firsts : List ℕ) (r p : ℕ)
+    (g : Grammar) (firsts : List ℕ) (r p : ℕ)
     → AreFirstSuffixes g firsts → IsBinarySymbolOf g (suffix r p)
-    → slice_index firsts r + p ≡ number_of g (suffix r p)
+    → slice_index firsts r + p ≡ symbol_number g (suffix r p)
 suffix_numbered g firsts r p are is =
     ap (λ n. n + p) (are.each r (slice_get_within g.rules r is.0 is.1))
 
-module _ {C : Type 0} (symbols : C → List ℕ) (g : Expansion) (cells : List C)
+module _ {C : Type 0} (symbols : C → List ℕ) (g : Grammar) (cells : List C)
     (closures : AreClosures symbols g cells) where
   -- the cell at the place of a number is its closure
   pub cell_closure :
@@ -43,7 +43,7 @@ module _ {C : Type 0} (symbols : C → List ℕ) (g : Expansion) (cells : List C
   -- the cell at the place of a kind's number is that of a token of the kind
   pub kind_closure :
       (k : ℕ) (cell : C)
-      → k < length g.kinds → cell ≡ get_or cells (length g.categories + k) cell
+      → k < length g.lexicon.kinds → cell ≡ get_or cells (length g.categories + k) cell
       → IsTokenCell g (Some k) (symbols cell)
   kind_closure k cell known is =
       let n = length g.categories + k in

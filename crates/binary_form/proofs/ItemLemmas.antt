@@ -3,7 +3,7 @@ use Rattle.std.proofs.Common.{◌≡◌, ℕ, ◌<◌, List, [], ◌∷◌, Some
 use Rattle.std.proofs.lemmas.List.Elements.{All-drop}
 use Rattle.spec_grammar.specs.declared.rule.Symbol.{Symbol}
 use Rattle.spec_grammar.specs.declared.rule.Rule.{Rule}
-use Rattle.spec_lbnf.specs.Expansion.{Expansion, IsSymbolOf, HasOwnSymbols}
+use Rattle.spec_grammar.specs.Grammars.{Grammar, IsSymbolOf, HasOwnSymbols}
 use Rattle.binary_form.specs.Symbols.{plain, suffix, IsBinarySymbolOf}
 use Rattle.binary_form.specs.UnitSteps.{HasItem}
 
@@ -96,7 +96,7 @@ module _ (rules : List Rule) where
     is_item = drop_behind (has.rule).items p s (next ∷ behind) has.is_item;
   }
 
-module _ (g : Expansion) where
+module _ (g : Grammar) where
   -- the suffix that an item begins is a symbol of the grammar
   pub suffix_symbol :
       (r p : ℕ) (s : Symbol) (behind : List Symbol)

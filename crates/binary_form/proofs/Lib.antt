@@ -5,9 +5,6 @@ pub mod NumberLemmas
 pub mod ReachLemmas
 pub mod ProductLemmas
 pub mod CellLemmas
-pub mod TripleSteps
-pub mod BracketSteps
-pub mod Examples
 pub mod FormLemmas
 pub mod GivingLemmas
 pub mod LongerSuffixesLemmas

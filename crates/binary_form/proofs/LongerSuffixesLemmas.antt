@@ -1,10 +1,10 @@
 -- The product of cells is what the suffixes of items give that have an item behind.
 use Rattle.std.proofs.Common.{◌≡◌, ℕ, ◌+◌, ◌↔◌, ◌⊎◌, List, [], inl, inr, suc, length, refl, sym, ◌∙◌, ap, subst, arith, Contains}
 use Rattle.std.proofs.lemmas.Option.{slice_get_cases}
-use Rattle.spec_lbnf.specs.Expansion.{Expansion, symbol_count}
+use Rattle.spec_grammar.specs.Grammars.{Grammar, symbol_count}
 use Rattle.cell_sets.specs.Cells.{Adds}
-use Rattle.binary_form.specs.Symbols.{BinarySymbol, suffix, number_of}
-use Rattle.binary_form.specs.UnitSteps.{stay}
+use Rattle.binary_form.specs.Symbols.{BinarySymbol, suffix, symbol_number}
+use Rattle.number_graph.specs.Graphs.{stay}
 use Rattle.binary_form.specs.BinaryForm.{IsNumberOf, IsReachedNumber, MakesNumber, IsProductNumber, IsProductOf, AddsProductOf, HasProduct}
 use Rattle.number_graph.specs.Graphs.{HasLink}
 use Rattle.binary_form.specs.LongerSuffixes.{IsLongerSuffix, AreLongerSuffixes}
@@ -15,15 +15,15 @@ use Rattle.binary_form.proofs.NumberLemmas.{number_is_one, numbers_below, number
 
 -- the suffix behind the item of a longer suffix has the next number
 next_number :
-    (g : Expansion) (item longer : ℕ) (is : IsLongerSuffix g item longer)
-    → number_of g (suffix is.r (suc is.p)) ≡ longer + 1
+    (g : Grammar) (item longer : ℕ) (is : IsLongerSuffix g item longer)
+    → symbol_number g (suffix is.r (suc is.p)) ≡ longer + 1
 next_number g item longer is =
-    let at : number_of g (suffix is.r is.p) ≡ longer = is.is_suffix.1 in
+    let at : symbol_number g (suffix is.r is.p) ≡ longer = is.is_suffix.1 in
     omega (arith, at, number-suffix-suc g is.r is.p)
 
 -- longer suffixes go on with a number below the count of symbols
 pub links_go_on :
-    (g : Expansion) (links : List (List ℕ))
+    (g : Grammar) (links : List (List ℕ))
     → AreLongerSuffixes g links → LinksGoOnBelow (symbol_count g) links
 links_go_on g links longer_suffixes item longer has =
     let is = (longer_suffixes.links item longer).0 has in
@@ -32,7 +32,7 @@ links_go_on g links longer_suffixes item longer has =
 
 -- what is added to a list without numbers is the product
 pub product_from_none :
-    (g : Expansion) (left right none cell : List ℕ)
+    (g : Grammar) (left right none cell : List ℕ)
     → none ≡ [] → AddsProductOf g left right none cell → IsProductOf g left right cell
 product_from_none g left right none cell empty added n = (to, (λ x. (added n).1 (inr x)))
   where
@@ -42,7 +42,7 @@ product_from_none g left right none cell empty added n = (to, (λ x. (added n).1
       | inr x ↦ x
     ]
 
-module _ {C : Type 0} (symbols : C → List ℕ) (g : Expansion) (cells : List C) (links : List (List ℕ))
+module _ {C : Type 0} (symbols : C → List ℕ) (g : Grammar) (cells : List C) (links : List (List ℕ))
     (closures : AreClosures symbols g cells) (longer_suffixes : AreLongerSuffixes g links) where
   -- the cell at the place of a number has what the symbol of the number reaches
   in_cell :
@@ -71,7 +71,7 @@ module _ {C : Type 0} (symbols : C → List ℕ) (g : Expansion) (cells : List C
       (right : List ℕ) (l m n : ℕ)
       → Contains right m → MakesNumber g l m n → ItemGives symbols cells links right l n
   makes_given right l m n on_right makes =
-      let longer = number_of g (suffix makes.r makes.p) in
+      let longer = symbol_number g (suffix makes.r makes.p) in
       let is : IsLongerSuffix g l longer = record {
         r = makes.r;
         p = makes.p;

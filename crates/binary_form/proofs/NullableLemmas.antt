@@ -10,9 +10,9 @@ use Rattle.spec_grammar.specs.declared.rule.Symbol.{Symbol}
 use Rattle.spec_grammar.specs.declared.rule.Symbol.TheVariants.{Category, Kind}
 use Rattle.spec_grammar.specs.declared.rule.Rule.{Rule}
 use Rattle.spec_grammar.specs.Derivation.{IsNullable}
-use Rattle.spec_lbnf.specs.Expansion.{Expansion, item_count, symbol_count}
-use Rattle.lbnf_grammar.specs.Nullable.{AreNullableFlags}
-use Rattle.lbnf_grammar.proofs.NullableLemmas.{kind_not_nullable}
+use Rattle.spec_grammar.specs.Grammars.{Grammar, item_count, symbol_count}
+use Rattle.numbered_grammar.specs.Nullable.{AreNullableFlags}
+use Rattle.numbered_grammar.proofs.NullableLemmas.{kind_not_nullable}
 use Rattle.binary_form.specs.declared.rows.SuffixRow.{SuffixRow}
 use Rattle.binary_form.specs.Symbols.{BinarySymbol, plain, suffix, BinaryDerives, plain_count, suffix_number}
 use Rattle.binary_form.specs.UnitSteps.{AreNullable}
@@ -34,7 +34,7 @@ alike first second = ((λ x. second.0 (first.0 x)), (λ x. first.1 (second.1 x))
 pub turned : {A B : Type 0} → A ↔ B → B ↔ A
 turned both = (both.1, both.0)
 
-module _ (g : Expansion) where
+module _ (g : Grammar) where
   -- a number is that of a symbol that derives the empty span exactly where its symbol does
   pub number_empty :
       (a : BinarySymbol) (n : ℕ)

@@ -4,8 +4,8 @@ use Rattle.std.proofs.lemmas.Bool.{cases_lt, cases_order}
 use Rattle.std.proofs.lemmas.List.Sums.{sum_by-cons}
 use Rattle.spec_grammar.specs.declared.rule.Symbol.TheVariants.{Category, Kind}
 use Rattle.spec_grammar.specs.declared.rule.Rule.{Rule}
-use Rattle.spec_lbnf.specs.Expansion.{Expansion, item_count}
-use Rattle.binary_form.specs.Symbols.{BinarySymbol, plain, suffix, IsBinarySymbolOf, number_of, plain_count}
+use Rattle.spec_grammar.specs.Grammars.{Grammar, item_count}
+use Rattle.binary_form.specs.Symbols.{BinarySymbol, plain, suffix, IsBinarySymbolOf, symbol_number, plain_count}
 use Rattle.binary_form.specs.BinaryForm.{IsNumberOf}
 use Rattle.binary_form.specs.Laws.{NumbersDiffer, NumbersAreBelow, NumbersAreUsed}
 
@@ -109,17 +109,17 @@ counted_once rules r p t q n one other =
           absurd (omega (arith, count_before rules t r other.rule other.is_rule behind))
     ]
 
-module _ (g : Expansion) where
+module _ (g : Grammar) where
   -- the suffix behind an item has the next number
   pub number-suffix-suc :
-      (r p : ℕ) → number_of g (suffix r (suc p)) ≡ number_of g (suffix r p) + 1
+      (r p : ℕ) → symbol_number g (suffix r (suc p)) ≡ symbol_number g (suffix r p) + 1
   number-suffix-suc r p = omega arith
 
   -- the suffixes of a rule are numbered before those of a later one
   pub number_before :
       (r p later q : ℕ)
       → IsBinarySymbolOf g (suffix r p) → r < later
-      → number_of g (suffix r p) < number_of g (suffix later q)
+      → symbol_number g (suffix r p) < symbol_number g (suffix later q)
   number_before r p later q is order =
       omega (arith, is.2, count_before g.rules r later is.0 is.1 order)
 
@@ -150,7 +150,7 @@ numbers_below g (suffix r p) is = omega (arith, is.2, count_within g.rules r is.
 -- each number below the count is that of a symbol
 pub numbers_used : NumbersAreUsed
 numbers_used g n below =
-    elim (three_parts (length g.categories) (length g.kinds)) [
+    elim (three_parts (length g.categories) (length g.lexicon.kinds)) [
       | inl category ↦ (plain (Category n), category, refl)
       | inr (inl kind) ↦ (plain (Kind (n - length g.categories)), omega arith, omega arith)
       | inr (inr item) ↦
@@ -164,5 +164,5 @@ numbers_used g n below =
 
 -- two symbols with one number are the same
 pub number_is_one :
-    (g : Expansion) (a b : BinarySymbol) (n : ℕ) → IsNumberOf g a n → IsNumberOf g b n → a ≡ b
+    (g : Grammar) (a b : BinarySymbol) (n : ℕ) → IsNumberOf g a n → IsNumberOf g b n → a ≡ b
 number_is_one g a b n is_a is_b = numbers_differ g a b is_a.0 is_b.0 (is_a.1 ∙ sym is_b.1)

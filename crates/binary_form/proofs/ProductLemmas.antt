@@ -1,13 +1,13 @@
 -- Products of numbers are products of the symbols that they number.
 use Rattle.std.proofs.Common.{ℕ, List, suc, Contains, refl, sym, subst}
-use Rattle.spec_lbnf.specs.Expansion.{Expansion}
-use Rattle.binary_form.specs.Symbols.{BinarySymbol, plain, suffix, IsBinarySymbolOf, number_of}
+use Rattle.spec_grammar.specs.Grammars.{Grammar}
+use Rattle.binary_form.specs.Symbols.{BinarySymbol, plain, suffix, IsBinarySymbolOf, symbol_number}
 use Rattle.binary_form.specs.UnitSteps.{IsInProduct}
 use Rattle.binary_form.specs.BinaryForm.{IsNumberOf, IsProductNumber, MakesNumber}
 use Rattle.binary_form.specs.Laws.{HasSymbol, ProductsAgree}
 use Rattle.binary_form.proofs.ReachLemmas.{reaches_of_number}
 
-module _ (g : Expansion) where
+module _ (g : Grammar) where
   -- a set with a number has the symbol of that number
   has_of_number :
       (numbers : List ℕ) (a : BinarySymbol) (n : ℕ)
@@ -20,7 +20,7 @@ module _ (g : Expansion) where
   makes_product :
       (left right : List ℕ) (l m : ℕ) (a : BinarySymbol)
       → IsBinarySymbolOf g a → Contains left l → Contains right m
-      → MakesNumber g l m (number_of g a)
+      → MakesNumber g l m (symbol_number g a)
       → IsInProduct g.rules (HasSymbol g left) (HasSymbol g right) a
   makes_product left right l m a is on_left on_right makes = record {
     r = makes.r;
@@ -31,17 +31,17 @@ module _ (g : Expansion) where
     on_left = has_of_number left (plain makes.item) l makes.is_left on_left;
     on_right = has_of_number right (suffix makes.r (suc makes.p)) m makes.is_right on_right;
     reaches =
-        reaches_of_number g (suffix makes.r makes.p) a (number_of g a) (is, refl) makes.reaches;
+        reaches_of_number g (suffix makes.r makes.p) a (symbol_number g a) (is, refl) makes.reaches;
   }
 
   -- the numbers of what gives a product make its number
   product_makes :
       (left right : List ℕ) (a : BinarySymbol)
       → IsBinarySymbolOf g a → IsInProduct g.rules (HasSymbol g left) (HasSymbol g right) a
-      → IsProductNumber g left right (number_of g a)
+      → IsProductNumber g left right (symbol_number g a)
   product_makes left right a is x = (
-    number_of g (plain x.item),
-    number_of g (suffix x.r (suc x.p)),
+    symbol_number g (plain x.item),
+    symbol_number g (suffix x.r (suc x.p)),
     x.on_left.1,
     x.on_right.1,
     record {

@@ -1,24 +1,16 @@
 -- What a symbol reaches by unit steps, and what its number reaches.
 use Rattle.std.proofs.Common.{◌≡◌, ℕ, ◌<◌, ◌↔◌, List, refl, sym, ◌∙◌, subst}
 use Rattle.spec_grammar.specs.declared.rule.Rule.{Rule}
-use Rattle.spec_lbnf.specs.Expansion.{Expansion, HasOwnSymbols, symbol_count}
-use Rattle.binary_form.specs.Symbols.{BinarySymbol, IsBinarySymbolOf, number_of}
-use Rattle.binary_form.specs.UnitSteps.{UnitStep, whole_side, last_item, passed_item, Reaches, stay, step}
+use Rattle.spec_grammar.specs.Grammars.{Grammar, HasOwnSymbols, symbol_count}
+use Rattle.binary_form.specs.Symbols.{BinarySymbol, IsBinarySymbolOf, symbol_number}
+use Rattle.binary_form.specs.UnitSteps.{UnitStep, whole_side, last_item, passed_item, Reaches}
 use Rattle.binary_form.specs.BinaryForm.{IsNumberOf, IsReachedNumber}
 use Rattle.binary_form.specs.NumberSteps.{StepNumber}
-use Rattle.number_graph.specs.Graphs.{NumberReaches, stay as stay_number, step as step_number}
+use Rattle.number_graph.specs.Graphs.{ReachesBy, stay, step}
 use Rattle.binary_form.proofs.ItemLemmas.{suffix_symbol}
 use Rattle.binary_form.proofs.NumberLemmas.{number_is_one, numbers_below}
 
--- what a reached symbol reaches is reached
-pub reaches_on :
-    (rules : List Rule) (a b c : BinarySymbol)
-    → Reaches rules a b → Reaches rules b c → Reaches rules a c
-reaches_on rules a b c before stay = before
-reaches_on rules a b d before (step {b = c} behind last) =
-    step (reaches_on rules a b c before behind) last
-
-module _ (g : Expansion) where
+module _ (g : Grammar) where
   -- a unit step goes to a symbol of the grammar
   pub step_symbol :
       (a b : BinarySymbol)
@@ -33,7 +25,7 @@ module _ (g : Expansion) where
   pub number_step :
       (a b : BinarySymbol)
       → HasOwnSymbols g → IsBinarySymbolOf g a → UnitStep g.rules a b
-      → StepNumber g (number_of g a) (number_of g b)
+      → StepNumber g (symbol_number g a) (symbol_number g b)
   number_step a b own is next = (a, b, (is, refl), (step_symbol a b own next, refl), next)
 
   -- a symbol of the grammar reaches symbols of the grammar
@@ -66,20 +58,20 @@ module _ (g : Expansion) where
   number_reached :
       (a b : BinarySymbol) (m n : ℕ)
       → HasOwnSymbols g → IsNumberOf g a m → IsNumberOf g b n → Reaches g.rules a b
-      → NumberReaches (StepNumber g) m n
+      → ReachesBy (StepNumber g) m n
   number_reached a b m n own is_a is_b stay =
-      let Reached : ℕ → Type 0 = λ k. NumberReaches (StepNumber g) m k in
-      subst Reached (sym is_a.1 ∙ is_b.1) stay_number
+      let Reached : ℕ → Type 0 = λ k. ReachesBy (StepNumber g) m k in
+      subst Reached (sym is_a.1 ∙ is_b.1) stay
   number_reached a c m n own is_a is_c (step {b = b} before last) =
-      let is : IsNumberOf g b (number_of g b) = (reaches_symbol a b own is_a.0 before, refl) in
-      step_number (number_reached a b m (number_of g b) own is_a is before) (b, c, is, is_c, last)
+      let is : IsNumberOf g b (symbol_number g b) = (reaches_symbol a b own is_a.0 before, refl) in
+      step (number_reached a b m (symbol_number g b) own is_a is before) (b, c, is, is_c, last)
 
   -- a symbol reaches the symbols whose numbers its number reaches
   symbol_reached :
       (a : BinarySymbol) (m n : ℕ)
-      → IsNumberOf g a m → NumberReaches (StepNumber g) m n → IsReachedNumber g a n
-  symbol_reached a m n is stay_number = (a, is, stay)
-  symbol_reached a m n is (step_number {m = k} before last) =
+      → IsNumberOf g a m → ReachesBy (StepNumber g) m n → IsReachedNumber g a n
+  symbol_reached a m n is stay = (a, is, stay)
+  symbol_reached a m n is (step {b = k} before last) =
       let x = symbol_reached a m k is before in
       let same : x.0 ≡ last.0 = number_is_one g x.0 last.0 k x.1 last.2 in
       (last.1, last.3, step (rw same at x.2) last.4)
@@ -88,7 +80,7 @@ module _ (g : Expansion) where
   pub reaches_numbers :
       (a : BinarySymbol) (m n : ℕ)
       → HasOwnSymbols g → IsNumberOf g a m
-      → IsReachedNumber g a n ↔ NumberReaches (StepNumber g) m n
+      → IsReachedNumber g a n ↔ ReachesBy (StepNumber g) m n
   reaches_numbers a m n own is = (
     (λ x. number_reached a x.0 m n own is x.1 x.2),
     symbol_reached a m n is,

@@ -7,12 +7,12 @@ use Rattle.std.proofs.lemmas.Option.{slice_get_within, slice_get_cases}
 use Rattle.std.proofs.lemmas.Bool.{false≢true}
 use Rattle.spec_grammar.specs.declared.rule.Symbol.{Symbol}
 use Rattle.spec_grammar.specs.declared.rule.Rule.{Rule}
-use Rattle.spec_lbnf.specs.Expansion.{Expansion, HasOwnSymbols, item_count, symbol_count}
+use Rattle.spec_grammar.specs.Grammars.{Grammar, HasOwnSymbols, item_count, symbol_count}
 use Rattle.binary_form.specs.declared.rows.SuffixRow.{SuffixRow}
 use Rattle.binary_form.specs.Symbols.{BinarySymbol, plain, suffix, suffix_number}
 use Rattle.binary_form.specs.UnitSteps.{HasItem}
 use Rattle.binary_form.specs.BinaryForm.{IsNumberOf}
-use Rattle.binary_form.specs.Rows.{IsRow, IsRowAt, AreRows, IsRowWithin}
+use Rattle.binary_form.specs.Rows.{IsRow, IsRowAt, AreSuffixRows, IsRowWithin}
 use Rattle.binary_form.proofs.ItemLemmas.{drop_from_get, drop_within, same_rule, next_item, suffix_symbol}
 use Rattle.binary_form.proofs.NumberLemmas.{IsCounted, counted_once, count_within, numbers_below}
 
@@ -36,7 +36,7 @@ last_or_more items p within = (
   (λ none. omega (arith, length-drop (suc p) items, ap length none)),
 )
 
-module _ (g : Expansion) (r p : ℕ) (rule : Rule) (s : Symbol) where
+module _ (g : Grammar) (r p : ℕ) (rule : Rule) (s : Symbol) where
   -- what is told of an item, by the numbers of its rule
   pub row_is :
       (row : SuffixRow)
@@ -65,7 +65,7 @@ same_item rules r p s t behind others has also =
 
 -- the number of a symbol is below their count
 pub number_below :
-    (g : Expansion) (a : BinarySymbol) (n : ℕ)
+    (g : Grammar) (a : BinarySymbol) (n : ℕ)
     → IsNumberOf g a n → n < symbol_count g
 number_below g a n is = subst Below is.1 (numbers_below g a is.0)
   where
@@ -82,7 +82,7 @@ counted_item rules r p n s behind has count = record {
   count = count;
 }
 
-module _ (g : Expansion) where
+module _ (g : Grammar) where
   -- what a row's rule and place are of is what they are of at the same count
   same_place :
       (r p t q n : ℕ) (row : SuffixRow)
@@ -127,7 +127,7 @@ module _ (g : Expansion) where
     | inr more ↦ more
   ]
 
-  module _ (rows : List SuffixRow) (are : AreRows g rows) where
+  module _ (rows : List SuffixRow) (are : AreSuffixRows g rows) where
     -- each item has its row
     pub row_at :
         (r p : ℕ) (s : Symbol) (behind : List Symbol)

@@ -7,13 +7,13 @@ use Rattle.std.proofs.lemmas.Bool.{cases_Bool, cases_lt, not-true, not_from_fals
 use Rattle.spec_grammar.specs.declared.rule.Symbol.TheVariants.{Category}
 use Rattle.spec_grammar.specs.declared.rule.Rule.{Rule}
 use Rattle.spec_grammar.specs.Derivation.{IsNullable}
-use Rattle.spec_lbnf.specs.Expansion.{Expansion, item_count}
+use Rattle.spec_grammar.specs.Grammars.{Grammar, item_count}
 use Rattle.binary_form.specs.declared.rows.SuffixRow.{SuffixRow}
-use Rattle.binary_form.specs.Symbols.{BinarySymbol, plain, suffix, BinaryDerives, IsBinarySymbolOf, number_of, plain_count, suffix_number}
+use Rattle.binary_form.specs.Symbols.{BinarySymbol, plain, suffix, BinaryDerives, IsBinarySymbolOf, symbol_number, plain_count, suffix_number}
 use Rattle.binary_form.specs.UnitSteps.{AreNullable, UnitStep, whole_side, last_item, passed_item}
 use Rattle.binary_form.specs.BinaryForm.{IsNumberOf}
 use Rattle.binary_form.specs.NumberSteps.{StepNumber}
-use Rattle.binary_form.specs.Rows.{IsRow, IsRowAt, AreRows}
+use Rattle.binary_form.specs.Rows.{IsRow, IsRowAt, AreSuffixRows}
 use Rattle.binary_form.specs.LongerSuffixes.{IsLongerSuffix, AreLongerSuffixes}
 use Rattle.binary_form.specs.NullableNumbers.{AreNullableNumbers, IsRestNullable}
 use Rattle.number_graph.specs.Graphs.{IsSet, HasLink, AddsLinks, AreNoLinks}
@@ -108,7 +108,7 @@ not_tested test = (not-true test, not_from_false test)
 
 -- an item with a symbol of the grammar behind it is not the last
 not_last :
-    (g : Expansion) (r p : ℕ) (row : SuffixRow)
+    (g : Grammar) (r p : ℕ) (row : SuffixRow)
     → IsRow g r p row → IsBinarySymbolOf g (suffix r (suc p)) → IsFalse row.is_last
 not_last g r p row is next = elim (cases_Bool row.is_last) [
   | inr no_more ↦ no_more
@@ -118,7 +118,7 @@ not_last g r p row is next = elim (cases_Bool row.is_last) [
       absurd (omega (arith, next.2, length-drop (suc p) (next.0).items, ap length none))
 ]
 
-module _ (g : Expansion) (rows : List SuffixRow) (nullable : List Bool) (are : AreRows g rows)
+module _ (g : Grammar) (rows : List SuffixRow) (nullable : List Bool) (are : AreSuffixRows g rows)
     (flags : AreNullableNumbers g nullable) where
   -- the flag of a symbol's number says whether the symbol derives the empty span
   empty_is :
@@ -204,7 +204,7 @@ module _ (g : Expansion) (rows : List SuffixRow) (nullable : List Bool) (are : A
           let same_first : s ≡ is.item = cc in
           let same_behind : behind ≡ is.behind = cc in
           let item : from ≡ (x.0).item =
-          sym is_a.1 ∙ ap (λ y. number_of g (plain y)) same_first ∙ (is.is_item).1 in
+          sym is_a.1 ∙ ap (λ y. symbol_number g (plain y)) same_first ∙ (is.is_item).1 in
           let rest = (rest_is n x.0 at).1 (subst (AreNullable g.rules) same_behind empty) in
           record {
             k = n;
@@ -256,7 +256,7 @@ module _ (g : Expansion) (rows : List SuffixRow) (nullable : List Bool) (are : A
     );
   }
 
-module _ (g : Expansion) (rows : List SuffixRow) (are : AreRows g rows) where
+module _ (g : Grammar) (rows : List SuffixRow) (are : AreSuffixRows g rows) where
   -- a row whose suffix goes on behind its item tells an item and the suffix that it begins
   longer_of_row : (n item_number longer : ℕ) (row : SuffixRow) → IsRowAt g n row
       → IsRowLongerSuffix row (suffix_number g n) item_number longer → IsLongerSuffix g item_number longer
@@ -288,7 +288,7 @@ module _ (g : Expansion) (rows : List SuffixRow) (are : AreRows g rows) where
       let same = same_item g.rules x.r x.p x.item is.item x.behind is.behind x.has is.has in
       let same_first : x.item ≡ is.item = cc in
       let number : item_number ≡ (found.0).item =
-      sym (x.is_item).1 ∙ ap (λ y. number_of g (plain y)) same_first ∙ (is.is_item).1 in
+      sym (x.is_item).1 ∙ ap (λ y. symbol_number g (plain y)) same_first ∙ (is.is_item).1 in
       record {
         k = n;
         row = found.0;

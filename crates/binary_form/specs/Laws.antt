@@ -2,9 +2,9 @@
 use Rattle.std.specs.Prelude.{◌≡◌, ℕ, ◌+◌, ◌<◌, ◌⊎◌, ◌↔◌, List, Option, Some, slice_get, Contains}
 use Rattle.spec_grammar.specs.declared.rule.Symbol.TheVariants.{Kind}
 use Rattle.spec_grammar.specs.declared.rule.Rule.{Rule}
-use Rattle.spec_lbnf.specs.Expansion.{Expansion, symbol_count}
+use Rattle.spec_grammar.specs.Grammars.{Grammar, symbol_count}
 use Rattle.binary_form.specs.Symbols.{BinarySymbol, plain, BinaryDerives, IsBinarySymbolOf}
-use Rattle.binary_form.specs.Symbols.{number_of}
+use Rattle.binary_form.specs.Symbols.{symbol_number}
 use Rattle.binary_form.specs.UnitSteps.{Reaches, IsInProduct}
 use Rattle.binary_form.specs.BinaryForm.{IsProductNumber}
 
@@ -30,27 +30,27 @@ ClosureIsDerivation =
 -- symbols of one number are the same
 abbrev pub NumbersDiffer : Type 0
 NumbersDiffer =
-    (g : Expansion) (a b : BinarySymbol) → IsBinarySymbolOf g a → IsBinarySymbolOf g b
-    → number_of g a ≡ number_of g b → a ≡ b
+    (g : Grammar) (a b : BinarySymbol) → IsBinarySymbolOf g a → IsBinarySymbolOf g b
+    → symbol_number g a ≡ symbol_number g b → a ≡ b
 
 -- the numbers of the symbols are below their count
 abbrev pub NumbersAreBelow : Type 0
 NumbersAreBelow =
-    (g : Expansion) (a : BinarySymbol) → IsBinarySymbolOf g a → number_of g a < symbol_count g
+    (g : Grammar) (a : BinarySymbol) → IsBinarySymbolOf g a → symbol_number g a < symbol_count g
 
 -- each number below the count is that of a symbol
 abbrev pub NumbersAreUsed : Type 0
 NumbersAreUsed =
-    (g : Expansion) (n : ℕ) → n < symbol_count g
-    → (a : BinarySymbol) × IsBinarySymbolOf g a × (number_of g a ≡ n)
+    (g : Grammar) (n : ℕ) → n < symbol_count g
+    → (a : BinarySymbol) × IsBinarySymbolOf g a × (symbol_number g a ≡ n)
 
 -- the symbol is the grammar's, and the set has its number
-abbrev pub HasSymbol : Expansion → List ℕ → BinarySymbol → Type 0
-HasSymbol g numbers a = IsBinarySymbolOf g a × Contains numbers (number_of g a)
+abbrev pub HasSymbol : Grammar → List ℕ → BinarySymbol → Type 0
+HasSymbol g numbers a = IsBinarySymbolOf g a × Contains numbers (symbol_number g a)
 
 -- the product of numbers is the product of the symbols that they number
 abbrev pub ProductsAgree : Type 0
 ProductsAgree =
-    (g : Expansion) (left right : List ℕ) (a : BinarySymbol) → IsBinarySymbolOf g a
-    → IsProductNumber g left right (number_of g a)
+    (g : Grammar) (left right : List ℕ) (a : BinarySymbol) → IsBinarySymbolOf g a
+    → IsProductNumber g left right (symbol_number g a)
     ↔ IsInProduct g.rules (HasSymbol g left) (HasSymbol g right) a

@@ -2,7 +2,6 @@ pub mod BinaryForm
 pub mod Symbols
 pub mod UnitSteps
 pub mod Laws
-pub mod Examples
 pub mod NumberSteps
 pub mod LongerSuffixes
 pub mod Rows

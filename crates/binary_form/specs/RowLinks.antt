@@ -1,7 +1,7 @@
 -- Serves the proofs alone. The links that the rows of suffixes give.
 use Rattle.std.specs.Prelude.{◌≡◌, ℕ, ◌+◌, ◌<◌, ◌↔◌, ◌⊎◌, List, Bool, Some, IsTrue, IsFalse}
 use Rattle.std.specs.Prelude.{length, slice_get}
-use Rattle.spec_lbnf.specs.Expansion.{Expansion, symbol_count}
+use Rattle.spec_grammar.specs.Grammars.{Grammar, symbol_count}
 use Rattle.binary_form.specs.declared.rows.SuffixRow.{SuffixRow}
 use Rattle.binary_form.specs.NumberSteps.{StepNumber}
 use Rattle.number_graph.specs.Graphs.{HasLink, IsSet}
@@ -35,6 +35,6 @@ pub record AreLinksOfRows (Link : SuffixRow → ℕ → ℕ → ℕ → Type 0) 
   pub exact : (m n : ℕ) → HasLink links m n ↔ IsLinkOfRows Link rows first many m n
 
 -- the links are the unit steps of the grammar
-pub record AreUnitSteps (g : Expansion) (links : List (List ℕ)) : Type 0 where
+pub record AreUnitSteps (g : Grammar) (links : List (List ℕ)) : Type 0 where
   pub count : length links ≡ symbol_count g
   pub exact : (m n : ℕ) → HasLink links m n ↔ StepNumber g m n

@@ -5,7 +5,7 @@ use Rattle.spec_grammar.specs.declared.rule.Symbol.{Symbol}
 use Rattle.spec_grammar.specs.declared.rule.Symbol.TheVariants.{Category, Kind}
 use Rattle.spec_grammar.specs.declared.rule.Rule.{Rule}
 use Rattle.spec_grammar.specs.Derivation.{Derives, DerivesAll}
-use Rattle.spec_lbnf.specs.Expansion.{Expansion, IsSymbolOf, item_count}
+use Rattle.spec_grammar.specs.Grammars.{Grammar, IsSymbolOf, item_count}
 
 -- a symbol of the grammar, or the suffix of rule r from place p on, which stands for its items from
 -- there
@@ -20,25 +20,25 @@ BinaryDerives rules kinds (suffix r p) i j =
     (rule : Rule) × (slice_get rules r ≡ Some rule) × DerivesAll rules kinds (drop p rule.items) i j
 
 -- the binary symbol is the grammar's: a suffix begins at an item of its rule
-abbrev pub IsBinarySymbolOf : Expansion → BinarySymbol → Type 0
+abbrev pub IsBinarySymbolOf : Grammar → BinarySymbol → Type 0
 IsBinarySymbolOf g (plain s) = IsSymbolOf g s
 IsBinarySymbolOf g (suffix r p) =
     (rule : Rule) × (slice_get g.rules r ≡ Some rule) × (p < length rule.items)
 
 -- how many categories and kinds there are
-abbrev pub plain_count : Expansion → ℕ
-plain_count g = length g.categories + length g.kinds
+abbrev pub plain_count : Grammar → ℕ
+plain_count g = length g.categories + length g.lexicon.kinds
 
 -- the number of the suffix that begins at this item, the items of all rules counted in order
-abbrev pub suffix_number : Expansion → ℕ → ℕ
+abbrev pub suffix_number : Grammar → ℕ → ℕ
 suffix_number g n = plain_count g + n
 
 -- the suffixes of rule r are numbered from here
-abbrev pub first_suffix : Expansion → ℕ → ℕ
+abbrev pub first_suffix : Grammar → ℕ → ℕ
 first_suffix g r = suffix_number g (item_count (take r g.rules))
 
 -- the number of a binary symbol: categories first, then kinds, then the suffixes, rule by rule
-abbrev pub number_of : Expansion → BinarySymbol → ℕ
-number_of g (plain (Category c)) = c
-number_of g (plain (Kind k)) = length g.categories + k
-number_of g (suffix r p) = first_suffix g r + p
+abbrev pub symbol_number : Grammar → BinarySymbol → ℕ
+symbol_number g (plain (Category c)) = c
+symbol_number g (plain (Kind k)) = length g.categories + k
+symbol_number g (suffix r p) = first_suffix g r + p

@@ -6,6 +6,7 @@ use Rattle.spec_grammar.specs.declared.rule.Symbol.{Symbol}
 use Rattle.spec_grammar.specs.declared.rule.Symbol.TheVariants.{Category}
 use Rattle.spec_grammar.specs.declared.rule.Rule.{Rule}
 use Rattle.spec_grammar.specs.Derivation.{DerivesAll, IsNullable}
+use Rattle.number_graph.specs.Graphs.{ReachesBy}
 use Rattle.binary_form.specs.Symbols.{BinarySymbol, plain, suffix}
 
 -- rule r has the item s at place p, and these items behind it
@@ -32,9 +33,8 @@ pub data UnitStep (rules : List Rule) : BinarySymbol → BinarySymbol → Type 0
       → IsNullable rules s → UnitStep rules (suffix r (suc p)) (suffix r p)
 
 -- a symbol reaches another by unit steps, or by none where it is the same
-pub data Reaches (rules : List Rule) : BinarySymbol → BinarySymbol → Type 0 where
-  stay : {a : BinarySymbol} → Reaches rules a a
-  step : {a b c : BinarySymbol} → Reaches rules a b → UnitStep rules b c → Reaches rules a c
+abbrev pub Reaches : List Rule → BinarySymbol → BinarySymbol → Type 0
+Reaches rules = ReachesBy (UnitStep rules)
 
 -- the symbol is in the product of two sets: item p of a rule is in the left one, the suffix behind
 -- it is in the right one, and the suffix from p on reaches the symbol

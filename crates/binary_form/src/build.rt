@@ -1,6 +1,6 @@
 //! Making the binary form of a grammar.
 ghost use Rattle.std.specs.Prelude.{◌≡◌, ℕ, ◌<◌, ◌≤◌, ◌↔◌, ◌⊎◌, length, Contains, IfOk};
-ghost use Rattle.spec_lbnf.specs.Expansion.{HasOwnSymbols, symbol_count};
+ghost use Rattle.spec_grammar.specs.Grammars.{HasOwnSymbols, symbol_count};
 ghost use Rattle.cell_sets.specs.Cells.{Adds};
 ghost use Rattle.binary_form.specs.BinaryForm.{IsClosureOf, MakesBinary};
 ghost use Rattle.number_graph.specs.Graphs.{IsSet};
@@ -14,7 +14,7 @@ use crate::numbering::{first_suffixes, symbol_count};
 use crate::rows::rows_of;
 use crate::steps::{longer_suffixes_of, unit_steps};
 use cell_sets::Cell;
-use lbnf_grammar::Grammar;
+use numbered_grammar::Grammar;
 use number_graph::{Links, reached_from};
 use std::alloc::{AllocError, Global};
 

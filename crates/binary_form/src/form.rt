@@ -1,7 +1,7 @@
 //! The binary form of a grammar: its symbols' numbers, their closures, and the product of cells.
 ghost use Rattle.std.specs.Prelude.{◌≡◌, ◌<◌, ◌≤◌, ◌↔◌, Some, IsTrue, IfOk};
-ghost use Rattle.spec_lbnf.specs.Expansion.{IsSymbolOf, HasOwnSymbols, symbol_count};
-ghost use Rattle.binary_form.specs.Symbols.{plain, suffix, IsBinarySymbolOf, number_of};
+ghost use Rattle.spec_grammar.specs.Grammars.{IsSymbolOf, HasOwnSymbols, symbol_count};
+ghost use Rattle.binary_form.specs.Symbols.{plain, suffix, IsBinarySymbolOf, symbol_number};
 ghost use Rattle.binary_form.specs.BinaryForm.{IsNullableNumber, IsClosureOf, IsTokenCell};
 ghost use Rattle.binary_form.specs.BinaryForm.{IsProductOf, AddsProductOf, HasProduct};
 ghost use Rattle.binary_form.specs.Forms.{AreParts};
@@ -9,7 +9,7 @@ ghost use Rattle.binary_form.specs.declared.build.TheConstants.{MAX_SYMBOLS};
 
 use crate::product::{is_met, product_of};
 use cell_sets::Cell;
-use lbnf_grammar::{Grammar, Symbol};
+use numbered_grammar::{Grammar, Symbol};
 use number_graph::Links;
 use sqlite_items::Items;
 use std::alloc::{AllocError, Global};
@@ -31,9 +31,9 @@ pub struct Binary<C: Cell> {
 
 impl<C: Cell> Model for Binary<C> {
     ghost use Rattle.std.specs.Prelude.{◌≡◌, []};
-    ghost use Rattle.spec_lbnf.specs.Expansion.{Expansion};
+    ghost use Rattle.spec_grammar.specs.Grammars.{Grammar};
 
-    ghost Value = { Expansion };
+    ghost Value = { Grammar };
 
     ghost use Rattle.binary_form.specs.Forms.{AreParts, AreCounts};
 
@@ -85,7 +85,7 @@ impl<C: Cell> Binary<C> {
     /// The number of a category or a kind. It takes no memory.
     pub fn symbol_of(&self, symbol: Symbol) -> u16
         requires { IsSymbolOf self.now symbol }
-        ensures number { result ≡ number_of self.now (plain symbol) }
+        ensures number { result ≡ symbol_number self.now (plain symbol) }
         ensures below { result < symbol_count self.now }
     {
         match symbol {
@@ -98,7 +98,7 @@ impl<C: Cell> Binary<C> {
     /// no memory.
     pub fn suffix_of(&self, r: u16, p: u16) -> u16
         requires { IsBinarySymbolOf self.now (suffix r p) }
-        ensures number { result ≡ number_of self.now (suffix r p) }
+        ensures number { result ≡ symbol_number self.now (suffix r p) }
         ensures below { result < symbol_count self.now }
     {
         self.first_suffixes.as_slice()[r as usize] + p

@@ -1,7 +1,6 @@
 //! Laws of the binary form. Each body is empty: the contract is the law.
 ghost use Rattle.binary_form.specs.Laws.{ClosureIsDerivation, NumbersDiffer, NumbersAreBelow};
 ghost use Rattle.binary_form.specs.Laws.{NumbersAreUsed, ProductsAgree};
-ghost use Rattle.binary_form.specs.Examples.{SmallCases};
 
 /// The closure of unit steps and products is derivation: over a span that is not empty, a symbol is
 /// derived exactly where the span is a token whose kind reaches it, or has a cut in two whose
@@ -21,9 +20,4 @@ pub fn each_symbol_has_its_number()
 /// The product over numbers is the product over the symbols that they number.
 pub fn products_agree()
     ensures { ProductsAgree }
-{}
-
-/// The binary forms of two small grammars, worked out: numbers, closures and products.
-pub fn small_cases()
-    ensures { SmallCases }
 {}

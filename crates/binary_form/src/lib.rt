@@ -15,8 +15,5 @@ mod steps;
 pub use build::{MAX_SYMBOLS, binary};
 pub use fault::BinaryFault;
 pub use form::Binary;
-pub use laws::{closure_is_derivation, each_symbol_has_its_number, products_agree, small_cases};
+pub use laws::{closure_is_derivation, each_symbol_has_its_number, products_agree};
 pub use numbering::symbol_count;
-
-#[cfg(test)]
-mod tests;

@@ -1,15 +1,15 @@
 //! Which symbols derive the empty span, as flags by number.
 ghost use Rattle.std.specs.Prelude.{◌↔◌, ◌<◌, ◌^◌, length, IsTrue, IfOk};
-ghost use Rattle.lbnf_grammar.specs.Nullable.{AreNullableFlags};
-ghost use Rattle.spec_lbnf.specs.Expansion.{symbol_count};
+ghost use Rattle.numbered_grammar.specs.Nullable.{AreNullableFlags};
+ghost use Rattle.spec_grammar.specs.Grammars.{symbol_count};
 ghost use Rattle.number_graph.specs.Graphs.{IsSet};
-ghost use Rattle.binary_form.specs.Rows.{AreRows, IsRowWithin};
+ghost use Rattle.binary_form.specs.Rows.{AreSuffixRows, IsRowWithin};
 ghost use Rattle.binary_form.specs.NullableNumbers.{AreNullableNumbers, AreNullableFrom};
 ghost use Rattle.binary_form.specs.NullableNumbers.{IsRestNullable};
 
 use crate::numbering::{plain_count, symbol_count};
 use crate::rows::SuffixRow;
-use lbnf_grammar::{Grammar, nullable_categories};
+use numbered_grammar::{Grammar, nullable_categories};
 use std::alloc::{AllocError, Global};
 
 /// Whether the items behind the one that begins this suffix derive the empty span, if there are
@@ -32,7 +32,7 @@ fn is_suffix_nullable(flags: &[bool], row: &SuffixRow, suffix: u16) -> bool
 /// Flags the suffixes, from the last one, so that what is behind an item has its flag before.
 fn flag_suffixes(grammar: &Grammar, rows: &[SuffixRow], flags: &mut Vec<bool>)
     requires few { symbol_count grammar.now < 2 ^ 16 }
-    requires rows { AreRows grammar.now rows.now }
+    requires rows { AreSuffixRows grammar.now rows.now }
     requires flags { AreNullableFrom grammar.now (length rows.now) flags.old.items }
     ensures { AreNullableNumbers grammar.now flags.new.items }
 {
@@ -52,7 +52,7 @@ fn with_suffixes(
     mut flags: Vec<bool>,
 ) -> Result<Vec<bool>, AllocError>
     requires few { symbol_count grammar.now < 2 ^ 16 }
-    requires rows { AreRows grammar.now rows.now }
+    requires rows { AreSuffixRows grammar.now rows.now }
     requires categories { AreNullableFlags grammar.now flags.items }
     ensures { IfOk result (λ all. AreNullableNumbers grammar.now all.items) }
 {
@@ -69,7 +69,7 @@ pub fn nullable_numbers(
     rows: &[SuffixRow],
 ) -> Result<Vec<bool>, AllocError>
     requires few { symbol_count grammar.now < 2 ^ 16 }
-    requires rows { AreRows grammar.now rows.now }
+    requires rows { AreSuffixRows grammar.now rows.now }
     ensures { IfOk result (λ flags. AreNullableNumbers grammar.now flags.items) }
 {
     let categories = nullable_categories(alloc, grammar)?;

@@ -1,11 +1,11 @@
 //! How many symbols there are, and their numbers: categories, then kinds, then suffixes.
 ghost use Rattle.std.specs.Prelude.{◌≡◌, ◌<◌, ◌^◌, IfOk};
-ghost use Rattle.spec_lbnf.specs.Expansion.{IsSymbolOf, symbol_count};
+ghost use Rattle.spec_grammar.specs.Grammars.{IsSymbolOf, symbol_count};
 ghost use Rattle.binary_form.specs.Symbols.{plain, plain_count};
 ghost use Rattle.binary_form.specs.BinaryForm.{IsNumberOf};
 ghost use Rattle.binary_form.specs.FirstSuffixes.{AreFirstSuffixes};
 
-use lbnf_grammar::{Grammar, Symbol};
+use numbered_grammar::{Grammar, Symbol};
 use sqlite_items::Items;
 use std::alloc::{AllocError, Global};
 

@@ -1,11 +1,11 @@
 //! One row for each suffix, in the order of their numbers: what the rules say, without the rules.
 ghost use Rattle.std.specs.Prelude.{◌≡◌, ◌+◌, ◌<◌, ◌^◌, length, take, slice_get, Some, IfOk, OnOk};
 ghost use Rattle.spec_grammar.specs.declared.rule.Rule.{Rule};
-ghost use Rattle.spec_lbnf.specs.Expansion.{item_count, symbol_count};
-ghost use Rattle.binary_form.specs.Rows.{IsRow, AreRowsUpTo, AreRows};
+ghost use Rattle.spec_grammar.specs.Grammars.{item_count, symbol_count};
+ghost use Rattle.binary_form.specs.Rows.{IsRow, AreRowsUpTo, AreSuffixRows};
 
 use crate::numbering::number;
-use lbnf_grammar::Grammar;
+use numbered_grammar::Grammar;
 use std::alloc::{AllocError, Global};
 
 /// What a suffix of a rule is, told by numbers.
@@ -55,7 +55,7 @@ fn add_rule(grammar: &Grammar, r: u16, rows: &mut Vec<SuffixRow>) -> Result<(), 
 /// The rows of all suffixes. It looks at each item of the rules once.
 pub fn rows_of(alloc: Global, grammar: &Grammar) -> Result<Vec<SuffixRow>, AllocError>
     requires { symbol_count grammar.now < 2 ^ 16 }
-    ensures { IfOk result (λ rows. AreRows grammar.now rows.items) }
+    ensures { IfOk result (λ rows. AreSuffixRows grammar.now rows.items) }
 {
     let mut rows = Vec::new(alloc);
     for r in 0..grammar.rule_count() {

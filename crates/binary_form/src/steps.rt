@@ -1,16 +1,16 @@
 //! The unit steps of a grammar, and where its suffixes go on, as links between numbers.
 ghost use Rattle.std.specs.Prelude.{◌↔◌, ◌≡◌, ◌<◌, ◌^◌, ◌+◌, length, IsTrue, IsFalse, IfOk, OnOk};
-ghost use Rattle.spec_lbnf.specs.Expansion.{symbol_count};
+ghost use Rattle.spec_grammar.specs.Grammars.{symbol_count};
 ghost use Rattle.number_graph.specs.Graphs.{AddsLinks, IsSet};
 ghost use Rattle.binary_form.specs.LongerSuffixes.{AreLongerSuffixes};
-ghost use Rattle.binary_form.specs.Rows.{AreRows, IsRowWithin};
+ghost use Rattle.binary_form.specs.Rows.{AreSuffixRows, IsRowWithin};
 ghost use Rattle.binary_form.specs.NullableNumbers.{AreNullableNumbers};
 ghost use Rattle.binary_form.specs.RowLinks.{IsRowStep, AreUnitSteps};
 
 use crate::nullable::is_rest_nullable;
 use crate::numbering::plain_count;
 use crate::rows::SuffixRow;
-use lbnf_grammar::Grammar;
+use numbered_grammar::Grammar;
 use number_graph::Links;
 use std::alloc::{AllocError, Global};
 
@@ -50,7 +50,7 @@ pub fn unit_steps(
     nullable: &[bool],
 ) -> Result<Links, AllocError>
     requires few { symbol_count grammar.now < 2 ^ 16 }
-    requires rows { AreRows grammar.now rows.now }
+    requires rows { AreSuffixRows grammar.now rows.now }
     requires nullable { AreNullableNumbers grammar.now nullable.now }
     ensures { IfOk result (AreUnitSteps grammar.now) }
 {
@@ -70,7 +70,7 @@ pub fn longer_suffixes_of(
     rows: &[SuffixRow],
 ) -> Result<Links, AllocError>
     requires few { symbol_count grammar.now < 2 ^ 16 }
-    requires rows { AreRows grammar.now rows.now }
+    requires rows { AreSuffixRows grammar.now rows.now }
     ensures { IfOk result (AreLongerSuffixes grammar.now) }
 {
     let first = plain_count(grammar);

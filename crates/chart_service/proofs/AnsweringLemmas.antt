@@ -5,17 +5,17 @@ use Rattle.spec_grammar.specs.Derivation.{Derives}
 use Rattle.spec_grammar.proofs.DerivationLemmas.{nullable_derives}
 use Rattle.spec_lexing.specs.declared.token.Token.{Token}
 use Rattle.spec_lexing.specs.Tokens.{kinds_of}
-use Rattle.spec_lbnf.specs.Expansion.{Expansion}
+use Rattle.spec_grammar.specs.Grammars.{Grammar}
 use Rattle.cell_sets.specs.Grids.{entry}
-use Rattle.binary_form.specs.Symbols.{BinarySymbol, plain, BinaryDerives, number_of}
+use Rattle.binary_form.specs.Symbols.{BinarySymbol, plain, BinaryDerives, symbol_number}
 use Rattle.binary_form.specs.BinaryForm.{IsNumberOf, IsNullableNumber}
 use Rattle.binary_form.proofs.NumberLemmas.{number_is_one}
 use Rattle.valiant.specs.Charts.{ChartValue}
 use Rattle.chart_service.specs.Opening.{IsOpened}
 
-module _ (g : Expansion) (chart : ChartValue) (text : List ℕ) (tokens : List Token)
+module _ (g : Grammar) (chart : ChartValue) (text : List ℕ) (tokens : List Token)
     (o : IsOpened g chart text tokens) (category : ℕ) (own : category < length g.categories)
-    (number : ℕ) (is_number : number ≡ number_of g (plain (Category category))) where
+    (number : ℕ) (is_number : number ≡ symbol_number g (plain (Category category))) where
   -- the number is the category's
   is_its : IsNumberOf g (plain (Category category)) number
   is_its = (own, sym is_number)

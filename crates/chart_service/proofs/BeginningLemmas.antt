@@ -3,7 +3,7 @@
 use Rattle.std.proofs.Common.{◌≡◌, ℕ, ◌+◌, ◌^◌, ◌<◌, ◌≤◌, List, [], ◌∷◌, ◌++◌, length, Option, Some}
 use Rattle.std.proofs.Common.{None, Result, Ok, Err, OnOk, refl, sym, ◌∙◌, ap, subst, arith}
 use Rattle.std.proofs.Common.{append_assoc, append-nil, length-append}
-use Rattle.spec_lbnf.specs.Expansion.{Expansion}
+use Rattle.spec_grammar.specs.Grammars.{Grammar}
 use Rattle.spec_script.specs.Script.{Command, header, grammar, opens, ask, line_of, block_of}
 use Rattle.spec_script.specs.Script.{text_of, IsWithinLimits, IsInOrder, BeginsWithCommands, broken}
 use Rattle.spec_session.specs.GrammarReplies.{IsAccepted, grammar_reply}
@@ -87,7 +87,7 @@ pub record HasGrammar (input before : List ℕ) (found : Block) (at : ℕ)
   pub has_written : now ≡ Some before
 
 -- the header and a grammar were taken, which was accepted, and its reply was written
-pub record HasAccepted (input before : List ℕ) (g : Expansion) (at : ℕ)
+pub record HasAccepted (input before : List ℕ) (g : Grammar) (at : ℕ)
     (coming now : Option (List ℕ)) : Type 0 where
   pub block : List ℕ
   pub accepted : IsAccepted block g
@@ -184,7 +184,7 @@ module _ {input before : List ℕ} {found : Block} {at : ℕ} {coming old : Opti
       }
 
 -- behind a grammar that was accepted
-module _ {input before : List ℕ} {g : Expansion} {at : ℕ} {coming now : Option (List ℕ)}
+module _ {input before : List ℕ} {g : Grammar} {at : ℕ} {coming now : Option (List ℕ)}
     (h : HasAccepted input before g at coming now) where
   -- a fault comes
   pub text_stopped : (status : Status) → IsFaultStatus (number_of status) → Ends input before now status
@@ -243,7 +243,7 @@ module _ {input before : List ℕ} {g : Expansion} {at : ℕ} {coming now : Opti
         same_reply : grammar_reply g ++ version_reply 0 (length o.tokens)
             ≡ grammar_reply opened.language.grammar ++ (version_reply 0 (length o.tokens) ++ [])
         same_reply =
-            ap (λ (x : Expansion). grammar_reply x ++ version_reply 0 (length o.tokens)) (sym o.grammar)
+            ap (λ (x : Grammar). grammar_reply x ++ version_reply 0 (length o.tokens)) (sym o.grammar)
             ∙ ap (λ bytes. grammar_reply opened.language.grammar ++ bytes)
             (sym (append-nil (version_reply 0 (length o.tokens))))
 

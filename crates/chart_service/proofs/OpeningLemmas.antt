@@ -8,7 +8,8 @@ use Rattle.spec_lbnf.proofs.NameLemmas.{distinct_names}
 use Rattle.cyk_io.specs.Streams.{GrowsByPrefix}
 use Rattle.spec_lexing.specs.declared.token.Token.{Token}
 use Rattle.spec_lbnf.specs.declared.definition.Def.{Def}
-use Rattle.spec_lbnf.specs.Expansion.{Expansion, expansion_of, symbol_count}
+use Rattle.spec_grammar.specs.Grammars.{Grammar, symbol_count}
+use Rattle.spec_lbnf.specs.Expansion.{expansion_of}
 use Rattle.spec_lbnf.specs.Faults.{Spells, IsFirstFault, too_large, is_large}
 use Rattle.spec_lbnf.specs.Checks.{AreFit, IsUnfit}
 use Rattle.spec_script.specs.Script.{opens}
@@ -25,7 +26,8 @@ use Rattle.binary_form.specs.declared.fault.BinaryFault.{BinaryFault}
 use Rattle.binary_form.specs.declared.fault.BinaryFault.TheVariants.{Memory as BinaryMemory, TooManySymbols}
 use Rattle.valiant.specs.Charts.{ChartValue}
 use Rattle.chart_service.specs.declared.opening.LanguageFault.{LanguageFault}
-use Rattle.chart_service.specs.declared.opening.LanguageFault.TheVariants.{Text, Grammar, Binary}
+use Rattle.chart_service.specs.declared.opening.LanguageFault.TheVariants.{Text, Binary}
+use Rattle.chart_service.specs.declared.opening.LanguageFault.TheVariants.{Grammar as UnfitGrammar}
 use Rattle.chart_service.specs.declared.language.Language.{Language}
 use Rattle.chart_service.specs.declared.status.Status.{Status}
 use Rattle.chart_service.specs.declared.status.Status.TheVariants.{Ended, BadGrammar, BadScript}
@@ -37,28 +39,28 @@ use Rattle.chart_service.specs.Opening.{HasDistinctNames, ReadsLanguage, reason_
 use Rattle.chart_service.specs.Opening.{IsGrammarLine, EndsAtGrammar, IsOpened, EndsAtText}
 
 -- no category's text stands twice in the grammar that definitions stand for
-spelled_distinct : (defs : List Def) (g : Expansion) → g ≡ expansion_of defs → HasDistinctNames g
+spelled_distinct : (defs : List Def) (g : Grammar) → g ≡ expansion_of defs → HasDistinctNames g
 spelled_distinct defs g e =
     subst HasDistinctNames (sym e) (record { distinct = (distinct_names _).once })
 
 -- the language of what a block spells is accepted, where the definitions are fit
-pub accepted : (block : List ℕ) (defs : List Def) (g : Expansion) (language : Language)
+pub accepted : (block : List ℕ) (defs : List Def) (g : Grammar) (language : Language)
     → Spells block defs → AreFit defs → g ≡ expansion_of defs → MakesBinary g (Ok language.binary)
     → ReadsLanguage block (Ok language)
 accepted block defs g language spells fit e made =
     let same : language.grammar ≡ expansion_of defs = sym language.same ∙ made.1 ∙ e in
     let all : AreAccepted defs = record {
       fit = fit;
-      few = subst (λ (x : Expansion). symbol_count x ≤ 2048) e made.0;
+      few = subst (λ (x : Grammar). symbol_count x ≤ 2048) e made.0;
     } in
     ((defs, spells, all, same), spelled_distinct defs language.grammar same)
 
 -- where there is no binary form, the fault is that of what the block spells
-pub no_language : (block : List ℕ) (defs : List Def) (g : Expansion) (fault : BinaryFault)
+pub no_language : (block : List ℕ) (defs : List Def) (g : Grammar) (fault : BinaryFault)
     → Spells block defs → AreFit defs → g ≡ expansion_of defs → MakesBinary g (Err fault)
     → ReadsLanguage block (Err (Binary fault))
 no_language block defs g fault spells fit e made =
-    let IsMade : Expansion → Type 0 = λ x. MakesBinary x (Err fault) in
+    let IsMade : Grammar → Type 0 = λ x. MakesBinary x (Err fault) in
     (defs, spells, fit, subst IsMade e made)
 
 -- a block of too many bytes has this as its first fault
@@ -78,7 +80,7 @@ reason_is : (block : List ℕ) (fault : LanguageFault) (reason : List ℕ) → R
 reason_is block (Text fault) reason h is =
     let first = told fault_reason (IsSmallText block) (IsFirstFault block) (file_fault_of fault) reason h is in
     faulty first.0 first.1 first.2
-reason_is block (Grammar fault) reason h is =
+reason_is block (UnfitGrammar fault) reason h is =
     let why = told unfit_reason (PassFirstChecks h.0) (IsUnfit h.0) (unfitness_of fault) reason h.2 is in
     unfit h.0 why.0 h.1 why.1 why.2
 reason_is block (Binary BinaryMemory) reason h is = absurd (none-some reason is)
@@ -111,12 +113,12 @@ refused_so block line old new is status (inl h) =
 refused_so block line old new is status (inr h) = cut_short block line old new (inl is) h.0 status h.1
 
 -- the chart has as many tokens as the text
-pub chart_len : (g : Expansion) (chart : ChartValue) (text : List ℕ) (tokens : List Token)
+pub chart_len : (g : Grammar) (chart : ChartValue) (text : List ℕ) (tokens : List Token)
     → IsOpened g chart text tokens → length chart.kinds ≡ length tokens
 chart_len g chart text tokens o = ap length (o.is_chart.same_kinds) ∙ length-map tokens (λ (token : Token). token.kind)
 
 -- the reply to a text that was cut short, at a fault's status
-pub cut_text : (g : Expansion) (chart : ChartValue) (text : List ℕ) (old new : Option (List ℕ))
+pub cut_text : (g : Grammar) (chart : ChartValue) (text : List ℕ) (old new : Option (List ℕ))
     → ((tokens : List Token) × IsOpened g chart text tokens) → (count : ℕ) → count ≡ length chart.kinds
     → GrowsByPrefix old new (version_reply 0 count) → (status : Status) → IsWriteStop status
     → EndsAtText g text old new status

@@ -5,7 +5,7 @@ use Rattle.std.proofs.Common.{subst, arith, append_assoc, append-nil, length-app
 use Rattle.std.proofs.lemmas.List.{take-append-drop}
 use Rattle.cyk_io.specs.Streams.{Takes, Grows, GrowsByPrefix}
 use Rattle.cyk_io.specs.Lines.{IsLine}
-use Rattle.spec_lbnf.specs.Expansion.{Expansion}
+use Rattle.spec_grammar.specs.Grammars.{Grammar}
 use Rattle.spec_script.specs.Script.{Constituent, Query, has, Command, header, grammar, opens, ask, line_of}
 use Rattle.spec_script.specs.Script.{block_of, text_of, IsWithinLimits, AreQuestions, IsInOrder}
 use Rattle.spec_script.specs.Script.{BeginsWithCommands, Ending, ended, broken, EndsAs, IsScript}
@@ -159,7 +159,7 @@ module _ (input before : List ℕ) where
       by_status ReadFault h = absurd h
 
   -- a fault at the text, behind a grammar that was accepted
-  pub ended_at_text : (block text : List ℕ) (g : Expansion) → IsAccepted block g
+  pub ended_at_text : (block text : List ℕ) (g : Grammar) → IsAccepted block g
       → (mid : ℕ) (mid_rest : List ℕ) → BeginsWithCommands 0 input (header ∷ grammar block ∷ []) mid mid_rest
       → (at : ℕ) (rest : List ℕ) → BeginsWithCommands 0 input (header ∷ grammar block ∷ opens text ∷ []) at rest
       → (old new : Option (List ℕ)) → old ≡ Some (before ++ grammar_reply g) → (status : Status)

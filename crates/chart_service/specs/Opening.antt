@@ -5,7 +5,8 @@ use Rattle.std.specs.Prelude.{Option, None, Result, Ok, Err, option_map}
 use Rattle.spec_lexing.specs.declared.token.Token.{Token}
 use Rattle.spec_lexing.specs.Tokens.{AreTokensOf, kinds_of}
 use Rattle.spec_lbnf.specs.declared.definition.Def.{Def}
-use Rattle.spec_lbnf.specs.Expansion.{Expansion, expansion_of}
+use Rattle.spec_grammar.specs.Grammars.{Grammar}
+use Rattle.spec_lbnf.specs.Expansion.{expansion_of}
 use Rattle.spec_lbnf.specs.Faults.{Spells}
 use Rattle.spec_lbnf.specs.Checks.{AreFit}
 use Rattle.spec_script.specs.Script.{opens}
@@ -24,7 +25,8 @@ use Rattle.binary_form.specs.declared.fault.BinaryFault.TheVariants.{Memory as B
 use Rattle.binary_form.specs.declared.fault.BinaryFault.TheVariants.{TooManySymbols}
 use Rattle.valiant.specs.Charts.{ChartValue, IsChartOf}
 use Rattle.chart_service.specs.declared.opening.LanguageFault.{LanguageFault}
-use Rattle.chart_service.specs.declared.opening.LanguageFault.TheVariants.{Text, Grammar, Binary}
+use Rattle.chart_service.specs.declared.opening.LanguageFault.TheVariants.{Text, Binary}
+use Rattle.chart_service.specs.declared.opening.LanguageFault.TheVariants.{Grammar as UnfitGrammar}
 use Rattle.chart_service.specs.declared.language.Language.{Language}
 use Rattle.chart_service.specs.declared.opening.Opened.{Opened}
 use Rattle.chart_service.specs.declared.status.Status.{Status}
@@ -33,7 +35,7 @@ use Rattle.chart_service.specs.declared.status.Status.TheVariants.{BadScript, Re
 use Rattle.chart_service.specs.declared.status.Status.TheVariants.{OutOfMemory}
 
 -- no category's text stands twice
-pub record HasDistinctNames (g : Expansion) : Type 0 where
+pub record HasDistinctNames (g : Grammar) : Type 0 where
   pub distinct : (c d : ℕ) (name : List ℕ) → slice_get g.categories c ≡ Some name
       → slice_get g.categories d ≡ Some name → c ≡ d
 
@@ -43,17 +45,17 @@ abbrev pub ReadsLanguage : List ℕ → Result Language LanguageFault → Type 0
 ReadsLanguage block (Ok language) =
     IsAccepted block language.grammar × HasDistinctNames language.grammar
 ReadsLanguage block (Err (Text fault)) = ReadsDefs block (Err fault)
-ReadsLanguage block (Err (Grammar fault)) =
+ReadsLanguage block (Err (UnfitGrammar fault)) =
     (defs : List Def) × Spells block defs × Expands defs (Err fault)
 ReadsLanguage block (Err (Binary fault)) =
     (defs : List Def) × Spells block defs × AreFit defs
     × MakesBinary (expansion_of defs) (Err fault)
 
 -- the chart is that of the text's tokens under the grammar
-pub record IsOpened (g : Expansion) (chart : ChartValue) (text : List ℕ)
+pub record IsOpened (g : Grammar) (chart : ChartValue) (text : List ℕ)
     (tokens : List Token) : Type 0 where
   pub distinct : HasDistinctNames g
-  pub are_tokens : AreTokensOf g.kinds text tokens
+  pub are_tokens : AreTokensOf g.lexicon.kinds text tokens
   pub is_chart : IsChartOf g (kinds_of tokens) chart
 
 -- the reason that is told of a fault of a grammar file, and None for want of memory
@@ -67,7 +69,7 @@ grammar_reason_of fault = option_map unfit_reason (unfitness_of fault)
 -- the reason that is told of a fault, and None for want of memory
 abbrev pub reason_of : LanguageFault → Option (List ℕ)
 reason_of (Text fault) = text_reason_of fault
-reason_of (Grammar fault) = grammar_reason_of fault
+reason_of (UnfitGrammar fault) = grammar_reason_of fault
 reason_of (Binary BinaryMemory) = None
 reason_of (Binary (TooManySymbols count)) = Some (symbols_reason count)
 
@@ -79,7 +81,7 @@ IsRefusal fault line =
 -- the reply to the block's grammar: accepted, or refused
 abbrev pub IsGrammarLine : List ℕ → List ℕ → Type 0
 IsGrammarLine block line =
-    IsRefused block line ⊎ ((g : Expansion) × IsAccepted block g × (line ≡ grammar_reply g))
+    IsRefused block line ⊎ ((g : Grammar) × IsAccepted block g × (line ≡ grammar_reply g))
 
 -- the session was ended at the block's grammar: it is refused with its line, or a fault left a
 -- prefix of its reply
@@ -101,7 +103,7 @@ Accepts block old new (Ok language) =
 Accepts block old new (Err status) = EndsAtGrammar block old new status
 
 -- the session was ended at the text: a fault left a prefix of its reply
-abbrev pub EndsAtText : Expansion → List ℕ → Option (List ℕ) → Option (List ℕ) → Status → Type 0
+abbrev pub EndsAtText : Grammar → List ℕ → Option (List ℕ) → Option (List ℕ) → Status → Type 0
 EndsAtText g text old new WriteFault =
     (line : List ℕ) × IsReply g [] (opens text) line × GrowsByPrefix old new line
 EndsAtText g text old new OutOfMemory =
@@ -112,7 +114,7 @@ EndsAtText g text old new BadScript = ⊥
 EndsAtText g text old new ReadFault = ⊥
 
 -- the text was opened and its reply written
-pub record HasOpened (g : Expansion) (text : List ℕ) (old new : Option (List ℕ))
+pub record HasOpened (g : Grammar) (text : List ℕ) (old new : Option (List ℕ))
     (opened : Opened) : Type 0 where
   pub grammar : opened.language.grammar ≡ g
   pub tokens : List Token
@@ -120,7 +122,7 @@ pub record HasOpened (g : Expansion) (text : List ℕ) (old new : Option (List �
   pub written : Grows old new (version_reply 0 (length tokens))
 
 -- the text was opened and its reply written, or the session was ended there
-abbrev pub OpensText : Expansion → List ℕ → Option (List ℕ) → Option (List ℕ)
+abbrev pub OpensText : Grammar → List ℕ → Option (List ℕ) → Option (List ℕ)
     → Result Opened Status → Type 0
 OpensText g text old new (Ok opened) = HasOpened g text old new opened
 OpensText g text old new (Err status) = EndsAtText g text old new status

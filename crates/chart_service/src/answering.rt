@@ -1,7 +1,7 @@
 //! Answers to questions about the spans of a text that is open.
 ghost use Rattle.std.specs.Prelude.{◌≡◌, ◌<◌, ◌≤◌, ◌↔◌, ℕ, List, length};
 ghost use Rattle.std.specs.Prelude.{IsTrue, IsErrOf, IfOk, IfErr, IfSome, OnOk, OnErr, MatchOption};
-ghost use Rattle.spec_lbnf.specs.Expansion.{IsSymbolOf};
+ghost use Rattle.spec_grammar.specs.Grammars.{IsSymbolOf};
 ghost use Rattle.std.specs.Prelude.{string_bytes};
 ghost use Rattle.cyk_io.specs.Causes.{HasCause};
 ghost use Rattle.cyk_io.specs.Streams.{Grows, GrowsByPrefix};

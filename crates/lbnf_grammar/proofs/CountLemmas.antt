@@ -15,7 +15,8 @@ use Rattle.spec_lbnf.specs.declared.definition.Def.{Def}
 use Rattle.spec_lbnf.specs.declared.definition.Def.TheVariants.{Rule, Internal, Terminator, Separator, Coercions, Entry}
 use Rattle.spec_lbnf.specs.Limits.{def_size, size_of}
 use Rattle.spec_lbnf.specs.Words.{is_empty, words_in}
-use Rattle.spec_lbnf.specs.Expansion.{word_items, list_of, terminator_rules, separator_rules, level_rule, bracket_rule, coercion_rules, rules_of_def, rules_of, item_categories, item_words, met_categories, internal_category, distinct, symbol_of, numbered_rule, item_count}
+use Rattle.spec_lbnf.specs.Expansion.{word_items, list_of, terminator_rules, separator_rules, level_rule, bracket_rule, coercion_rules, rules_of_def, rules_of, item_categories, item_words, met_categories, internal_category, distinct, item_symbol, numbered_rule}
+use Rattle.spec_grammar.specs.Grammars.{item_count}
 use Rattle.spec_lbnf.specs.Checks.{HasFewRules}
 use Rattle.lbnf_grammar.specs.Numbering.{AreFew}
 use Rattle.lbnf_grammar.proofs.DistinctLemmas.{names_distinct, with_names_length}
@@ -244,7 +245,7 @@ few_items categories words (rule ∷ rules) =
     omega (
       arith,
       sum_by-cons (λ (x : NumberedRule). length x.items) (numbered_rule categories words rule) (map (numbered_rule categories words) rules),
-      length-map rule.items (symbol_of categories words),
+      length-map rule.items (item_symbol categories words),
       parted rule.items,
       length-append (item_categories rule.items) (flat_map met_categories rules),
       length-append (item_words rule.items) (flat_map rule_words rules),

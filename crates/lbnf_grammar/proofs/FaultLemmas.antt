@@ -4,7 +4,8 @@ use Rattle.std.specs.Option.{IfSome}
 use Rattle.std.proofs.lemmas.Option.{IfSome_then}
 use Rattle.spec_grammar.specs.Cycles.{IsAcyclic}
 use Rattle.spec_lbnf.specs.declared.definition.Def.{Def}
-use Rattle.spec_lbnf.specs.Expansion.{Expansion, expansion_of}
+use Rattle.spec_grammar.specs.Grammars.{Grammar}
+use Rattle.spec_lbnf.specs.Expansion.{expansion_of}
 use Rattle.spec_lbnf.specs.Checks.{Unfitness, AtUnknown, IsUnfit, IsWellLabelled, HasFewRules, HasOwnNames, AreAllKnown, IsFirstUnknown, unknown_fault}
 use Rattle.lbnf_grammar.specs.declared.fault.GrammarFault.{GrammarFault}
 use Rattle.lbnf_grammar.specs.Grammars.{unfitness_of, Tells, PassFirstChecks, Expands}
@@ -30,17 +31,17 @@ unknown_tells defs name number first =
 -- the answer of the check for cycles, on the grammar that definitions stand for, is the answer on
 -- the definitions, if they pass the other checks
 pub expands : (defs : List Def) → All IsWellLabelled defs → HasFewRules defs → HasOwnNames defs → AreAllKnown defs
-    → (g : Expansion) → g ≡ expansion_of defs → (result : Result Expansion GrammarFault) → PassesCycles g result → Expands defs result
+    → (g : Grammar) → g ≡ expansion_of defs → (result : Result Grammar GrammarFault) → PassesCycles g result → Expands defs result
 expands defs labelled few free known g is (Ok kept) passes = (
   record {
     labelled = labelled;
     few = few;
     own_names = free;
     known = known;
-    acyclic = subst (λ (x : Expansion). IsAcyclic x.rules) is passes.0;
+    acyclic = subst (λ (x : Grammar). IsAcyclic x.rules) is passes.0;
   },
   passes.1 ∙ is,
 )
 expands defs labelled few free known g is (Err fault) tells =
     unfit_or_passed defs (labelled, few) (AtCycleOf g)
-    (λ why at. inr (labelled, inr (few, inr (free, inr (known, subst (λ (x : Expansion). AtCycleOf x why) is at))))) (unfitness_of fault) tells
+    (λ why at. inr (labelled, inr (few, inr (free, inr (known, subst (λ (x : Grammar). AtCycleOf x why) is at))))) (unfitness_of fault) tells

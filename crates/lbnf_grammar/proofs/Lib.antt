@@ -3,11 +3,7 @@ pub mod TextLemmas
 pub mod DistinctLemmas
 pub mod TableLemmas
 pub mod CheckingLemmas
-pub mod NullableLemmas
-pub mod StepLinkLemmas
-pub mod RankLemmas
 pub mod CountLemmas
 pub mod LabelLemmas
 pub mod FaultLemmas
 pub mod EntryLemmas
-pub mod MakingLemmas

@@ -1,14 +1,11 @@
 -- Names and the keys by which they are looked up.
-use Rattle.std.proofs.Common.{◌≡◌, ℕ, ◌<◌, ◌≤◌, List, [], ◌∷◌, ◌++◌, length, map, Bool, true, false, not, cond, ltb, Vec, Global, refl, sym, ap, ◌∙◌, inl, inr, arith, Some, None, slice_get, get_or}
+use Rattle.std.proofs.Common.{◌≡◌, ℕ, ◌≤◌, List, [], ◌∷◌, ◌++◌, length, map, Bool, true, false, not, cond, ltb, Vec, Global, refl, sym, ap, ◌∙◌, inl, inr, arith, Some, None}
 use Rattle.std.proofs.lemmas.List.{length-map, map-append}
 use Rattle.std.specs.List.{list_any, prefix_len, position_or_len, position}
 use Rattle.std.specs.Option.{unwrap_or}
 use Rattle.std.specs.Str.{bytes_eq}
 use Rattle.std.proofs.lemmas.Bool.{cases_Bool, cond-true, cond-false, ltb-false}
-use Rattle.std.proofs.lemmas.List.Sums.{position_or_len_is, prefix_len-le-length}
-use Rattle.std.proofs.lemmas.Option.{slice_get_within, get_or_from_slice_get}
-use Rattle.std.proofs.lemmas.Slice.Eq.{bytes_eq-Decides}
-use Rattle.spec_lbnf.specs.Expansion.{number_of}
+use Rattle.std.proofs.lemmas.List.Sums.{prefix_len-le-length}
 use Rattle.lbnf_grammar.specs.Numbering.{with_name}
 
 -- the bytes of a key
@@ -50,21 +47,6 @@ module _ (name : List ℕ) (keys : List (Vec ℕ Global)) (names : List (List �
       ∙ place_or_len (λ key. bytes_eq name (key_bytes key)) keys
       ∙ front_image (λ n. not (bytes_eq name n)) key_bytes keys
       ∙ ap (position_or_len (bytes_eq name)) (sym are)
-
--- the first place at which a name stands is its number
-pub first_is_number : (names : List (List ℕ)) (name : List ℕ) (place : ℕ) → slice_get names place ≡ Some name
-    → ((k : ℕ) → k < place → get_or names k [] ≡ name → ⊥) → place ≡ number_of names name
-first_is_number names name place at none =
-    sym (position_or_len_is (bytes_eq name) names place [] (omega (arith, slice_get_within names place name at)) others (λ lt. here))
-  where
-    others : (k : ℕ) → k < place → bytes_eq name (get_or names k []) ≡ false
-    others k lt = elim (cases_Bool (bytes_eq name (get_or names k []))) [
-      | inl e ↦ absurd (none k lt (sym ((bytes_eq-Decides name (get_or names k [])).0 e)))
-      | inr e ↦ e
-    ]
-
-    here : bytes_eq name (get_or names place []) ≡ true
-    here = (bytes_eq-Decides name (get_or names place [])).1 (sym (get_or_from_slice_get names place name [] at))
 
 -- a name that is there changes nothing
 pub with_name_there : (names : List (List ℕ)) (name : List ℕ) → list_any (bytes_eq name) names ≡ true

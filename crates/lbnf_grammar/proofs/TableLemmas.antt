@@ -11,9 +11,10 @@ use Rattle.spec_lbnf.specs.declared.definition.RawItem.{RawItem}
 use Rattle.spec_lbnf.specs.declared.definition.RawItem.TheVariants.{Cat, Word}
 use Rattle.spec_lbnf.specs.declared.definition.RawRule.{RawRule}
 use Rattle.spec_lbnf.specs.declared.definition.Def.{Def}
-use Rattle.spec_lbnf.specs.Expansion.{category_text, rules_of, item_categories, item_words, met_categories, internal_category, distinct, categories_of, words_of, numbered_rule, category_symbol, entry_text, expansion_of}
+use Rattle.spec_lbnf.specs.Expansion.{category_text, rules_of, item_categories, item_words, met_categories, internal_category, distinct, categories_of, words_of, numbered_rule, entry_text, expansion_of}
+use Rattle.spec_grammar.specs.Grammars.{category_symbol}
 use Rattle.lbnf_grammar.specs.declared.tables.Tables.{Tables}
-use Rattle.lbnf_grammar.specs.Grammars.{grammar_of_parts}
+use Rattle.numbered_grammar.specs.Making.{grammar_of_parts}
 use Rattle.lbnf_grammar.specs.Numbering.{with_name, with_names}
 use Rattle.lbnf_grammar.specs.Tables.{with_item, with_rule}
 use Rattle.lbnf_grammar.proofs.DistinctLemmas.{names_distinct}

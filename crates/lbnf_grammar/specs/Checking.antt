@@ -5,14 +5,14 @@ use Rattle.spec_grammar.specs.Cycles.{IsAcyclic}
 use Rattle.spec_lbnf.specs.declared.definition.CatName.{CatName}
 use Rattle.spec_lbnf.specs.declared.definition.RawRule.{RawRule}
 use Rattle.spec_lbnf.specs.declared.definition.Def.{Def}
-use Rattle.spec_lbnf.specs.Expansion.{Expansion}
+use Rattle.spec_grammar.specs.Grammars.{Grammar}
 use Rattle.spec_lbnf.specs.Checks.{Unfitness, cyclic_category, IsFirstCyclic}
 use Rattle.spec_lbnf.specs.Checks.{IsWellLabelled, IsBadCoercion, IsBadList}
 use Rattle.spec_lbnf.specs.Checks.{IsList, IsBadWild, IsBadListRule}
 use Rattle.lbnf_grammar.specs.declared.fault.GrammarFault.{GrammarFault}
 use Rattle.lbnf_grammar.specs.declared.labels.LabelFault.{LabelFault}
 use Rattle.lbnf_grammar.specs.declared.labels.LabelFault.TheVariants.{Coercion, List as ListFault}
-use Rattle.lbnf_grammar.specs.Grammars.{unfitness_of, IsWellFormed, Tells}
+use Rattle.lbnf_grammar.specs.Grammars.{unfitness_of, Tells}
 
 -- the check is passed with what it gives, or the fault tells such an unfitness
 abbrev pub Checks : {A : Type 0} → (A → Type 0) → (Unfitness → Type 0)
@@ -57,15 +57,10 @@ abbrev pub IsUnlisted : List (List ℕ) → List ℕ → Type 0
 IsUnlisted known name = IsListed known name → ⊥
 
 -- the first cyclic category of the grammar is at fault
-abbrev pub AtCycleOf : Expansion → Unfitness → Type 0
+abbrev pub AtCycleOf : Grammar → Unfitness → Type 0
 AtCycleOf g fault = (name : List ℕ) × IsFirstCyclic g name × (fault ≡ cyclic_category name)
 
 -- the grammar has no cycle and is kept, or its first cyclic category is told
-abbrev pub PassesCycles : Expansion → Result Expansion GrammarFault → Type 0
+abbrev pub PassesCycles : Grammar → Result Grammar GrammarFault → Type 0
 PassesCycles g result =
-    Checks (λ (kept : Expansion). IsAcyclic g.rules × (kept ≡ g)) (AtCycleOf g) result
-
--- these parts, and None exactly where they are not well formed
-abbrev pub GivesParts : Expansion → Option Expansion → Type 0
-GivesParts parts None = IsWellFormed parts → ⊥
-GivesParts parts (Some given) = IsWellFormed parts × (given ≡ parts)
+    Checks (λ (kept : Grammar). IsAcyclic g.rules × (kept ≡ g)) (AtCycleOf g) result

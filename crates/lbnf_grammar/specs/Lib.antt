@@ -1,9 +1,4 @@
 pub mod Grammars
-pub mod Nullable
-pub mod Ranks
 pub mod Numbering
 pub mod Tables
 pub mod Checking
-pub mod NullablePasses
-pub mod StepLinks
-pub mod Heights

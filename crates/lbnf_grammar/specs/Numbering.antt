@@ -2,7 +2,8 @@
 use Rattle.std.specs.Prelude.{ℕ, ◌<◌, ◌^◌, List, [], ◌∷◌, ◌++◌, cond, fold, bytes_eq, length, map}
 use Rattle.std.specs.List.{list_any}
 use Rattle.spec_lbnf.specs.declared.definition.Def.{Def}
-use Rattle.spec_lbnf.specs.Expansion.{rules_of, categories_of, words_of, numbered_rule, item_count}
+use Rattle.spec_lbnf.specs.Expansion.{rules_of, categories_of, words_of, numbered_rule}
+use Rattle.spec_grammar.specs.Grammars.{item_count}
 
 -- the names, and this one behind them, if it is none of them
 abbrev pub with_name : List (List ℕ) → List ℕ → List (List ℕ)

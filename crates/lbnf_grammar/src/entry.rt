@@ -1,7 +1,8 @@
 //! The symbol that is asked for where none is named.
 ghost use Rattle.std.specs.Prelude.{◌≡◌, ◌<◌, ◌^◌, [], ◌∷◌, length, IfOk};
 ghost use Rattle.std.specs.Option.{option_map, option_or};
-ghost use Rattle.spec_lbnf.specs.Expansion.{category_text, category_symbol};
+ghost use Rattle.spec_lbnf.specs.Expansion.{category_text};
+ghost use Rattle.spec_grammar.specs.Grammars.{category_symbol};
 ghost use Rattle.spec_lbnf.specs.Expansion.{first_entry, first_category};
 
 use crate::numbering::category_number;

@@ -7,26 +7,23 @@ ghost use Rattle.spec_lexing.specs.declared.kind_def.KindDef.TheVariants.{Word a
 ghost use Rattle.lbnf_grammar.specs.Grammars.{Expands, Tells};
 ghost use Rattle.lbnf_grammar.specs.Checking.{PassesCycles, AtCycleOf};
 ghost use Rattle.lbnf_grammar.specs.Numbering.{AreFew};
-ghost use Rattle.lbnf_grammar.specs.Ranks.{IsLeastCyclic};
+ghost use Rattle.numbered_grammar.specs.Ranks.{IsLeastCyclic};
 
 use crate::checking::{check_named, check_own_names};
 use crate::counting::check_count;
-use crate::cycle_check::{CycleCheck, check_cycles};
 use crate::entry::entry_symbol;
 use crate::fault::GrammarFault;
-use crate::grammar::Grammar;
 use crate::labels::check_labels;
 use crate::macros::rules_of;
 use crate::numbering::numbered_rules;
-use crate::parts::GrammarParts;
 use crate::tables::{Tables, tables_of};
 use lbnf_text::{Def, Defs, RawRule, copy_name};
-use spec_lexing::KindDef;
+use numbered_grammar::{CycleCheck, Grammar, GrammarParts, KindDef, check_cycles};
 use spec_text::Name;
 use std::alloc::{AllocError, Global};
 
 /// A kind for each word.
-fn kinds_of(alloc: Global, words: Vec<Name>) -> Result<Vec<KindDef>, AllocError>
+fn word_kinds(alloc: Global, words: Vec<Name>) -> Result<Vec<KindDef>, AllocError>
     ensures { IfOk result (λ kinds. kinds.items ≡ map WordKind words.items) }
 {
     words
@@ -52,7 +49,7 @@ fn parts_by(
     let rules = numbered_rules(alloc, &tables, raw)?;
     let entry = entry_symbol(alloc, &tables, defs, raw)?;
     let Tables { categories, words } = tables;
-    let kinds = kinds_of(alloc, words.into_list())?;
+    let kinds = word_kinds(alloc, words.into_list())?;
     Ok(GrammarParts::of(rules, categories.into_list(), kinds, entry))
 }
 

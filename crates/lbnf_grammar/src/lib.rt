@@ -3,32 +3,20 @@
 
 mod checking;
 mod counting;
-mod cycle_check;
-mod cycles;
 mod entry;
 mod expanding;
 mod fault;
-mod grammar;
 mod labels;
 mod macros;
-mod making;
 mod names;
 mod naming;
-mod nullable;
 mod numbering;
-mod parts;
-mod ranking;
-mod stepping;
 mod tables;
 mod texts;
 
 pub use expanding::expand;
 pub use fault::GrammarFault;
-pub use grammar::Grammar;
-pub use nullable::nullable_categories;
-pub use spec_grammar::{Rule, Symbol};
-pub use spec_lexing::KindDef;
-pub use sqlite_items::Items;
+pub use numbered_grammar::{Grammar, KindDef, Rule, Symbol};
 
 #[cfg(test)]
 mod tests;

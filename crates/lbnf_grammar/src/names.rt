@@ -2,7 +2,7 @@
 ghost use Rattle.std.specs.Prelude.{◌≡◌, [], ◌∷◌, ◌++◌, ◌<◌, ◌≤◌, length, vec_len, vec_capacity};
 ghost use Rattle.std.specs.Prelude.{OnOk, bytes_eq};
 ghost use Rattle.std.specs.List.{list_any};
-ghost use Rattle.spec_lbnf.specs.Expansion.{number_of};
+ghost use Rattle.spec_grammar.specs.Grammars.{name_number};
 ghost use Rattle.lbnf_grammar.specs.Numbering.{with_name, with_names};
 
 use indexmap::IndexSet;
@@ -48,7 +48,7 @@ impl Names {
 
     /// The number of the name, which is the count of names where it is none of them.
     pub(crate) fn number(&self, name: &[u8]) -> usize
-        ensures number { result ≡ number_of self.now name.now }
+        ensures number { result ≡ name_number self.now name.now }
         ensures within { result ≤ length self.now }
     {
         self.places.get_index_of(name).unwrap_or(self.list.len())

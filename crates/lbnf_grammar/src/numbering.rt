@@ -1,6 +1,7 @@
 //! The numbers of a rule's symbols.
 ghost use Rattle.std.specs.Prelude.{◌≡◌, ◌<◌, ◌^◌, map, length, IfOk};
-ghost use Rattle.spec_lbnf.specs.Expansion.{number_of, category_text, symbol_of, numbered_rule};
+ghost use Rattle.spec_grammar.specs.Grammars.{name_number};
+ghost use Rattle.spec_lbnf.specs.Expansion.{category_text, item_symbol, numbered_rule};
 
 use crate::tables::Tables;
 use crate::texts::{category_text, copy_label};
@@ -17,17 +18,17 @@ pub(crate) fn category_number(
 ) -> Result<u16, AllocError>
     requires { length tables.now.categories < 2 ^ 16 }
     ensures { IfOk result
-        (λ number. number ≡ number_of tables.now.categories (category_text cat.now)) }
+        (λ number. number ≡ name_number tables.now.categories (category_text cat.now)) }
 {
     let text = category_text(alloc, cat)?;
     Ok(tables.categories.number(text.as_slice()) as u16)
 }
 
-fn symbol_of(alloc: Global, tables: &Tables, item: &RawItem) -> Result<Symbol, AllocError>
+fn item_symbol(alloc: Global, tables: &Tables, item: &RawItem) -> Result<Symbol, AllocError>
     requires categories { length tables.now.categories < 2 ^ 16 }
     requires words { length tables.now.words < 2 ^ 16 }
     ensures { IfOk result
-        (λ symbol. symbol ≡ symbol_of tables.now.categories tables.now.words item.now) }
+        (λ symbol. symbol ≡ item_symbol tables.now.categories tables.now.words item.now) }
 {
     match item {
         RawItem::Cat(cat) => Ok(Symbol::Category(category_number(alloc, tables, cat)?)),
@@ -46,11 +47,11 @@ fn symbols_of(
     requires categories { length tables.now.categories < 2 ^ 16 }
     requires words { length tables.now.words < 2 ^ 16 }
     ensures { IfOk result (λ symbols.
-        symbols ≡ map (symbol_of tables.now.categories tables.now.words) items.now) }
+        symbols ≡ map (item_symbol tables.now.categories tables.now.words) items.now) }
 {
     let mut symbols = Items::new(alloc);
     for item in items {
-        symbols.push(symbol_of(alloc, tables, item)?)?;
+        symbols.push(item_symbol(alloc, tables, item)?)?;
     }
     Ok(symbols)
 }

@@ -1,12 +1,9 @@
 //! Grammars that are expanded and that are refused, with numbers by hand.
-mod cycles_and_ranks;
-mod empty_spans;
-mod small_grammars;
 mod whole_files;
 
 use super::*;
 use lbnf_text::{Label, MAX_FILE, Name, read_defs};
-use small_grammars::grammar_of_names;
+use numbered_grammar::nullable_categories;
 use std::alloc::Global;
 use std::test::*;
 
@@ -203,21 +200,6 @@ fn no_definitions_are_a_grammar(rt: HostRuntime) -> Result<(), Fail> {
 }
 
 #[test]
-fn the_first_of_equal_names_is_found(rt: HostRuntime) -> Result<(), Fail> {
-    let names = ["S", "T", "S", "T", "T"];
-    let grammar = grammar_of_names(rt.alloc(), names.as_slice())?.ok_or("a grammar")?;
-    let cases = [
-        (b"S".as_slice(), Some(Symbol::Category(0))),
-        (b"T".as_slice(), Some(Symbol::Category(1))),
-        (b"U".as_slice(), None),
-    ];
-    for (name, want) in cases {
-        assert_eq!(rt; grammar.find(name), want, "at {name:?}");
-    }
-    Ok(())
-}
-
-#[test]
 fn no_category_is_nullable_where_each_side_has_a_word_or_two_categories(
     rt: HostRuntime,
 ) -> Result<(), Fail> {
@@ -227,5 +209,25 @@ fn no_category_is_nullable_where_each_side_has_a_word_or_two_categories(
         .ok_or("a grammar")?;
     let flags = nullable_categories(rt.alloc(), &grammar)?;
     assert_eq!(rt; flags.as_slice(), [false, false, false].as_slice());
+    Ok(())
+}
+
+/// Sums of products of atoms, and a statement that is a sum.
+const LEVELS: &[u8] = b"Add . Sum ::= Sum \"+\" Product; S . Sum ::= Product; \
+    Mul . Product ::= Product \"*\" Atom; P . Product ::= Atom; One . Atom ::= \"1\"; \
+    Do . Statement ::= Sum";
+
+#[test]
+fn an_expanded_grammar_has_ranks(rt: HostRuntime) -> Result<(), Fail> {
+    let grammar = expanded(rt.alloc(), LEVELS)
+        .ok_or("the form")?
+        .ok()
+        .ok_or("a grammar")?;
+    assert_eq!(rt; grammar.category_count(), 4);
+    for (number, rank) in [2, 1, 0, 3].iter().enumerate() {
+        let category = number as u16;
+        assert!(rt; category < grammar.category_count());
+        assert_eq!(rt; grammar.rank(category), *rank, "at {category}");
+    }
     Ok(())
 }

@@ -7,7 +7,7 @@ use Rattle.std.proofs.lemmas.Bool.{false≢true, cases_eq}
 use Rattle.std.proofs.lemmas.Grind.{get_or-set_at}
 use Rattle.std.proofs.lemmas.List.{length-replicate}
 use Rattle.std.proofs.lemmas.List.Elements.{Contains-append_left, Contains-append_right, Contains-append_cases}
-use Rattle.number_graph.specs.Graphs.{HasLink, NumberReaches, stay, step, IsSet, AreReachedFlags}
+use Rattle.number_graph.specs.Graphs.{HasLink, ReachesBy, stay, step, IsSet, AreReachedFlags}
 use Rattle.number_graph.specs.Flags.{clear_count, SetsFlags, IsSearch}
 use Rattle.number_graph.proofs.LinkLemmas.{Contains-one}
 
@@ -119,7 +119,7 @@ module _ (links : List (List ℕ)) (from : ℕ) where
     start = set_here clear from from is_flag refl;
     sound = λ n is. elim (set_before clear from n is) [
       | inl old ↦ absurd (none n old)
-      | inr same ↦ let P : ℕ → Type 0 = λ m. NumberReaches (HasLink links) from m in subst P (sym same) stay
+      | inr same ↦ let P : ℕ → Type 0 = λ m. ReachesBy (HasLink links) from m in subst P (sym same) stay
     ];
     all_set = λ n is. set_here clear from n is_flag (Contains-one from n is);
     closed = λ n is. elim (set_before clear from n is) [
@@ -182,9 +182,9 @@ module _ (links : List (List ℕ)) (from : ℕ) where
   -- where nothing waits, what is reached has its flag
   reached_is_set :
       (flags : List Bool) (n : ℕ)
-      → IsSearch links from flags [] → NumberReaches (HasLink links) from n → IsSet flags n
+      → IsSearch links from flags [] → ReachesBy (HasLink links) from n → IsSet flags n
   reached_is_set flags n search stay = search.start
-  reached_is_set flags n search (step {m = m} before last) =
+  reached_is_set flags n search (step {b = m} before last) =
       elim (search.closed m (reached_is_set flags m search before)) [
         | inl waits ↦ absurd (omega (arith, waits.1))
         | inr all ↦ all n last

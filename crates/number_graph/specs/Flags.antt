@@ -1,7 +1,7 @@
 -- Serves the proofs alone. The search that flags what a number reaches.
 use Rattle.std.specs.Prelude.{◌≡◌, ℕ, suc, ◌*◌, ◌+◌, ◌≤◌, ◌⊎◌, List, [], ◌∷◌, Bool, true, false}
 use Rattle.std.specs.Prelude.{length, Contains}
-use Rattle.number_graph.specs.Graphs.{HasLink, NumberReaches, IsSet}
+use Rattle.number_graph.specs.Graphs.{HasLink, ReachesBy, IsSet}
 
 -- how many flags are clear
 abbrev pub clear_count : List Bool → ℕ
@@ -30,7 +30,7 @@ pub record IsSearch (links : List (List ℕ)) (from : ℕ) (flags : List Bool) (
     : Type 0 where
   pub count : length flags ≡ length links
   pub start : IsSet flags from
-  pub sound : (n : ℕ) → IsSet flags n → NumberReaches (HasLink links) from n
+  pub sound : (n : ℕ) → IsSet flags n → ReachesBy (HasLink links) from n
   pub all_set : (n : ℕ) → Contains waiting n → IsSet flags n
   pub closed : (m : ℕ) → IsSet flags m
       → Contains waiting m ⊎ ((n : ℕ) → HasLink links m n → IsSet flags n)

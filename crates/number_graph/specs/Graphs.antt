@@ -24,10 +24,10 @@ AreNoLinks count links = links ≡ replicate count []
 abbrev pub AreLinksWithin : List (List ℕ) → Type 0
 AreLinksWithin links = (m n : ℕ) → HasLink links m n → n < length links
 
--- a number reaches another by steps, or by none where it is the same
-pub data NumberReaches (Step : ℕ → ℕ → Type 0) : ℕ → ℕ → Type 0 where
-  stay : {m : ℕ} → NumberReaches Step m m
-  step : {l m n : ℕ} → NumberReaches Step l m → Step m n → NumberReaches Step l n
+-- one thing reaches another by steps, or by none where it is the same
+pub data ReachesBy {A : Type 0} (Step : A → A → Type 0) : A → A → Type 0 where
+  stay : {a : A} → ReachesBy Step a a
+  step : {a b c : A} → ReachesBy Step a b → Step b c → ReachesBy Step a c
 
 -- the number has a flag, and it is set
 abbrev pub IsSet : List Bool → ℕ → Type 0
@@ -36,8 +36,8 @@ IsSet flags n = IsTrue (slice_index_or flags n false)
 -- each number has a flag, which is set exactly where the number is reached by links
 pub record AreReachedFlags (links : List (List ℕ)) (from : ℕ) (flags : List Bool) : Type 0 where
   pub count : length flags ≡ length links
-  pub exact : (n : ℕ) → IsSet flags n ↔ NumberReaches (HasLink links) from n
+  pub exact : (n : ℕ) → IsSet flags n ↔ ReachesBy (HasLink links) from n
 
 -- the number reaches itself by one link or more
 abbrev pub IsOnCycle : List (List ℕ) → ℕ → Type 0
-IsOnCycle links n = (m : ℕ) × HasLink links n m × NumberReaches (HasLink links) m n
+IsOnCycle links n = (m : ℕ) × HasLink links n m × ReachesBy (HasLink links) m n

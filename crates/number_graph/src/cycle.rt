@@ -1,6 +1,6 @@
 //! Whether a number reaches itself.
 ghost use Rattle.std.specs.Prelude.{◌<◌, ◌↔◌, length, IsTrue, IfOk};
-ghost use Rattle.number_graph.specs.Graphs.{AreLinksWithin, HasLink, IsOnCycle, NumberReaches};
+ghost use Rattle.number_graph.specs.Graphs.{AreLinksWithin, HasLink, IsOnCycle, ReachesBy};
 
 use crate::closure::reached_from;
 use crate::links::Links;
@@ -12,7 +12,7 @@ fn reaches(alloc: Global, links: &Links, from: u16, to: u16) -> Result<bool, All
     requires from { from < length links.now }
     requires to { to < length links.now }
     ensures { IfOk result
-        (λ answer. IsTrue answer ↔ NumberReaches (HasLink links.now) from to) }
+        (λ answer. IsTrue answer ↔ ReachesBy (HasLink links.now) from to) }
 {
     let flags = reached_from(alloc, links, from)?;
     Ok(flags[to as usize])

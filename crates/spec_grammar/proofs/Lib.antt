@@ -1,4 +1,2 @@
 pub mod DerivationLemmas
-pub mod Examples
 pub mod CycleLemmas
-pub mod CycleExamples

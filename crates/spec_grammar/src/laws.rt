@@ -4,9 +4,7 @@ ghost use Rattle.spec_grammar.specs.Laws.{CategoryDerivesByItsRules, ItemsDerive
 ghost use Rattle.spec_grammar.specs.Laws.{ItemsLieWithin, KindDerivesItsToken};
 ghost use Rattle.spec_grammar.specs.Laws.{EmptyItemsDeriveEmptySpan, NoStrayIsDerived};
 ghost use Rattle.spec_grammar.specs.Laws.{NullableDerivesEverywhere, SpansLieWithin};
-ghost use Rattle.spec_grammar.specs.Examples.{SmallCases};
 ghost use Rattle.spec_grammar.specs.CycleLaws.{ChainsAreShort, RanksAreUnique, StepsLowerRanks};
-ghost use Rattle.spec_grammar.specs.CycleExamples.{SmallCycles};
 
 /// A nullable symbol derives the empty span at every place of every text, and at one place is
 /// enough.
@@ -42,11 +40,6 @@ pub fn no_stray_is_derived()
     ensures { NoStrayIsDerived }
 {}
 
-/// Spans of small grammars that are derived, and others that are not.
-pub fn small_cases()
-    ensures { SmallCases }
-{}
-
 /// A category that another steps to is of lower rank.
 pub fn steps_lower_ranks()
     ensures { StepsLowerRanks }
@@ -60,9 +53,4 @@ pub fn one_rank()
 /// Where no category reaches itself, no chain has as many steps as there are categories.
 pub fn chains_are_short()
     ensures { ChainsAreShort }
-{}
-
-/// Small grammars with a cycle, without one, and with ranks.
-pub fn small_cycles()
-    ensures { SmallCycles }
 {}

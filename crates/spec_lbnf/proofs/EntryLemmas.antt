@@ -7,7 +7,8 @@ use Rattle.std.proofs.lemmas.List.Elements.{Contains-append_left, Contains-appen
 use Rattle.spec_lbnf.specs.declared.definition.RawRule.{RawRule}
 use Rattle.spec_lbnf.specs.declared.definition.Def.{Def}
 use Rattle.spec_lbnf.specs.declared.definition.Def.TheVariants.{Rule as RuleDef, Internal, Terminator, Separator, Coercions, Entry}
-use Rattle.spec_lbnf.specs.Expansion.{IsSymbolOf, category_text, rules_of, rules_of_def, internal_category, met_categories, item_categories, categories_of, number_of, expansion_of, first_entry, first_category, category_symbol}
+use Rattle.spec_grammar.specs.Grammars.{IsSymbolOf, name_number, category_symbol}
+use Rattle.spec_lbnf.specs.Expansion.{category_text, rules_of, rules_of_def, internal_category, met_categories, item_categories, categories_of, expansion_of, first_entry, first_category}
 use Rattle.spec_lbnf.specs.Checks.{IsKnown, NamesKnown, own_categories}
 use Rattle.spec_lbnf.specs.Laws.{OwnEntry}
 use Rattle.spec_lbnf.proofs.SymbolLemmas.{category_names, distinct_number}
@@ -50,7 +51,7 @@ known_met (def ∷ defs) name there =
 
 -- so a known category is numbered
 known_numbered : (defs : List Def) (name : List ℕ) → IsKnown defs name
-    → number_of (categories_of defs) name < length (categories_of defs)
+    → name_number (categories_of defs) name < length (categories_of defs)
 known_numbered defs name known =
     distinct_number (category_names defs) name (elim (known_met defs name known) [
       | inl met ↦ Contains-append_left (flat_map met_categories (rules_of defs)) (flat_map internal_category defs) name met
@@ -74,7 +75,7 @@ entry_known all (Entry (cat ∷ cats) ∷ defs) known = (recursion_from_All (IsK
 
 -- the category of the first rule is numbered
 first_numbered : (defs : List Def) (rules : List RawRule) → rules_of defs ≡ rules
-    → IfSome (first_category rules) (λ name. number_of (categories_of defs) name < length (categories_of defs))
+    → IfSome (first_category rules) (λ name. name_number (categories_of defs) name < length (categories_of defs))
 first_numbered defs [] is = tt
 first_numbered defs (rule ∷ rules) is =
     distinct_number (category_names defs) (own_text rule)
@@ -87,7 +88,7 @@ own_entry defs known = by (first_entry defs) (entry_known defs defs (recursion_f
     (first_category (rules_of defs)) (first_numbered defs (rules_of defs) refl)
   where
     by : (entry : Option (List ℕ)) → IfSome entry (IsKnown defs) → (first : Option (List ℕ))
-        → IfSome first (λ name. number_of (categories_of defs) name < length (categories_of defs))
+        → IfSome first (λ name. name_number (categories_of defs) name < length (categories_of defs))
         → IfSome (option_map (category_symbol (categories_of defs)) (option_or entry first)) (IsSymbolOf (expansion_of defs))
     by (Some name) is first numbered = known_numbered defs name is
     by None is (Some name) numbered = numbered

@@ -7,7 +7,8 @@ use Rattle.std.proofs.lemmas.Bool.{cases_Bool, both_ways, false≢true}
 use Rattle.std.proofs.lemmas.Map.Views.{Contains-from_any, list_any-from_Contains}
 use Rattle.std.proofs.lemmas.Option.{none-some, same_Some}
 use Rattle.std.proofs.lemmas.Slice.Eq.{bytes_eq-Decides}
-use Rattle.spec_lbnf.specs.Expansion.{distinct, number_of}
+use Rattle.spec_lbnf.specs.Expansion.{distinct}
+use Rattle.spec_grammar.specs.Grammars.{name_number}
 use Rattle.spec_lbnf.specs.Laws.{NumbersNameBack, DistinctNames}
 
 -- a name that passes the test is the name
@@ -26,7 +27,7 @@ there_found names name there = list_any-from_Contains nat_list_eq_equiv name nam
 
 -- the name stands at the number of a name that is found
 name_at_number : (names : List (List ℕ)) (name : List ℕ) → list_any (bytes_eq name) names ≡ true
-    → slice_get names (number_of names name) ≡ Some name
+    → slice_get names (name_number names name) ≡ Some name
 name_at_number [] name h = absurd (false≢true h)
 name_at_number (x ∷ names) name h = elim (cases_Bool (bytes_eq name x)) [
   | inl e ↦ rw e (ap (λ n. Some n) (sym (same_name name x e)))

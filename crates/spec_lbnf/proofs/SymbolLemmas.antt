@@ -9,20 +9,21 @@ use Rattle.spec_lbnf.specs.declared.definition.RawItem.{RawItem}
 use Rattle.spec_lbnf.specs.declared.definition.RawItem.TheVariants.{Cat, Word}
 use Rattle.spec_lbnf.specs.declared.definition.RawRule.{RawRule}
 use Rattle.spec_lbnf.specs.declared.definition.Def.{Def}
-use Rattle.spec_lbnf.specs.Expansion.{IsSymbolOf, HasSymbolsOf, category_text, rules_of, item_categories, item_words, met_categories, internal_category, categories_of, words_of, distinct, number_of, symbol_of, numbered_rule, expansion_of}
+use Rattle.spec_grammar.specs.Grammars.{IsSymbolOf, HasSymbolsOf, name_number}
+use Rattle.spec_lbnf.specs.Expansion.{category_text, rules_of, item_categories, item_words, met_categories, internal_category, categories_of, words_of, distinct, item_symbol, numbered_rule, expansion_of}
 use Rattle.spec_lbnf.specs.Laws.{OwnSymbols}
 use Rattle.spec_lbnf.proofs.NameLemmas.{numbers_name_back, distinct_names}
 use Rattle.spec_lbnf.proofs.ListLemmas.{item_at}
 
 -- the names have their numbers below the count of the list
 abbrev AreNumbered : List (List ℕ) → List (List ℕ) → Type 0
-AreNumbered list names = (name : List ℕ) → Contains names name → number_of list name < length list
+AreNumbered list names = (name : List ℕ) → Contains names name → name_number list name < length list
 
 -- names are numbered by the list of them without repetitions
 pub distinct_number : (names : List (List ℕ)) → AreNumbered (distinct names) names
 distinct_number names name there =
     let listed : Contains (distinct names) name = ((distinct_names names).same name).1 there in
-    slice_get_within (distinct names) (number_of (distinct names) name) name (numbers_name_back (distinct names) name listed)
+    slice_get_within (distinct names) (name_number (distinct names) name) name (numbers_name_back (distinct names) name listed)
 
 -- what a list gives of the item at a place is in what it gives of all
 given_there : {X : Type 0} (gives : X → List (List ℕ)) (xs : List X) (k : ℕ) (x : X) (name : List ℕ)
@@ -63,7 +64,7 @@ module _ (defs : List Def) where
 
   -- items whose names are numbered are symbols of the grammar
   items_own : (items : List RawItem) → AreNumbered categories (item_categories items) → AreNumbered words (item_words items)
-      → AllByRecursion (IsSymbolOf (expansion_of defs)) (map (symbol_of categories words) items)
+      → AllByRecursion (IsSymbolOf (expansion_of defs)) (map (item_symbol categories words) items)
   items_own [] named told = tt
   items_own (Cat cat ∷ items) named told = (
     named (category_text cat) (first_there (category_text cat) (item_categories items)),

@@ -12,7 +12,8 @@ use Rattle.spec_lbnf.specs.declared.definition.RawRule.{RawRule}
 use Rattle.spec_lbnf.specs.declared.definition.Def.{Def}
 use Rattle.spec_lbnf.specs.declared.definition.Def.TheVariants.{Rule as RuleDef, Internal}
 use Rattle.spec_lbnf.specs.declared.definition.Def.TheVariants.{Coercions, Entry}
-use Rattle.spec_lbnf.specs.Expansion.{Expansion, category_text, rules_of_def, rules_of}
+use Rattle.spec_grammar.specs.Grammars.{Grammar}
+use Rattle.spec_lbnf.specs.Expansion.{category_text, rules_of_def, rules_of}
 use Rattle.spec_lbnf.specs.Expansion.{item_categories, internal_category, expansion_of}
 
 -- the items that are no words, in order
@@ -150,7 +151,7 @@ pub record IsFirstUnknown (defs : List Def) (name : List ℕ) (number : ℕ) : T
 
 -- the first cyclic category is the one of this text: it reaches itself by steps, and none of a
 -- lesser number does
-pub record IsFirstCyclic (g : Expansion) (name : List ℕ) : Type 0 where
+pub record IsFirstCyclic (g : Grammar) (name : List ℕ) : Type 0 where
   pub category : ℕ
   pub is_category : slice_get g.categories category ≡ Some name
   pub cyclic : IsCyclic g.rules category

@@ -1,17 +1,17 @@
 -- The grammar that definitions stand for: its rules in file order, and the numbers of its
 -- categories and kinds.
-use Rattle.std.specs.Prelude.{◌≡◌, ℕ, ◌+◌, ◌<◌, List, [], ◌∷◌, ◌++◌, length, map, filter, flat_map}
-use Rattle.std.specs.Prelude.{All, not, replicate, bytes_eq, slice_get, zero, codes, Bool, cond}
+use Rattle.std.specs.Prelude.{ℕ, ◌+◌, List, [], ◌∷◌, ◌++◌, map, filter, flat_map}
+use Rattle.std.specs.Prelude.{not, replicate, bytes_eq, zero, codes, Bool, cond}
 use Rattle.std.specs.Prelude.{Option, Some, None}
 use Rattle.std.specs.Option.{option_map, option_or}
 use Rattle.std.specs.Fmt.{decimal}
-use Rattle.std.specs.List.{position_or_len, sum_by, range_with_len}
+use Rattle.std.specs.List.{range_with_len}
 use Rattle.spec_grammar.specs.declared.rule.Label.TheVariants.{Wild, Nil, Cons, One}
+use Rattle.spec_grammar.specs.Grammars.{Grammar, lexicon_of_kinds, name_number, category_symbol}
 use Rattle.spec_lbnf.specs.Words.{is_empty, words_in}
 use Rattle.spec_grammar.specs.declared.rule.Symbol.{Symbol}
 use Rattle.spec_grammar.specs.declared.rule.Symbol.TheVariants.{Category, Kind}
 use Rattle.spec_grammar.specs.declared.rule.Rule.{Rule}
-use Rattle.spec_lexing.specs.declared.kind_def.KindDef.{KindDef}
 use Rattle.spec_lexing.specs.declared.kind_def.KindDef.TheVariants.{Word as WordKind}
 use Rattle.spec_lbnf.specs.declared.definition.CatName.{CatName}
 use Rattle.spec_lbnf.specs.declared.definition.RawItem.{RawItem}
@@ -21,36 +21,6 @@ use Rattle.spec_lbnf.specs.declared.definition.Def.{Def}
 use Rattle.spec_lbnf.specs.declared.definition.Def.TheVariants.{Rule as RuleDef, Internal}
 use Rattle.spec_lbnf.specs.declared.definition.Def.TheVariants.{Terminator, Separator, Coercions}
 use Rattle.spec_lbnf.specs.declared.definition.Def.TheVariants.{Entry}
-
--- an expanded grammar: its rules, the texts of its categories, and its kinds, each by number, and
--- the symbol that is asked for where none is named
-pub record Expansion : Type 0 where
-  pub rules : List Rule
-  pub categories : List (List ℕ)
-  pub kinds : List KindDef
-  pub entry : Option Symbol
-
--- the symbol is the grammar's: its number is below the count of categories, or of kinds
-abbrev pub IsSymbolOf : Expansion → Symbol → Type 0
-IsSymbolOf g (Category c) = c < length g.categories
-IsSymbolOf g (Kind k) = k < length g.kinds
-
--- the rule's category is one of the grammar, and its items are symbols of it
-abbrev pub HasSymbolsOf : Expansion → Rule → Type 0
-HasSymbolsOf g rule = IsSymbolOf g (Category rule.category) × All (IsSymbolOf g) rule.items
-
--- each rule of the grammar has symbols of the grammar
-abbrev pub HasOwnSymbols : Expansion → Type 0
-HasOwnSymbols g = (r : ℕ) (rule : Rule) → slice_get g.rules r ≡ Some rule → HasSymbolsOf g rule
-
--- how many items the rules have together
-abbrev pub item_count : List Rule → ℕ
-item_count rules = sum_by (λ (rule : Rule). length rule.items) rules
-
--- how many symbols a chart of the grammar has to tell apart: categories, kinds and all items of all
--- rules
-abbrev pub symbol_count : Expansion → ℕ
-symbol_count g = length g.categories + length g.kinds + item_count g.rules
 
 -- the text of a category: its name inside its brackets
 abbrev pub category_text : CatName → List ℕ
@@ -185,34 +155,26 @@ entry_text defs = option_or (first_entry defs) (first_category (rules_of defs))
 abbrev pub words_of : List RawRule → List (List ℕ)
 words_of rules = distinct (flat_map (λ (rule : RawRule). item_words rule.items) rules)
 
--- the place of the name in the list, which is its number
-abbrev pub number_of : List (List ℕ) → List ℕ → ℕ
-number_of names name = position_or_len (bytes_eq name) names
-
 -- the symbol of an item, by the lists of categories and of words
-abbrev pub symbol_of : List (List ℕ) → List (List ℕ) → RawItem → Symbol
-symbol_of categories words (Cat cat) = Category (number_of categories (category_text cat))
-symbol_of categories words (Word word) = Kind (number_of words word)
+abbrev pub item_symbol : List (List ℕ) → List (List ℕ) → RawItem → Symbol
+item_symbol categories words (Cat cat) = Category (name_number categories (category_text cat))
+item_symbol categories words (Word word) = Kind (name_number words word)
 
 -- the rule with its symbols' numbers
 abbrev pub numbered_rule : List (List ℕ) → List (List ℕ) → RawRule → Rule
 numbered_rule categories words rule = record {
   label = rule.label;
-  category = number_of categories (category_text rule.cat);
-  items = map (symbol_of categories words) rule.items;
+  category = name_number categories (category_text rule.cat);
+  items = map (item_symbol categories words) rule.items;
 }
 
--- the category of this text
-abbrev pub category_symbol : List (List ℕ) → List ℕ → Symbol
-category_symbol categories text = Category (number_of categories text)
-
 -- the grammar that the definitions stand for
-abbrev pub expansion_of : List Def → Expansion
+abbrev pub expansion_of : List Def → Grammar
 expansion_of defs =
     let rules : List RawRule = rules_of defs in
     record {
       rules = map (numbered_rule (categories_of defs) (words_of rules)) rules;
       categories = categories_of defs;
-      kinds = map WordKind (words_of rules);
+      lexicon = lexicon_of_kinds (map WordKind (words_of rules));
       entry = option_map (category_symbol (categories_of defs)) (entry_text defs);
     }

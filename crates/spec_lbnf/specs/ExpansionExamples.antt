@@ -3,6 +3,7 @@ use Rattle.std.specs.Prelude.{◌≡◌, ℕ, List, [], ◌∷◌, codes, Some, 
 use Rattle.spec_grammar.specs.declared.rule.Label.{Label}
 use Rattle.spec_grammar.specs.declared.rule.Label.TheVariants.{Named, Wild, Nil, Cons, One}
 use Rattle.spec_grammar.specs.declared.rule.Symbol.TheVariants.{Category, Kind}
+use Rattle.spec_grammar.specs.Grammars.{lexicon_of_kinds}
 use Rattle.spec_lexing.specs.declared.kind_def.KindDef.TheVariants.{Word as WordKind}
 use Rattle.spec_lbnf.specs.declared.definition.RawItem.{RawItem}
 use Rattle.spec_lbnf.specs.declared.definition.RawItem.TheVariants.{Cat, Word}
@@ -82,7 +83,7 @@ pub record SmallExpansions : Type 0 where
             record { label = Wild; category = 0; items = Kind 0 ∷ Category 1 ∷ Kind 0 ∷ [] }
             ∷ record { label = Named (codes "B"); category = 1; items = Kind 1 ∷ [] } ∷ [];
         categories = codes "S" ∷ codes "T" ∷ codes "U" ∷ [];
-        kinds = WordKind (codes "a") ∷ WordKind (codes "b") ∷ [];
+        lexicon = lexicon_of_kinds (WordKind (codes "a") ∷ WordKind (codes "b") ∷ []);
         entry = Some (Category 1);
       }
   -- without entry points the entry is the category of the first rule; without rules there is none

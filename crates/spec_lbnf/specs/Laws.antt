@@ -2,8 +2,9 @@
 use Rattle.std.specs.Prelude.{◌≡◌, ℕ, ◌↔◌, List, Some, slice_get, Contains, IfSome}
 use Rattle.spec_grammar.specs.Cycles.{IsAcyclic}
 use Rattle.spec_lbnf.specs.declared.definition.Def.{Def}
-use Rattle.spec_lbnf.specs.Expansion.{Expansion, distinct, number_of, expansion_of, HasOwnSymbols}
-use Rattle.spec_lbnf.specs.Expansion.{IsSymbolOf}
+use Rattle.spec_grammar.specs.Grammars.{Grammar, name_number, HasOwnSymbols}
+use Rattle.spec_lbnf.specs.Expansion.{distinct, expansion_of}
+use Rattle.spec_grammar.specs.Grammars.{IsSymbolOf}
 use Rattle.spec_lbnf.specs.Checks.{AreAllKnown, IsFirstCyclic, Unfitness, AreFit, IsUnfit}
 
 -- the rules that definitions give have symbols of their grammar alone
@@ -28,18 +29,18 @@ OneUnfitness =
 -- no grammar both is without a cycle and has a first cyclic category
 abbrev pub AcyclicOrCyclic : Type 0
 AcyclicOrCyclic =
-    (g : Expansion) (name : List ℕ) → IsAcyclic g.rules → IsFirstCyclic g name → ⊥
+    (g : Grammar) (name : List ℕ) → IsAcyclic g.rules → IsFirstCyclic g name → ⊥
 
 -- at most one text is that of the first cyclic category
 abbrev pub OneCyclic : Type 0
 OneCyclic =
-    (g : Expansion) (a b : List ℕ) → IsFirstCyclic g a → IsFirstCyclic g b → a ≡ b
+    (g : Grammar) (a b : List ℕ) → IsFirstCyclic g a → IsFirstCyclic g b → a ≡ b
 
 -- the number of a listed name is a place where that name stands
 abbrev pub NumbersNameBack : Type 0
 NumbersNameBack =
     (names : List (List ℕ)) (name : List ℕ) → Contains names name
-    → slice_get names (number_of names name) ≡ Some name
+    → slice_get names (name_number names name) ≡ Some name
 
 -- a list without repetitions has each name of the list, no other, and none at two places
 pub record IsDistinctOf (names xs : List (List ℕ)) : Type 0 where

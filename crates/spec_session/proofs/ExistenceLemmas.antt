@@ -4,7 +4,7 @@ use Rattle.std.specs.Str.{IsAscii}
 use Rattle.std.proofs.lemmas.Bool.{cases_lt}
 use Rattle.spec_lexing.specs.declared.token.Token.{Token}
 use Rattle.spec_lexing.proofs.KindsLemmas.{some_tokens}
-use Rattle.spec_lbnf.specs.Expansion.{Expansion}
+use Rattle.spec_grammar.specs.Grammars.{Grammar}
 use Rattle.spec_script.specs.Script.{Constituent, Query, has, Command, header, grammar, opens, ask, line_of}
 use Rattle.spec_script.specs.Script.{block_of, text_of, IsWithinLimits, AreQuestions, IsInOrder}
 use Rattle.spec_script.specs.Script.{BeginsWithCommands, GoesOn, HasEndLine, Ending, ended, broken}
@@ -118,7 +118,7 @@ module _ (input : List ℕ) where
   some_script : IsUndeniable HasScript
   some_script = script_from (suc (length input)) [] 0 input (omega arith) tt (refl, refl)
 
-module _ (g : Expansion) (tokens : List Token) (constituent : Constituent) where
+module _ (g : Grammar) (tokens : List Token) (constituent : Constituent) where
   -- whether the constituent is derived has an answer
   abbrev HasHasAnswer : Type 0
   HasHasAnswer = (line : List ℕ) × IsHasAnswer g tokens constituent line
@@ -160,14 +160,14 @@ module _ (g : Expansion) (tokens : List Token) (constituent : Constituent) where
       ])
 
 -- the query has an answer
-abbrev HasAnswer : Expansion → List Token → Query → Type 0
+abbrev HasAnswer : Grammar → List Token → Query → Type 0
 HasAnswer g tokens query = (line : List ℕ) × IsAnswer g tokens query line
 
 -- which cannot be denied
-some_answer : (g : Expansion) (tokens : List Token) (query : Query) → IsUndeniable (HasAnswer g tokens query)
+some_answer : (g : Grammar) (tokens : List Token) (query : Query) → IsUndeniable (HasAnswer g tokens query)
 some_answer g tokens (has constituent) = some_has_answer g tokens constituent
 
-module _ (g : Expansion) where
+module _ (g : Grammar) where
   -- questions on a current text of ASCII have replies
   some_replies :
       (texts : List (List ℕ)) (text : List ℕ) → IsCurrent texts text → IsAscii text →
@@ -175,7 +175,7 @@ module _ (g : Expansion) where
       IsUndeniable ((out : List ℕ) × AreReplies g texts questions out)
   some_replies texts text current ascii [] are denied = denied ([], refl)
   some_replies texts text current ascii (ask query ∷ questions) are denied =
-      let tokens = some_tokens g.kinds text ascii in
+      let tokens = some_tokens g.lexicon.kinds text ascii in
       some_answer g tokens.0 query
       (λ (answer : HasAnswer g tokens.0 query).
       some_replies texts text current ascii questions are
@@ -192,7 +192,7 @@ module _ (g : Expansion) where
       (questions : List Command) → AreQuestions questions →
       IsUndeniable ((out : List ℕ) × AreReplies g [] (opens text ∷ questions) out)
   replies_from_text text ascii questions are denied =
-      let tokens = some_tokens g.kinds text ascii in
+      let tokens = some_tokens g.lexicon.kinds text ascii in
       let line : List ℕ = version_reply 0 (length tokens.0) in
       some_replies (text ∷ []) text ([], refl) ascii questions are
       (λ (others : (out : List ℕ) × AreReplies g (text ∷ []) questions out).
@@ -201,7 +201,7 @@ module _ (g : Expansion) where
 -- the commands behind a grammar have replies, whatever the grammar is
 abbrev HaveReplies : List Command → Type 0
 HaveReplies commands =
-    (g : Expansion) → IsUndeniable ((out : List ℕ) × AreReplies g [] commands out)
+    (g : Grammar) → IsUndeniable ((out : List ℕ) × AreReplies g [] commands out)
 
 module _ (input : List ℕ) where
   -- a script with a grammar has a session, where the commands behind the grammar have replies

@@ -2,7 +2,7 @@
 use Rattle.std.proofs.Common.{◌≡◌, ℕ, List, [], ◌∷◌, ◌++◌, length, refl, sym, ◌∙◌, ap, append_assoc, append-nil}
 use Rattle.spec_lexing.specs.declared.token.Token.{Token}
 use Rattle.spec_lexing.specs.Tokens.{AreTokensOf}
-use Rattle.spec_lbnf.specs.Expansion.{Expansion}
+use Rattle.spec_grammar.specs.Grammars.{Grammar}
 use Rattle.spec_script.specs.Script.{Command, header, grammar, opens, ask, AreQuestions, IsInOrder}
 use Rattle.spec_script.specs.Script.{BeginsWithCommands, Ending, IsScript}
 use Rattle.spec_session.specs.GrammarReplies.{IsAccepted, IsRefused, grammar_reply}
@@ -18,7 +18,7 @@ questions_more (ask query ∷ questions) command h one = questions_more question
 questions_more (other ∷ questions) command h one = absurd h
 
 -- the replies to some questions and to one command more, which no question changes
-pub replies_more : (g : Expansion) (texts : List (List ℕ)) (questions : List Command) (replies : List ℕ)
+pub replies_more : (g : Grammar) (texts : List (List ℕ)) (questions : List Command) (replies : List ℕ)
     (command : Command) (line : List ℕ) → AreQuestions questions → AreReplies g texts questions replies →
     IsReply g texts command line → AreReplies g texts (questions ++ command ∷ []) (replies ++ line)
 replies_more g texts [] replies command line q h r =
@@ -30,13 +30,13 @@ replies_more g texts (ask query ∷ questions) replies command line q h r =
 replies_more g texts (other ∷ questions) replies command line q h r = absurd q
 
 -- the replies to a grammar alone
-pub grammar_told : (g : Expansion) (block : List ℕ) → IsAccepted block g →
+pub grammar_told : (g : Grammar) (block : List ℕ) → IsAccepted block g →
     AreAllReplies (header ∷ grammar block ∷ []) (grammar_reply g)
 grammar_told g block accepted = (g, [], accepted, refl, sym (append-nil (grammar_reply g)))
 
 -- the replies to a grammar, a text and questions
-pub text_told : (g : Expansion) (block text : List ℕ) (tokens : List Token) (questions : List Command)
-    (replies : List ℕ) → IsAccepted block g → AreTokensOf g.kinds text tokens →
+pub text_told : (g : Grammar) (block text : List ℕ) (tokens : List Token) (questions : List Command)
+    (replies : List ℕ) → IsAccepted block g → AreTokensOf g.lexicon.kinds text tokens →
     AreReplies g (text ∷ []) questions replies →
     AreAllReplies (header ∷ grammar block ∷ opens text ∷ questions)
     (grammar_reply g ++ (version_reply 0 (length tokens) ++ replies))

@@ -4,7 +4,8 @@ use Rattle.spec_lexing.specs.declared.token.Token.{Token}
 use Rattle.spec_lexing.specs.Kinds.{Matches, token_kind, lex_kinds}
 use Rattle.spec_lexing.specs.Tokens.{AreTokensOf}
 use Rattle.spec_lexing.proofs.TokensLemmas.{one_list}
-use Rattle.spec_lbnf.specs.Expansion.{Expansion, expansion_of, symbol_count}
+use Rattle.spec_grammar.specs.Grammars.{Grammar, symbol_count}
+use Rattle.spec_lbnf.specs.Expansion.{expansion_of}
 use Rattle.spec_lbnf.specs.declared.definition.Def.{Def}
 use Rattle.spec_lbnf.specs.Checks.{IsUnfit}
 use Rattle.spec_lbnf.proofs.FaultLemmas.{one_file_of_defs, one_first_fault, spelled_or_faulty}
@@ -19,12 +20,12 @@ use Rattle.spec_session.specs.Answers.{IsQuestionRefused, of_no_category, of_no_
 use Rattle.spec_session.specs.Answers.{yes, no, IsAnswer}
 
 -- a block is accepted as one grammar
-pub one_grammar : (block : List ℕ) (g other : Expansion) → IsAccepted block g → IsAccepted block other →
+pub one_grammar : (block : List ℕ) (g other : Grammar) → IsAccepted block g → IsAccepted block other →
     g ≡ other
 one_grammar block g other h k = h.3 ∙ ap expansion_of (one_file_of_defs block h.0 k.0 h.1 k.1) ∙ sym k.3
 
 -- a block that is accepted is not refused
-pub accepted_or_refused : (block line : List ℕ) (g : Expansion) → IsAccepted block g → IsRefused block line → ⊥
+pub accepted_or_refused : (block line : List ℕ) (g : Grammar) → IsAccepted block g → IsRefused block line → ⊥
 accepted_or_refused block line g h (reason, faulty fault first e, is) = spelled_or_faulty block h.0 fault h.1 first
 accepted_or_refused block line g h (reason, unfit defs why spells unfit_so e, is) =
     fit_or_unfit h.0 why h.2.fit (rw (one_file_of_defs block h.0 defs h.1 spells) unfit_so)
@@ -69,7 +70,7 @@ within_or_outside size constituent (inl before) within = omega (arith, within.0)
 within_or_outside size constituent (inr behind) within = omega (arith, within.1)
 
 -- a question has one answer
-module _ (g : Expansion) (tokens : List Token) (constituent : Constituent) where
+module _ (g : Grammar) (tokens : List Token) (constituent : Constituent) where
   category_of : IsDerived g tokens constituent → HasCategory g constituent
   category_of h = (h.category, h.is_category)
 
@@ -106,7 +107,7 @@ module _ (g : Expansion) (tokens : List Token) (constituent : Constituent) where
   one_has_answer line other (no a within denied e) (no b within' denied' f) = e ∙ sym f
 
 -- so has each query
-one_answer : (g : Expansion) (tokens : List Token) (query : Query) (line other : List ℕ) →
+one_answer : (g : Grammar) (tokens : List Token) (query : Query) (line other : List ℕ) →
     IsAnswer g tokens query line → IsAnswer g tokens query other → line ≡ other
 one_answer g tokens (has constituent) line other h k = one_has_answer g tokens constituent line other h k
 
@@ -124,12 +125,12 @@ one_current : (texts : List (List ℕ)) (text other : List ℕ) → IsCurrent te
 one_current texts text other h k = one_last h.0 text k.0 other (sym h.1 ∙ k.1)
 
 -- a text has one list of tokens under a grammar
-one_tokens : (g : Expansion) (text : List ℕ) (tokens others : List Token) →
-    AreTokensOf g.kinds text tokens → AreTokensOf g.kinds text others → tokens ≡ others
-one_tokens g text tokens others h k = one_list Matches token_kind (lex_kinds g.kinds) text 0 tokens others h k
+one_tokens : (g : Grammar) (text : List ℕ) (tokens others : List Token) →
+    AreTokensOf g.lexicon.kinds text tokens → AreTokensOf g.lexicon.kinds text others → tokens ≡ others
+one_tokens g text tokens others h k = one_list Matches token_kind (lex_kinds g.lexicon.kinds) text 0 tokens others h k
 
 -- a command has one reply
-pub one_reply : (g : Expansion) (texts : List (List ℕ)) (command : Command) (line other : List ℕ) →
+pub one_reply : (g : Grammar) (texts : List (List ℕ)) (command : Command) (line other : List ℕ) →
     IsReply g texts command line → IsReply g texts command other → line ≡ other
 one_reply g texts header line other h k = absurd h
 one_reply g texts (grammar block) line other h k = absurd h
@@ -139,6 +140,6 @@ one_reply g texts (opens text) line other h k =
     h.2 ∙ replies ∙ sym k.2
 one_reply g texts (ask query) line other h k =
     let one_text : h.0 ≡ k.0 = one_current texts h.0 k.0 h.2 k.2 in
-    let again : AreTokensOf g.kinds h.0 k.1 = rw one_text k.3 in
+    let again : AreTokensOf g.lexicon.kinds h.0 k.1 = rw one_text k.3 in
     let same : h.1 ≡ k.1 = one_tokens g h.0 h.1 k.1 h.3 again in
     one_answer g h.1 query line other h.4 (rw same k.4)

@@ -1,7 +1,7 @@
 -- An input has one session: the replies to its commands in order, and behind them its last line.
 use Rattle.std.proofs.Common.{inl, inr, ◌≡◌, ℕ, ◌+◌, List, [], ◌∷◌, ◌++◌, length, refl, sym, ◌∙◌, ap, subst, arith, append_assoc, append-nil, length-append}
 use Rattle.std.proofs.lemmas.List.{nil_from_length}
-use Rattle.spec_lbnf.specs.Expansion.{Expansion}
+use Rattle.spec_grammar.specs.Grammars.{Grammar}
 use Rattle.spec_script.specs.Script.{Command, header, grammar, BeginsWithCommands, Ending, IsScript}
 use Rattle.spec_session.specs.GrammarReplies.{IsRefused, grammar_reply}
 use Rattle.spec_session.specs.Steps.{texts_after}
@@ -29,7 +29,7 @@ same_starts a b h k =
     h.1 ∙ ap (λ bytes. b ++ bytes) (nil_from_length h.0 (omega arith)) ∙ append-nil b
 
 -- the replies to the first commands are the first of the replies
-replies_start : (g : Expansion) (texts : List (List ℕ)) (commands behind : List Command) (told out : List ℕ) →
+replies_start : (g : Grammar) (texts : List (List ℕ)) (commands behind : List Command) (told out : List ℕ) →
     AreReplies g texts commands told → AreReplies g texts (commands ++ behind) out → StartsWith out told
 replies_start g texts [] behind told out h k = (out, rw h refl)
 replies_start g texts (command ∷ commands) behind told out h k =

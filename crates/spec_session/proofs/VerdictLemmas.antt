@@ -5,7 +5,8 @@ use Rattle.std.proofs.lemmas.Bool.{cases_lt}
 use Rattle.std.proofs.lemmas.List.Elements.{All-from_recursion}
 use Rattle.spec_lbnf.specs.declared.definition.Def.{Def}
 use Rattle.spec_lbnf.specs.Faults.{Spells}
-use Rattle.spec_lbnf.specs.Expansion.{Expansion, HasOwnSymbols, expansion_of, rules_of, symbol_count}
+use Rattle.spec_grammar.specs.Grammars.{Grammar, HasOwnSymbols, symbol_count}
+use Rattle.spec_lbnf.specs.Expansion.{expansion_of, rules_of}
 use Rattle.spec_lbnf.specs.Checks.{IsKnown, NamesKnown, AreAllKnown, IsFirstUnknown, IsFirstCyclic, named_categories, IsFree, IsFirstRepeated, HasOwnNames, own_categories}
 use Rattle.spec_lbnf.specs.Checks.{IsWellLabelled, HasFewRules, AreFit, IsUnfit, Unfitness, AtLabels, bad_coercion, bad_list, too_many_rules, repeated_token, unknown_fault, cyclic_category}
 use Rattle.spec_lbnf.proofs.ListLemmas.{item_at}
@@ -113,7 +114,7 @@ module _ (defs : List Def) where
             denied (inr (found.0, number, found.1)))
       ])
 
-module _ (g : Expansion) where
+module _ (g : Grammar) where
   -- no category of a lesser number than this reaches itself
   abbrev AreAcyclicBelow : ℕ → Type 0
   AreAcyclicBelow n = (c : ℕ) → c < n → IsCyclic g.rules c → ⊥
@@ -180,7 +181,7 @@ fit_or_not defs denied =
   where
     by_cycles : All IsWellLabelled defs → HasFewRules defs → HasOwnNames defs → AreAllKnown defs → ⊥
     by_cycles labelled few own_names known =
-        let g : Expansion = expansion_of defs in
+        let g : Grammar = expansion_of defs in
         let own : HasOwnSymbols g = own_symbols defs in
         acyclic_or_not g (length g.categories)
         (λ (split : AreAcyclicOrNot g (length g.categories)). elim split [
@@ -219,7 +220,7 @@ fit_or_not defs denied =
 -- the block is accepted as a grammar or refused by a line
 abbrev pub HasVerdict : List ℕ → Type 0
 HasVerdict block =
-    ((g : Expansion) × IsAccepted block g) ⊎ ((line : List ℕ) × IsRefused block line)
+    ((g : Grammar) × IsAccepted block g) ⊎ ((line : List ℕ) × IsRefused block line)
 
 -- a block that is refused for a reason has a verdict
 refused : (block reason : List ℕ) → IsRefusedFor block reason → HasVerdict block

@@ -5,25 +5,25 @@ use Rattle.spec_grammar.specs.declared.rule.Symbol.TheVariants.{Category}
 use Rattle.spec_grammar.specs.Derivation.{Derives}
 use Rattle.spec_lexing.specs.declared.token.Token.{Token}
 use Rattle.spec_lexing.specs.Tokens.{kinds_of}
-use Rattle.spec_lbnf.specs.Expansion.{Expansion}
+use Rattle.spec_grammar.specs.Grammars.{Grammar}
 use Rattle.spec_script.specs.declared.question.Constituent.TheVariants.{EntryWhole, CategoryWhole}
 use Rattle.spec_script.specs.declared.question.Constituent.TheVariants.{CategorySpan}
 use Rattle.spec_script.specs.Script.{Constituent, Query, has}
 use Rattle.spec_session.specs.Lines.{as_line}
 
 -- the grammar's entry is this category
-abbrev pub IsEntry : Expansion → ℕ → Type 0
+abbrev pub IsEntry : Grammar → ℕ → Type 0
 IsEntry g category = g.entry ≡ Some (Category category)
 
 -- the constituent is of this category of the grammar: of its entry, or of one with the name
-abbrev pub IsOfCategory : Expansion → Constituent → ℕ → Type 0
+abbrev pub IsOfCategory : Grammar → Constituent → ℕ → Type 0
 IsOfCategory g EntryWhole category = IsEntry g category
 IsOfCategory g (CategoryWhole name) category = slice_get g.categories category ≡ Some name
 IsOfCategory g (CategorySpan name first end) category =
     slice_get g.categories category ≡ Some name
 
 -- the constituent is of some category of the grammar
-abbrev pub HasCategory : Expansion → Constituent → Type 0
+abbrev pub HasCategory : Grammar → Constituent → Type 0
 HasCategory g constituent = (category : ℕ) × IsOfCategory g constituent category
 
 -- the place at which the constituent begins
@@ -49,7 +49,7 @@ IsOutside size constituent =
     (end_of size constituent < first_of constituent) ⊎ (size < end_of size constituent)
 
 -- a category of the constituent derives its tokens
-pub record IsDerived (g : Expansion) (tokens : List Token) (constituent : Constituent)
+pub record IsDerived (g : Grammar) (tokens : List Token) (constituent : Constituent)
     : Type 0 where
   pub category : ℕ
   pub is_category : IsOfCategory g constituent category
@@ -74,7 +74,7 @@ no_line = as_line (codes "no")
 
 -- a question on the constituent is refused with this line: the constituent is of no category, or
 -- else it is no span of a text of so many tokens
-pub data IsQuestionRefused (g : Expansion) (size : ℕ) (constituent : Constituent) (line : List ℕ)
+pub data IsQuestionRefused (g : Grammar) (size : ℕ) (constituent : Constituent) (line : List ℕ)
     : Type 0 where
   of_no_category : (HasCategory g constituent → ⊥) → line ≡ unknown_category_line
       → IsQuestionRefused g size constituent line
@@ -83,7 +83,7 @@ pub data IsQuestionRefused (g : Expansion) (size : ℕ) (constituent : Constitue
 
 -- the answer to whether a constituent is derived: yes or no by derivation, where the question is
 -- not refused
-pub data IsHasAnswer (g : Expansion) (tokens : List Token) (constituent : Constituent)
+pub data IsHasAnswer (g : Grammar) (tokens : List Token) (constituent : Constituent)
     (line : List ℕ) : Type 0 where
   refused_has : IsQuestionRefused g (length tokens) constituent line
       → IsHasAnswer g tokens constituent line
@@ -94,5 +94,5 @@ pub data IsHasAnswer (g : Expansion) (tokens : List Token) (constituent : Consti
       → IsHasAnswer g tokens constituent line
 
 -- the answer to a query
-abbrev pub IsAnswer : Expansion → List Token → Query → List ℕ → Type 0
+abbrev pub IsAnswer : Grammar → List Token → Query → List ℕ → Type 0
 IsAnswer g tokens (has constituent) line = IsHasAnswer g tokens constituent line

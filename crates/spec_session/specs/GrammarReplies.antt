@@ -3,7 +3,8 @@ use Rattle.std.specs.Prelude.{◌≡◌, ℕ, ◌<◌, ◌≤◌, List, ◌++◌
 use Rattle.spec_lbnf.specs.declared.definition.Def.{Def}
 use Rattle.spec_lbnf.specs.Faults.{Spells, IsFirstFault, FileFault, too_large, not_utf8, syntax}
 use Rattle.spec_lbnf.specs.Faults.{unsupported, unbuilt}
-use Rattle.spec_lbnf.specs.Expansion.{Expansion, expansion_of, symbol_count}
+use Rattle.spec_grammar.specs.Grammars.{Grammar, symbol_count}
+use Rattle.spec_lbnf.specs.Expansion.{expansion_of}
 use Rattle.spec_lbnf.specs.Checks.{AreFit, IsUnfit, Unfitness, bad_coercion, bad_list}
 use Rattle.spec_lbnf.specs.Checks.{too_many_rules, repeated_token, unknown_category, unbuilt_name}
 use Rattle.spec_lbnf.specs.Checks.{cyclic_category}
@@ -15,16 +16,16 @@ pub record AreAccepted (defs : List Def) : Type 0 where
   pub few : symbol_count (expansion_of defs) ≤ 2048
 
 -- the block is accepted as this grammar
-abbrev pub IsAccepted : List ℕ → Expansion → Type 0
+abbrev pub IsAccepted : List ℕ → Grammar → Type 0
 IsAccepted block g =
     (defs : List Def) × Spells block defs × AreAccepted defs × (g ≡ expansion_of defs)
 
 -- the reply to a grammar that is accepted: how many rules, categories and kinds it has
-abbrev pub grammar_reply : Expansion → List ℕ
+abbrev pub grammar_reply : Grammar → List ℕ
 grammar_reply g =
     codes "grammar rules " ++ (decimal (length g.rules)
     ++ (codes " categories " ++ (decimal (length g.categories)
-    ++ (codes " kinds " ++ as_line (decimal (length g.kinds))))))
+    ++ (codes " kinds " ++ as_line (decimal (length g.lexicon.kinds))))))
 
 -- the line that refuses a grammar for this reason
 abbrev pub refusal_line : List ℕ → List ℕ

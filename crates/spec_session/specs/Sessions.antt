@@ -1,7 +1,7 @@
 -- The session of an input: the replies to its commands in order, and its last line. It knows a
 -- grammar and texts alone.
 use Rattle.std.specs.Prelude.{◌≡◌, ℕ, List, [], ◌∷◌, ◌++◌, codes, decimal}
-use Rattle.spec_lbnf.specs.Expansion.{Expansion}
+use Rattle.spec_grammar.specs.Grammars.{Grammar}
 use Rattle.spec_script.specs.Script.{Command, header, grammar, Ending, ended, broken}
 use Rattle.spec_script.specs.Script.{BeginsWithCommands}
 use Rattle.spec_script.specs.Script.{IsScript}
@@ -11,7 +11,7 @@ use Rattle.spec_session.specs.Steps.{IsReply}
 use Rattle.spec_session.specs.Steps.{texts_after}
 
 -- the bytes are the replies to the commands, in order
-abbrev pub AreReplies : Expansion → List (List ℕ) → List Command → List ℕ → Type 0
+abbrev pub AreReplies : Grammar → List (List ℕ) → List Command → List ℕ → Type 0
 AreReplies g texts [] out = out ≡ []
 AreReplies g texts (command ∷ commands) out =
     (line : List ℕ) × (rest : List ℕ) × IsReply g texts command line × (out ≡ line ++ rest)
@@ -33,7 +33,7 @@ abbrev pub AreAllReplies : List Command → List ℕ → Type 0
 AreAllReplies [] out = out ≡ []
 AreAllReplies (header ∷ []) out = out ≡ []
 AreAllReplies (header ∷ grammar block ∷ commands) out =
-    (g : Expansion) × (replies : List ℕ) × IsAccepted block g × AreReplies g [] commands replies
+    (g : Grammar) × (replies : List ℕ) × IsAccepted block g × AreReplies g [] commands replies
     × (out ≡ grammar_reply g ++ replies)
 AreAllReplies commands out = ⊥
 

@@ -3,7 +3,7 @@
 use Rattle.std.specs.Prelude.{◌≡◌, ℕ, List, [], ◌∷◌, ◌++◌, length, codes, decimal}
 use Rattle.spec_lexing.specs.declared.token.Token.{Token}
 use Rattle.spec_lexing.specs.Tokens.{AreTokensOf}
-use Rattle.spec_lbnf.specs.Expansion.{Expansion}
+use Rattle.spec_grammar.specs.Grammars.{Grammar}
 use Rattle.spec_script.specs.Script.{Command, header, grammar, opens, ask}
 use Rattle.spec_session.specs.Lines.{as_line}
 use Rattle.spec_session.specs.Answers.{IsAnswer}
@@ -25,12 +25,12 @@ abbrev pub IsCurrent : List (List ℕ) → List ℕ → Type 0
 IsCurrent texts text = (older : List (List ℕ)) × (texts ≡ older ++ text ∷ [])
 
 -- the reply to a text or a question, under a grammar and with the texts so far
-abbrev pub IsReply : Expansion → List (List ℕ) → Command → List ℕ → Type 0
+abbrev pub IsReply : Grammar → List (List ℕ) → Command → List ℕ → Type 0
 IsReply g texts header line = ⊥
 IsReply g texts (grammar block) line = ⊥
 IsReply g texts (opens text) line =
-    (tokens : List Token) × AreTokensOf g.kinds text tokens
+    (tokens : List Token) × AreTokensOf g.lexicon.kinds text tokens
     × (line ≡ version_reply (length texts) (length tokens))
 IsReply g texts (ask query) line =
-    (text : List ℕ) × (tokens : List Token) × IsCurrent texts text × AreTokensOf g.kinds text tokens
+    (text : List ℕ) × (tokens : List Token) × IsCurrent texts text × AreTokensOf g.lexicon.kinds text tokens
     × IsAnswer g tokens query line

@@ -22,7 +22,8 @@ use Rattle.spec_lbnf.specs.declared.definition.RawItem.TheVariants.{Word}
 use Rattle.spec_lbnf.specs.declared.definition.Def.{Def}
 use Rattle.spec_lbnf.specs.declared.definition.Def.TheVariants.{Rule}
 use Rattle.spec_lbnf.specs.Faults.{Spells}
-use Rattle.spec_lbnf.specs.Expansion.{Expansion, expansion_of}
+use Rattle.spec_grammar.specs.Grammars.{Grammar}
+use Rattle.spec_lbnf.specs.Expansion.{expansion_of}
 use Rattle.spec_lbnf.specs.Checks.{IsPredefined, IsFree, IsKnown, IsWellLabelled, NamesKnown, AreFit}
 use Rattle.spec_lbnf.specs.Scanning.{scan_of, behind_closing, behind_space, identifier_at, number_token_at, literal_from, string_at, character_at, sign_token_at, token_at, tokens_from}
 use Rattle.spec_lbnf.specs.FileReading.{next_on, take_token, sign_at, name_at, text_at, number_at, closes_at, bracketed_at, category_at, nil_at, one_at, colon_label_at, paren_label_at, sign_label_at, label_at, item_at, items_at, side_at, rule_at, macro_at, list_macro_at, coercions_at, more_entries_at, entries_at, to_end, def_by, def_at}
@@ -49,7 +50,7 @@ abbrev rule_defs : List Def
 rule_defs = rule_def ∷ []
 
 -- the grammar that this stands for
-abbrev pub rule_grammar : Expansion
+abbrev pub rule_grammar : Grammar
 rule_grammar = expansion_of rule_defs
 
 -- so the block is read
@@ -100,8 +101,8 @@ abbrev pub one_token : List Token
 one_token = token 0 0 1 ∷ []
 
 -- the lexer computes it
-pub are_tokens : AreTokensOf rule_grammar.kinds (codes "a") one_token
-are_tokens = tokens_of_is rule_grammar.kinds (codes "a") one_token refl
+pub are_tokens : AreTokensOf rule_grammar.lexicon.kinds (codes "a") one_token
+are_tokens = tokens_of_is rule_grammar.lexicon.kinds (codes "a") one_token refl
 
 -- the category derives it
 derived : Derives rule_grammar.rules (kinds_of one_token) (Category 0) 0 1

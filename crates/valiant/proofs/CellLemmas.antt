@@ -3,7 +3,7 @@ use Rattle.std.proofs.Common.{◌≡◌, ℕ, zero, suc, ◌+◌, ◌<◌, ◌�
 use Rattle.std.proofs.lemmas.Bool.{cases_eq}
 use Rattle.std.proofs.lemmas.Option.{slice_get_within, slice_get-get_or, slice_get_read}
 use Rattle.std.proofs.lemmas.List.{get_or_read, get_or-take, take_more, take_all, length-take-le, length-set}
-use Rattle.spec_lbnf.specs.Expansion.{Expansion}
+use Rattle.spec_grammar.specs.Grammars.{Grammar}
 use Rattle.binary_form.specs.BinaryForm.{AddsProductOf}
 use Rattle.valiant.specs.declared.rows.Entry.{Entry}
 use Rattle.valiant.specs.Rows.{found, HasRisingEnds}
@@ -12,7 +12,7 @@ use Rattle.valiant.proofs.RowLemmas.{found_none, found_push_other, found_push_sa
 
 -- where a product with nothing was added before, what is added now is all
 adds_after_none :
-    (g : Expansion) (left right one two three : List ℕ)
+    (g : Grammar) (left right one two three : List ℕ)
     → AddsProductOf g left [] one two → AddsProductOf g left right two three
     → AddsProductOf g left right one three
 adds_after_none g left right one two three none some n = (
@@ -47,7 +47,7 @@ get_set_other (y ∷ ys) (suc k) zero x other = refl
 get_set_other (y ∷ ys) (suc k) (suc j) x other =
     get_set_other ys k j x (λ same. other (ap suc same))
 
-module _ {C : Type 0} (symbols : C → List ℕ) (g : Expansion) (left : List ℕ) where
+module _ {C : Type 0} (symbols : C → List ℕ) (g : Grammar) (left : List ℕ) where
   -- a cell with the product too, written at the end of an entry in the place of what stood there
   -- meanwhile, adds the cut
   pub cut_set :

@@ -2,12 +2,12 @@
 use Rattle.std.proofs.Common.{◌≡◌, ℕ, ◌+◌, ◌-◌, ◌<◌, ◌≤◌, List, [], Option, length, get_or, refl, ap, arith}
 use Rattle.std.proofs.lemmas.Option.{slice_get_read}
 use Rattle.std.proofs.lemmas.List.{get_or_read}
-use Rattle.spec_lbnf.specs.Expansion.{Expansion}
+use Rattle.spec_grammar.specs.Grammars.{Grammar}
 use Rattle.cell_sets.specs.Grids.{entry}
 use Rattle.cell_sets.proofs.GridLemmas.{entry-grid_of}
 use Rattle.valiant.specs.declared.rows.Entry.{Entry}
 use Rattle.valiant.specs.Charts.{IsChartOf}
-use Rattle.valiant.specs.Rows.{found, found_at, HasRisingEnds, chart_value, AreRows}
+use Rattle.valiant.specs.Rows.{found, found_at, HasRisingEnds, chart_value, AreSpanRows}
 use Rattle.valiant.specs.Filling.{AreLastRows}
 use Rattle.valiant.proofs.FillingLemmas.{entry_of_row}
 
@@ -22,7 +22,7 @@ module _ {C : Type 0} (symbols : C → List ℕ) (kinds : List (Option ℕ)) (ro
 
   -- where each token's row has the symbols of all spans that begin with it, the chart stands for the kinds
   pub chart_exact :
-      (g : Expansion)
+      (g : Grammar)
       → length rows ≡ length kinds → AreLastRows symbols g kinds rows
       → IsChartOf g kinds (chart_value symbols kinds rows)
   chart_exact g count last = record {
@@ -32,7 +32,7 @@ module _ {C : Type 0} (symbols : C → List ℕ) (kinds : List (Option ℕ)) (ro
         (entry_of_row symbols g kinds rows i j last (omega (arith, count, order, within)) order within);
   }
 
-  module _ (are : AreRows kinds rows) (row : List (Entry C)) (i j : ℕ) (order : i < j) (within : j ≤ length kinds)
+  module _ (are : AreSpanRows kinds rows) (row : List (Entry C)) (i j : ℕ) (order : i < j) (within : j ≤ length kinds)
       (is : row ≡ get_or rows (length kinds - i - 1) row) where
     -- the row of a token has rising ends
     pub rising_row : HasRisingEnds row

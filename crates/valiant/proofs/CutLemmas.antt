@@ -6,10 +6,11 @@ use Rattle.spec_grammar.specs.declared.rule.Symbol.TheVariants.{Kind}
 use Rattle.spec_grammar.specs.declared.rule.Rule.{Rule}
 use Rattle.spec_grammar.specs.Trees.{Forest, no_trees, trees}
 use Rattle.spec_grammar.specs.Derivation.{AreParseTrees}
-use Rattle.spec_lbnf.specs.Expansion.{Expansion, IsSymbolOf, HasOwnSymbols}
+use Rattle.spec_grammar.specs.Grammars.{Grammar, IsSymbolOf, HasOwnSymbols}
 use Rattle.cell_sets.specs.Cells.{IsUnion}
-use Rattle.binary_form.specs.Symbols.{BinarySymbol, plain, suffix, BinaryDerives, IsBinarySymbolOf, number_of}
-use Rattle.binary_form.specs.UnitSteps.{UnitStep, whole_side, last_item, passed_item, Reaches, stay, step, IsInProduct}
+use Rattle.binary_form.specs.Symbols.{BinarySymbol, plain, suffix, BinaryDerives, IsBinarySymbolOf, symbol_number}
+use Rattle.number_graph.specs.Graphs.{stay, step}
+use Rattle.binary_form.specs.UnitSteps.{UnitStep, whole_side, last_item, passed_item, Reaches, IsInProduct}
 use Rattle.binary_form.specs.BinaryForm.{IsNumberOf, IsTokenCell, IsProductNumber}
 use Rattle.binary_form.specs.Laws.{HasSymbol}
 use Rattle.binary_form.proofs.ItemLemmas.{item_symbol}
@@ -31,17 +32,17 @@ same_union none one other empty union n = (
   (λ has. (union n).1 (inr has)),
 )
 
-module _ (g : Expansion) (kinds : List (Option ℕ)) (i j : ℕ) (numbers : List ℕ) (is : IsEntryOf g kinds i j numbers) where
+module _ (g : Grammar) (kinds : List (Option ℕ)) (i j : ℕ) (numbers : List ℕ) (is : IsEntryOf g kinds i j numbers) where
   -- an entry has the symbols that derive its span
   pub has_derived : (a : BinarySymbol) → HasSymbol g numbers a → BinaryDerives g.rules kinds a i j
   has_derived a has =
-      let x = (is (number_of g a)).0 has.1 in
-      let same : x.0 ≡ a = number_is_one g x.0 a (number_of g a) x.1 (has.0, refl) in
+      let x = (is (symbol_number g a)).0 has.1 in
+      let same : x.0 ≡ a = number_is_one g x.0 a (symbol_number g a) x.1 (has.0, refl) in
       rw same at x.2
 
   -- what derives the span is in its entry
   pub derived_has : (a : BinarySymbol) → IsBinarySymbolOf g a → BinaryDerives g.rules kinds a i j → HasSymbol g numbers a
-  derived_has a symbol derives = (symbol, (is (number_of g a)).1 (a, (symbol, refl), derives))
+  derived_has a symbol derives = (symbol, (is (symbol_number g a)).1 (a, (symbol, refl), derives))
 
 -- trees that cover a span that is not empty are those of at least one item
 some_items :
@@ -50,7 +51,7 @@ some_items :
 some_items rules kinds no_trees items k j are order = absurd (omega (arith, are.1))
 some_items rules kinds (trees t ts) items k j are order = omega (arith, ap length are.3)
 
-module _ (g : Expansion) (own : HasOwnSymbols g) where
+module _ (g : Grammar) (own : HasOwnSymbols g) where
   -- a unit step from a symbol that is no suffix is one from an item
   step_source : (s : Symbol) (a b : BinarySymbol) → a ≡ plain s → UnitStep g.rules a b → IsSymbolOf g s
   step_source s a b is (whole_side rule) = absurd (cc)
@@ -118,7 +119,7 @@ module _ (g : Expansion) (own : HasOwnSymbols g) where
       -- what the product of the entries of two parts gives, what derives the parts gives
       pub product_derived :
           (a : BinarySymbol)
-          → IsBinarySymbolOf g a → IsProductNumber g left right (number_of g a)
+          → IsBinarySymbolOf g a → IsProductNumber g left right (symbol_number g a)
           → IsInProduct g.rules (λ b. BinaryDerives g.rules kinds b i k) (λ b. BinaryDerives g.rules kinds b k j) a
       product_derived a is made =
           let x = (products_agree g left right a is).0 made in
@@ -138,7 +139,7 @@ module _ (g : Expansion) (own : HasOwnSymbols g) where
           (a : BinarySymbol)
           → IsBinarySymbolOf g a
           → IsInProduct g.rules (λ b. BinaryDerives g.rules kinds b i k) (λ b. BinaryDerives g.rules kinds b k j) a
-          → IsProductNumber g left right (number_of g a)
+          → IsProductNumber g left right (symbol_number g a)
       derived_product a is x =
           let item = item_symbol g x.r x.p x.item x.behind own x.has in
           let rest = suffix_within x.r (suc x.p) k j order x.on_right in

@@ -2,7 +2,7 @@
 use Rattle.std.proofs.Common.{below_more, ◌≡◌, ℕ, ◌+◌, ◌-◌, ◌<◌, ◌≤◌, ◌≢◌, List, [], ◌∷◌, ◌++◌, Option, Some, length, slice_get, get_or, refl, sym, subst, inl, inr, arith, Contains}
 use Rattle.std.proofs.lemmas.Bool.{cases_lt}
 use Rattle.std.proofs.lemmas.Option.{slice_get_within, get_or_from_slice_get, slice_get-get_or}
-use Rattle.spec_lbnf.specs.Expansion.{Expansion, HasOwnSymbols}
+use Rattle.spec_grammar.specs.Grammars.{Grammar, HasOwnSymbols}
 use Rattle.binary_form.specs.Symbols.{BinarySymbol, BinaryDerives}
 use Rattle.binary_form.specs.BinaryForm.{IsNumberOf, IsProductNumber, AddsProductOf}
 use Rattle.binary_form.proofs.BuildLemmas.{each_pushed}
@@ -14,7 +14,7 @@ use Rattle.valiant.specs.Filling.{IsRowUpTo, next_token, AreLastRows, IsOfEntry,
 use Rattle.valiant.proofs.RowLemmas.{StandsAt, found_none, found_entry, entry_found, found_push_other, found_push_same, within_push, rising_push}
 use Rattle.valiant.proofs.CutLemmas.{product_derived, derived_product}
 
-module _ {C : Type 0} (symbols : C → List ℕ) (g : Expansion) where
+module _ {C : Type 0} (symbols : C → List ℕ) (g : Grammar) where
   module _ (count : ℕ) (rows : List (List (Entry C))) (row : List (Entry C)) (end : ℕ) where
     -- no entries give nothing
     pub entries_none : IsOfEntries symbols g count rows row end 0 []

@@ -1,6 +1,6 @@
 -- The laws of charts.
 use Rattle.std.proofs.Common.{ℕ, ◌<◌, subst}
-use Rattle.spec_lbnf.specs.Expansion.{symbol_count}
+use Rattle.spec_grammar.specs.Grammars.{symbol_count}
 use Rattle.binary_form.proofs.NumberLemmas.{numbers_below}
 use Rattle.valiant.specs.Laws.{EntriesTellDerivation, EntriesAreOfSymbols, ChartsAgree}
 use Rattle.valiant.proofs.CutLemmas.{has_derived, derived_has}

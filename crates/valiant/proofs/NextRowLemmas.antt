@@ -3,7 +3,7 @@ use Rattle.std.proofs.Common.{◌≡◌, ℕ, zero, suc, ◌+◌, ◌-◌, ◌<�
 use Rattle.std.proofs.lemmas.Bool.{cases_lt}
 use Rattle.std.proofs.lemmas.Option.{slice_get_within, slice_get-get_or, slice_get_read}
 use Rattle.std.proofs.lemmas.List.{length-set, length_push}
-use Rattle.spec_lbnf.specs.Expansion.{Expansion, HasOwnSymbols}
+use Rattle.spec_grammar.specs.Grammars.{Grammar, HasOwnSymbols}
 use Rattle.valiant.specs.declared.rows.Entry.{Entry}
 use Rattle.valiant.specs.Charts.{IsEntryOf}
 use Rattle.valiant.specs.Rows.{HasRisingEnds}
@@ -24,7 +24,7 @@ get_append_next :
 get_append_next [] x = refl
 get_append_next (y ∷ xs) x = get_append_next xs x
 
-module _ {C : Type 0} (symbols : C → List ℕ) (g : Expansion) (kinds : List (Option ℕ)) where
+module _ {C : Type 0} (symbols : C → List ℕ) (g : Grammar) (kinds : List (Option ℕ)) where
   -- empty cells, with the token's cell at its end, are the first cells
   pub first_cells :
       (i : ℕ) (cells : List C) (cell : C)

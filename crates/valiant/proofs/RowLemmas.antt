@@ -9,7 +9,7 @@ use Rattle.std.proofs.lemmas.List.{length_push, get_or_push, get_or_append_left}
 use Rattle.std.proofs.lemmas.Option.{slice_get_within, get_or_from_slice_get}
 use Rattle.std.proofs.lemmas.Bool.Decides.{nat_tests}
 use Rattle.valiant.specs.declared.rows.Entry.{Entry}
-use Rattle.valiant.specs.Rows.{found, HasRisingEnds, IsPlaceOf}
+use Rattle.valiant.specs.Rows.{found, HasRisingEnds, IsEntryPlace}
 
 module _ {C : Type 0} where
   -- behind its first entry a row has rising ends
@@ -28,7 +28,7 @@ module _ {C : Type 0} where
     pub searched :
         (place : Result ℕ ℕ) → IsSearchInRange place (length row)
         → IsBinarySearchResult (λ (e : Entry C). nat_cmp e.end end) row place
-        → IsPlaceOf row end place
+        → IsEntryPlace row end place
     searched (Ok at) within equal = (within, λ d. ranked _ end _ (sym (equal d)))
     searched (Err at) within parted = λ k d in_row same.
         elim (cases_lt k at) [

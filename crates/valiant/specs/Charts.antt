@@ -1,6 +1,6 @@
 -- What a caller sees of a chart: its kinds, its height and shape, and what derives each span.
 use Rattle.std.specs.Prelude.{◌≡◌, ℕ, zero, suc, ◌<◌, ◌≤◌, ◌↔◌, List, [], Option, length, Contains}
-use Rattle.spec_lbnf.specs.Expansion.{Expansion}
+use Rattle.spec_grammar.specs.Grammars.{Grammar}
 use Rattle.cell_sets.specs.Grids.{Grid, entry, grid_of}
 use Rattle.binary_form.specs.Symbols.{BinarySymbol, BinaryDerives}
 use Rattle.binary_form.specs.BinaryForm.{IsNumberOf}
@@ -24,14 +24,14 @@ pub record ChartValue : Type 0 where
   pub entries : Grid
 
 -- the list has just the numbers of the symbols that derive the span
-abbrev pub IsEntryOf : Expansion → List (Option ℕ) → ℕ → ℕ → List ℕ → Type 0
+abbrev pub IsEntryOf : Grammar → List (Option ℕ) → ℕ → ℕ → List ℕ → Type 0
 IsEntryOf g kinds i j numbers =
     (n : ℕ) → Contains numbers n
     ↔ ((a : BinarySymbol) × IsNumberOf g a n × BinaryDerives g.rules kinds a i j)
 
 -- the chart stands for these kinds under the grammar: it has them, and the entry of each span that
 -- is not empty has just the numbers of the symbols that derive the span
-pub record IsChartOf (g : Expansion) (kinds : List (Option ℕ)) (chart : ChartValue) : Type 0 where
+pub record IsChartOf (g : Grammar) (kinds : List (Option ℕ)) (chart : ChartValue) : Type 0 where
   pub same_kinds : chart.kinds ≡ kinds
   pub exact :
       (i j : ℕ) → i < j → j ≤ length kinds → IsEntryOf g kinds i j (entry chart.entries i j)

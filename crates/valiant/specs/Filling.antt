@@ -2,14 +2,14 @@
 use Rattle.std.specs.Prelude.{◌≡◌, ℕ, ◌+◌, ◌-◌, ◌<◌, ◌≢◌, ◌↔◌, ◌⊎◌, List, [], ◌∷◌, ◌++◌, Option}
 use Rattle.std.specs.Prelude.{Some, Contains}
 use Rattle.std.specs.Prelude.{length, slice_get, slice_index_or}
-use Rattle.spec_lbnf.specs.Expansion.{Expansion}
+use Rattle.spec_grammar.specs.Grammars.{Grammar}
 use Rattle.binary_form.specs.BinaryForm.{IsProductNumber, AddsProductOf}
 use Rattle.valiant.specs.declared.rows.Entry.{Entry}
 use Rattle.valiant.specs.Charts.{IsEntryOf}
 use Rattle.valiant.specs.Rows.{found, found_at, HasRisingEnds}
 
 -- the row has just the symbols of each span that begins with token i and ends below the limit
-pub record IsRowUpTo {C : Type 0} (symbols : C → List ℕ) (g : Expansion) (kinds : List (Option ℕ))
+pub record IsRowUpTo {C : Type 0} (symbols : C → List ℕ) (g : Grammar) (kinds : List (Option ℕ))
     (i limit : ℕ) (row : List (Entry C)) : Type 0 where
   pub rising : HasRisingEnds row
   pub within :
@@ -22,7 +22,7 @@ abbrev pub next_token : {C : Type 0} → List (Option ℕ) → List (List (Entry
 next_token kinds rows = length kinds - length rows - 1
 
 -- the rows are those of the last tokens, each with the symbols of all spans from its token on
-abbrev pub AreLastRows : {C : Type 0} → (C → List ℕ) → Expansion → List (Option ℕ)
+abbrev pub AreLastRows : {C : Type 0} → (C → List ℕ) → Grammar → List (Option ℕ)
     → List (List (Entry C)) → Type 0
 AreLastRows {C} symbols g kinds rows =
     (k : ℕ) (row : List (Entry C)) → slice_get rows k ≡ Some row
@@ -33,14 +33,14 @@ abbrev pub HasSame : List ℕ → List ℕ → Type 0
 HasSame one other = (n : ℕ) → Contains other n ↔ Contains one n
 
 -- the cut at the end of the row's entry k, in the span up to this end, gives the number
-abbrev pub IsOfEntry : {C : Type 0} → (C → List ℕ) → Expansion → ℕ → List (List (Entry C))
+abbrev pub IsOfEntry : {C : Type 0} → (C → List ℕ) → Grammar → ℕ → List (List (Entry C))
     → List (Entry C) → ℕ → ℕ → ℕ → Type 0
 IsOfEntry {C} symbols g count rows row end k n =
     (e : Entry C) × (slice_get row k ≡ Some e)
     × IsProductNumber g (symbols e.cell) (found_at symbols count rows e.end end) n
 
 -- the cell has just what the cuts at the ends of the row's first entries give, so many of them
-abbrev pub IsOfEntries : {C : Type 0} → (C → List ℕ) → Expansion → ℕ → List (List (Entry C))
+abbrev pub IsOfEntries : {C : Type 0} → (C → List ℕ) → Grammar → ℕ → List (List (Entry C))
     → List (Entry C) → ℕ → ℕ → List ℕ → Type 0
 IsOfEntries symbols g count rows row end many cell =
     (n : ℕ) → Contains cell n ↔ ((k : ℕ) × (k < many) × IsOfEntry symbols g count rows row end k n)
@@ -57,7 +57,7 @@ AreEndsBelow {C} count row =
     (k : ℕ) (d : Entry C) → k < length row → (slice_index_or row k d).end < count
 
 -- the cell at the entry's end gets the product of the list and the entry, and no other changes
-pub record AddsCut {C : Type 0} (symbols : C → List ℕ) (g : Expansion) (left : List ℕ)
+pub record AddsCut {C : Type 0} (symbols : C → List ℕ) (g : Grammar) (left : List ℕ)
     (e : Entry C) (old new : List C) : Type 0 where
   pub count : length new ≡ length old
   pub at : (c d : C) → slice_get old e.end ≡ Some c → slice_get new e.end ≡ Some d
@@ -65,7 +65,7 @@ pub record AddsCut {C : Type 0} (symbols : C → List ℕ) (g : Expansion) (left
   pub others : (j : ℕ) → j ≢ e.end → slice_get new j ≡ slice_get old j
 
 -- the cell of each end gets the product of the list and what the row has for the end
-pub record AddsCuts {C : Type 0} (symbols : C → List ℕ) (g : Expansion) (left : List ℕ)
+pub record AddsCuts {C : Type 0} (symbols : C → List ℕ) (g : Grammar) (left : List ℕ)
     (behind : List (Entry C)) (old new : List C) : Type 0 where
   pub count : length new ≡ length old
   pub each : (j : ℕ) (c d : C) → slice_get old j ≡ Some c → slice_get new j ≡ Some d
@@ -76,7 +76,7 @@ abbrev pub AreEmpty : {C : Type 0} → (C → List ℕ) → List C → Type 0
 AreEmpty {C} symbols cells = (j : ℕ) (c : C) → slice_get cells j ≡ Some c → symbols c ≡ []
 
 -- each end has a cell: that of token i has what derives the token, and those behind are empty
-pub record AreFirstCells {C : Type 0} (symbols : C → List ℕ) (g : Expansion)
+pub record AreFirstCells {C : Type 0} (symbols : C → List ℕ) (g : Grammar)
     (kinds : List (Option ℕ)) (i : ℕ) (cells : List C) : Type 0 where
   pub count : length cells ≡ length kinds + 1
   pub token : (c : C) → slice_get cells (i + 1) ≡ Some c → IsEntryOf g kinds i (i + 1) (symbols c)
@@ -84,7 +84,7 @@ pub record AreFirstCells {C : Type 0} (symbols : C → List ℕ) (g : Expansion)
 
 -- behind the place each end has a cell: that of token i has what derives the token, and the others
 -- have what the cuts at the ends of the row's entries give
-pub record AreCellsBehind {C : Type 0} (symbols : C → List ℕ) (g : Expansion)
+pub record AreCellsBehind {C : Type 0} (symbols : C → List ℕ) (g : Grammar)
     (kinds : List (Option ℕ)) (rows : List (List (Entry C))) (i : ℕ) (row : List (Entry C))
     (place : ℕ) (cells : List C) : Type 0 where
   pub count : length cells ≡ length kinds + 1

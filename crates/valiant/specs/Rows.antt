@@ -22,8 +22,8 @@ HasRisingEnds {C} row =
     → (slice_index_or row m d).end < (slice_index_or row n d).end
 
 -- the entry up to this end stands at the place, or the row has none
-abbrev pub IsPlaceOf : {C : Type 0} → List (Entry C) → ℕ → Result ℕ ℕ → Type 0
-IsPlaceOf {C} row end place = MatchResult place
+abbrev pub IsEntryPlace : {C : Type 0} → List (Entry C) → ℕ → Result ℕ ℕ → Type 0
+IsEntryPlace {C} row end place = MatchResult place
     (λ at. (at < length row) × ((d : Entry C) → (slice_index_or row at d).end ≡ end))
     (λ _. (k : ℕ) (d : Entry C) → k < length row → (slice_index_or row k d).end ≢ end)
 
@@ -42,7 +42,7 @@ chart_value symbols kinds rows = record {
 }
 
 -- each token has its row, with rising ends
-pub record AreRows {C : Type 0} (kinds : List (Option ℕ)) (rows : List (List (Entry C)))
+pub record AreSpanRows {C : Type 0} (kinds : List (Option ℕ)) (rows : List (List (Entry C)))
     : Type 0 where
   pub few : length kinds ≤ 16384
   pub count : length rows ≡ length kinds

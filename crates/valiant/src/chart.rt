@@ -1,7 +1,7 @@
 //! The chart of a text: for each span of its tokens, the symbols that derive it.
 ghost use Rattle.std.specs.Prelude.{◌≡◌, ◌<◌, ◌≤◌, ◌↔◌, [], length, slice_get, Contains};
 ghost use Rattle.std.specs.Prelude.{Some, IsTrue, IfOk};
-ghost use Rattle.spec_lbnf.specs.Expansion.{Expansion};
+ghost use Rattle.spec_grammar.specs.Grammars.{Grammar};
 ghost use Rattle.cell_sets.specs.Grids.{entry};
 ghost use Rattle.valiant.specs.Charts.{IsChartOf, IsSpine, leaf_chart};
 
@@ -35,7 +35,7 @@ impl<C: Cell> Chart<C> {
     /// The chart of no tokens, under every grammar. It takes no memory.
     pub fn leaf() -> Chart<C>
         ensures value { result ≡ leaf_chart }
-        ensures exact { (g : Expansion) → IsChartOf g [] result }
+        ensures exact { (g : Grammar) → IsChartOf g [] result }
     {
         Chart { spans: None }
     }

@@ -2,7 +2,7 @@
 //! each row the spans in the order of their ends. Only pairs of entries side by side are looked at.
 //! Rows are only appended to, so an entry is right from the moment that it stands.
 ghost use Rattle.std.specs.Prelude.{◌≡◌, ◌+◌, ◌-◌, ◌<◌, ◌≤◌, [], length, slice_index_or, IfOk};
-ghost use Rattle.spec_lbnf.specs.Expansion.{HasOwnSymbols};
+ghost use Rattle.spec_grammar.specs.Grammars.{HasOwnSymbols};
 ghost use Rattle.valiant.specs.Rows.{HasRisingEnds};
 ghost use Rattle.valiant.specs.Filling.{AddsCut, AddsCuts, AreEmpty, AreEndsBelow, AreFirstCells};
 ghost use Rattle.valiant.specs.Filling.{AreLastRows, HasSame, IsRowUpTo, next_token};

@@ -9,6 +9,3 @@ mod spans;
 
 pub use chart::Chart;
 pub use laws::{charts_agree, entries_tell_derivation};
-
-#[cfg(test)]
-mod tests;

@@ -1,6 +1,6 @@
 //! The entries of the spans that begin with one token.
 ghost use Rattle.std.specs.Prelude.{◌≡◌, [], MatchOption};
-ghost use Rattle.valiant.specs.Rows.{found, HasRisingEnds, IsPlaceOf};
+ghost use Rattle.valiant.specs.Rows.{found, HasRisingEnds, IsEntryPlace};
 
 use cell_sets::Cell;
 use sqlite_items::Items;
@@ -18,7 +18,7 @@ pub(crate) type Row<C> = Items<Entry<C>>;
 /// Where the entry up to this end stands, or where it would stand.
 fn place_of<C>(row: &[Entry<C>], end: u32) -> Result<usize, usize>
     requires { HasRisingEnds row.now }
-    ensures { IsPlaceOf row.now end result }
+    ensures { IsEntryPlace row.now end result }
 {
     row.binary_search_by_key(&end, |entry| entry.end)
 }

@@ -23,7 +23,7 @@ pub(crate) struct Spans<C: Cell> {
 impl<C: Cell> Model for Spans<C> {
     ghost use Rattle.valiant.specs.Charts.{ChartValue};
     ghost use Rattle.valiant.specs.Codes.{coded_chart};
-    ghost use Rattle.valiant.specs.Rows.{chart_value, AreRows};
+    ghost use Rattle.valiant.specs.Rows.{chart_value, AreSpanRows};
 
     ghost Value = { ChartValue };
 
@@ -31,7 +31,7 @@ impl<C: Cell> Model for Spans<C> {
 
     ghost view = { λ s. chart_value C.symbols s.kinds s.rows };
 
-    ghost invariant = { λ s. AreRows s.kinds s.rows };
+    ghost invariant = { λ s. AreSpanRows s.kinds s.rows };
 }
 
 impl<C: Cell> Spans<C> {

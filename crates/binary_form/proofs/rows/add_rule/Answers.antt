@@ -1,5 +1,5 @@
 use Rattle.std.proofs.Common.{◌≡◌, ◌+◌, subst, take, ℕ, arith}
-use Rattle.spec_lbnf.specs.Expansion.{item_count}
+use Rattle.spec_grammar.specs.Grammars.{item_count}
 use Rattle.binary_form.specs.Rows.{AreRowsUpTo}
 use Rattle.binary_form.proofs.NumberLemmas.{count-take-more}
 use Rattle.binary_form.proofs.rows.add_rule.Goals as goal

@@ -1,7 +1,7 @@
 -- The entry decides over a span that is not empty, and whether the category is nullable over one that is.
 use Rattle.std.proofs.Common.{ap, ◌∙◌}
-use Rattle.spec_lbnf.specs.Expansion.{Expansion}
-use Rattle.binary_form.specs.Symbols.{plain, number_of}
+use Rattle.spec_grammar.specs.Grammars.{Grammar}
+use Rattle.binary_form.specs.Symbols.{plain, symbol_number}
 use Rattle.spec_grammar.specs.declared.rule.Symbol.TheVariants.{Category}
 use Rattle.chart_service.proofs.AnsweringLemmas.{entry_derives, empty_derives}
 use Rattle.chart_service.proofs.answering.is_derived.Goals as goal
@@ -10,7 +10,7 @@ pub returns-then-first-end : goal.returns-then-first-end
 returns-then-first-end c text tokens o =
     let language = c.args.opened.now.language in
     let number = c.symbol_of-symbol.ensures.number
-    ∙ ap (λ (g : Expansion). number_of g (plain (Category c.args.category))) language.same in
+    ∙ ap (λ (g : Grammar). symbol_number g (plain (Category c.args.category))) language.same in
     entry_derives language.grammar c.args.opened.now.chart text tokens o c.args.category c.requires.own
     c.symbol_of-symbol.result number c.has.result c.args.first c.args.end c.if-first-end.true
     c.requires.within c.has.ensures
@@ -19,7 +19,7 @@ pub returns-else-first-end : goal.returns-else-first-end
 returns-else-first-end c text tokens o =
     let language = c.args.opened.now.language in
     let number = c.symbol_of-symbol.ensures.number
-    ∙ ap (λ (g : Expansion). number_of g (plain (Category c.args.category))) language.same in
+    ∙ ap (λ (g : Grammar). symbol_number g (plain (Category c.args.category))) language.same in
     empty_derives language.grammar c.args.opened.now.chart text tokens o c.args.category c.requires.own
     c.symbol_of-symbol.result number c.nullable.result c.args.first c.args.end c.requires.order
     c.if-first-end.false (rw language.same at c.nullable.ensures)

@@ -1,10 +1,11 @@
 use Rattle.std.proofs.Common.{◌≡◌, map, subst, sym, rules}
 use Rattle.std.specs.Option.{option_map, IfSome}
 use Rattle.spec_lexing.specs.declared.kind_def.KindDef.TheVariants.{Word as WordKind}
-use Rattle.spec_lbnf.specs.Expansion.{Expansion, HasOwnSymbols, IsSymbolOf, rules_of, numbered_rule, category_symbol, entry_text, expansion_of}
+use Rattle.spec_grammar.specs.Grammars.{Grammar, HasOwnSymbols, IsSymbolOf, category_symbol}
+use Rattle.spec_lbnf.specs.Expansion.{rules_of, numbered_rule, entry_text, expansion_of}
 use Rattle.spec_lbnf.proofs.SymbolLemmas.{own_symbols}
 use Rattle.spec_lbnf.proofs.EntryLemmas.{own_entry}
-use Rattle.lbnf_grammar.specs.Grammars.{grammar_of_parts}
+use Rattle.numbered_grammar.specs.Making.{grammar_of_parts}
 use Rattle.lbnf_grammar.proofs.TableLemmas.{expansion_is}
 use Rattle.lbnf_grammar.proofs.expanding.parts_by.Goals as goal
 
@@ -30,4 +31,4 @@ of-requires-clause-own_symbols c = subst HasOwnSymbols (sym (parts_are c)) (own_
 
 pub of-requires-clause-entry : goal.of-requires-clause-entry
 of-requires-clause-entry c =
-    subst (λ (g : Expansion). IfSome g.entry (IsSymbolOf g)) (sym (parts_are c)) (own_entry c.args.defs.now c.requires.known)
+    subst (λ (g : Grammar). IfSome g.entry (IsSymbolOf g)) (sym (parts_are c)) (own_entry c.args.defs.now c.requires.known)

@@ -1,7 +1,7 @@
 use Rattle.std.proofs.Common.{◌≡◌, map, take}
-use Rattle.spec_lbnf.specs.Expansion.{symbol_of}
+use Rattle.spec_lbnf.specs.Expansion.{item_symbol}
 use Rattle.lbnf_grammar.proofs.numbering.symbols_of.Given as goal
 
 -- the symbols are those of the items so far
 abbrev pub invariant-loop-item : goal.invariant-loop-item
-invariant-loop-item l = l.symbols ≡ map (symbol_of l.tables.categories l.tables.words) (take l.item-index l.items)
+invariant-loop-item l = l.symbols ≡ map (item_symbol l.tables.categories l.tables.words) (take l.item-index l.items)

@@ -1,0 +1,3 @@
+mod TripleSteps
+mod BracketSteps
+pub mod BinaryCases

@@ -1,0 +1,5 @@
+pub mod NameLemmas
+pub mod MakingLemmas
+pub mod NullableLemmas
+pub mod StepLinkLemmas
+pub mod RankLemmas

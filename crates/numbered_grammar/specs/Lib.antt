@@ -1,0 +1,6 @@
+pub mod Making
+pub mod Nullable
+pub mod Ranks
+pub mod NullablePasses
+pub mod StepLinks
+pub mod Heights

@@ -1,0 +1,166 @@
+//! A grammar with numbers in place of names.
+ghost use Rattle.std.specs.Prelude.{◌≡◌, ◌<◌, ◌^◌, length, slice_get, Contains, Some, IfSome};
+ghost use Rattle.std.specs.Prelude.{MatchOption};
+ghost use Rattle.spec_grammar.specs.Cycles.{IsAcyclic, IsRank};
+ghost use Rattle.spec_grammar.specs.Grammars.{HasOwnSymbols, IsSymbolOf, item_count, name_number};
+ghost use Rattle.numbered_grammar.specs.Making.{FindsCategory};
+ghost use Rattle.numbered_grammar.specs.Ranks.{AreRanks};
+
+use crate::parts::GrammarParts;
+use spec_grammar::{Rule, Symbol};
+use spec_lexing::KindDef;
+use spec_text::Name;
+use std::marker::Model;
+
+/// An accepted grammar: its rules, categories and kinds, each numbered from 0. No category reaches
+/// itself by steps, and each has its rank.
+#[derive(Debug, Drop)]
+pub struct Grammar {
+    parts: GrammarParts,
+    ranks: Vec<u16>,
+}
+
+impl Model for Grammar {
+    ghost use Rattle.spec_grammar.specs.Cycles.{IsAcyclic};
+    ghost use Rattle.spec_grammar.specs.Grammars.{Grammar};
+    ghost use Rattle.numbered_grammar.specs.Ranks.{AreRanks};
+
+    ghost Value = { Grammar };
+
+    ghost view = { λ g. g.parts };
+
+    ghost invariant = { λ g. IsAcyclic g.parts.rules × AreRanks g.parts g.ranks.items };
+}
+
+impl Grammar {
+    /// The grammar of these parts, with the ranks that `check_cycles` tells of them. It takes no
+    /// memory.
+    pub fn of(parts: GrammarParts, ranks: Vec<u16>) -> Grammar
+        requires acyclic { IsAcyclic parts.rules }
+        requires ranks { AreRanks parts ranks.items }
+        ensures { result ≡ parts }
+    {
+        Grammar { parts, ranks }
+    }
+
+    pub(crate) fn parts(&self) -> &GrammarParts
+        ensures { result.now ≡ self.now }
+    {
+        &self.parts
+    }
+
+    /// The rules, in file order. It takes no memory.
+    pub fn rules(&self) -> &[Rule]
+        ensures items { result.now ≡ self.now.rules }
+        ensures few { length self.now.rules < 2 ^ 16 }
+        ensures few_items { item_count self.now.rules < 2 ^ 31 }
+        ensures own_symbols { HasOwnSymbols self.now }
+        ensures acyclic { IsAcyclic self.now.rules }
+    {
+        self.parts.rules()
+    }
+
+    /// How many rules there are. They are numbered from 0, in file order. It takes no memory.
+    pub fn rule_count(&self) -> u16
+        ensures { result ≡ length self.now.rules }
+    {
+        self.parts.rules().len() as u16
+    }
+
+    /// The rule of this number, in file order. It takes no memory.
+    pub fn rule(&self, r: u16) -> &Rule
+        requires { r < length self.now.rules }
+        ensures { slice_get self.now.rules r ≡ Some result.now }
+    {
+        &self.parts.rules()[r as usize]
+    }
+
+    /// The symbol that is asked for where none is named: the first category of the first definition
+    /// of entry points, or else the category of the first rule. `None` where there are no rules and
+    /// no entry points. It takes no memory.
+    pub fn entry(&self) -> Option<Symbol>
+        ensures entry { result ≡ self.now.entry }
+        ensures own { IfSome result (IsSymbolOf self.now) }
+    {
+        self.parts.entry()
+    }
+
+    /// How many categories there are. `expand` numbers them from 0 as the rules meet them, in each
+    /// rule its own category first, and puts those that only internal rules have behind them;
+    /// `of_rules` keeps the numbers that it is given. It takes no memory.
+    pub fn category_count(&self) -> u16
+        ensures { result ≡ length self.now.categories }
+    {
+        self.parts.category_count()
+    }
+
+    /// The text of the category of this number, a list's in its brackets. Numbers are those that
+    /// `category_count` tells of. It takes no memory.
+    pub fn category_name(&self, c: u16) -> &Name
+        requires { c < length self.now.categories }
+        ensures { slice_get self.now.categories c ≡ Some result.now }
+    {
+        &self.parts.categories()[c as usize]
+    }
+
+    /// The rank of the category of this number: how many steps the longest chain of steps from it
+    /// has. A step leads to a category of lower rank, by `steps_lower_ranks` of `spec_grammar`. It
+    /// takes no memory.
+    pub fn rank(&self, c: u16) -> u16
+        requires { c < length self.now.categories }
+        ensures { IsRank self.now.rules c result }
+    {
+        self.ranks[c as usize]
+    }
+
+    /// How many kinds of token there are. `expand` makes one for each word and numbers them from 0
+    /// as the rules meet the words; `of_rules` keeps the numbers that it is given. It takes no
+    /// memory.
+    pub fn kind_count(&self) -> u16
+        ensures { result ≡ length self.now.lexicon.kinds }
+    {
+        self.parts.kinds().len() as u16
+    }
+
+    /// The kinds, by number. It takes no memory.
+    pub fn kinds(&self) -> &[KindDef]
+        ensures items { result.now ≡ self.now.lexicon.kinds }
+        ensures few { length self.now.lexicon.kinds < 2 ^ 16 }
+    {
+        self.parts.kinds()
+    }
+
+    /// The kind of this number, with its word. Numbers are those that `kind_count` tells of. It
+    /// takes no memory.
+    pub fn kind(&self, k: u16) -> &KindDef
+        requires { k < length self.now.lexicon.kinds }
+        ensures { slice_get self.now.lexicon.kinds k ≡ Some result.now }
+    {
+        &self.parts.kinds()[k as usize]
+    }
+
+    /// The category of this text, which is the first where several have it; in a grammar of
+    /// `expand` only one has. It compares the text with each name in turn, up to the first that is
+    /// the same, and takes no memory.
+    pub fn find(&self, text: &[u8]) -> Option<Symbol>
+        ensures found { FindsCategory self.now.categories text.now result }
+        ensures own { IfSome result (IsSymbolOf self.now) }
+    {
+        let place = place_of(self.parts.categories(), text)?;
+        Some(Symbol::Category(place as u16))
+    }
+}
+
+/// The place of the first name that is this text.
+fn place_of(names: &[Name], text: &[u8]) -> Option<usize>
+    ensures { MatchOption result (Contains names.now text.now → ⊥)
+        (λ place. (place ≡ name_number names.now text.now)
+        × (slice_get names.now place ≡ Some text.now)) }
+{
+    for (place, name) in names.iter().enumerate() {
+        if name.as_slice() == text {
+            return Some(place);
+        }
+    }
+    None
+}

@@ -1,0 +1,24 @@
+//! Grammars with numbers in place of names: which categories are nullable, which reach themselves,
+//! and how long the chains of steps from a category are. Nothing here knows a notation.
+#![tactic(auto)]
+
+mod cycle_check;
+mod cycles;
+mod grammar;
+mod making;
+mod nullable;
+mod parts;
+mod ranking;
+mod stepping;
+
+pub use cycle_check::{CycleCheck, check_cycles};
+pub use grammar::Grammar;
+pub use nullable::nullable_categories;
+pub use parts::GrammarParts;
+pub use spec_grammar::{Label, Rule, Symbol};
+pub use spec_lexing::KindDef;
+pub use spec_text::Name;
+pub use sqlite_items::Items;
+
+#[cfg(test)]
+mod tests;

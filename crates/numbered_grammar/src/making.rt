@@ -1,0 +1,144 @@
+//! Grammars of numbered rules, made from their parts.
+ghost use Rattle.std.specs.Prelude.{◌≡◌, ◌<◌, ◌^◌, ◌↔◌, IsTrue, All, IfOk, length};
+ghost use Rattle.spec_grammar.specs.Grammars.{IsSymbolOf, HasSymbolsOf, HasOwnSymbols, item_count};
+ghost use Rattle.numbered_grammar.specs.Making.{grammar_of_parts, grammar_of_symbols};
+ghost use Rattle.numbered_grammar.specs.Making.{entry_of_rules};
+ghost use Rattle.numbered_grammar.specs.Making.{IsWellFormed, MakesGrammar};
+ghost use Rattle.numbered_grammar.specs.Making.{GivesParts};
+
+use crate::cycle_check::{CycleCheck, check_cycles};
+use crate::grammar::Grammar;
+use crate::parts::GrammarParts;
+use spec_grammar::{Rule, Symbol};
+use spec_lexing::KindDef;
+use spec_text::Name;
+use std::alloc::{AllocError, Global};
+
+/// The most rules, the most categories and the most kinds.
+const MAX_COUNT: usize = 65_535;
+
+/// The most items, in all rules together.
+const MAX_ITEMS: usize = 2_147_483_647;
+
+fn is_own(categories: &[Name], kinds: &[KindDef], symbol: Symbol) -> bool
+    ensures { IsTrue result ↔ IsSymbolOf
+        (grammar_of_symbols categories.now kinds.now) symbol }
+{
+    match symbol {
+        Symbol::Category(c) => (c as usize) < categories.len(),
+        Symbol::Kind(k) => (k as usize) < kinds.len(),
+    }
+}
+
+fn are_own(categories: &[Name], kinds: &[KindDef], items: &[Symbol]) -> bool
+    ensures { IsTrue result ↔ All (IsSymbolOf
+        (grammar_of_symbols categories.now kinds.now)) items.now }
+{
+    for item in items {
+        if !is_own(categories, kinds, *item) {
+            return false;
+        }
+    }
+    true
+}
+
+fn has_own(categories: &[Name], kinds: &[KindDef], rule: &Rule) -> bool
+    ensures { IsTrue result ↔ HasSymbolsOf
+        (grammar_of_symbols categories.now kinds.now) rule.now }
+{
+    is_own(categories, kinds, Symbol::Category(rule.category))
+        && are_own(categories, kinds, rule.items.as_slice())
+}
+
+fn have_own(categories: &[Name], kinds: &[KindDef], rules: &[Rule]) -> bool
+    ensures { IsTrue result ↔ HasOwnSymbols
+        (grammar_of_parts rules.now categories.now kinds.now (entry_of_rules rules.now)) }
+{
+    for rule in rules {
+        if !has_own(categories, kinds, rule) {
+            return false;
+        }
+    }
+    true
+}
+
+fn have_few_items(rules: &[Rule]) -> bool
+    ensures { IsTrue result ↔ item_count rules.now < 2 ^ 31 }
+{
+    let mut room = MAX_ITEMS;
+    for rule in rules {
+        let count = rule.items.as_slice().len();
+        if count > room {
+            return false;
+        }
+        room -= count;
+    }
+    true
+}
+
+fn is_well_formed(rules: &[Rule], categories: &[Name], kinds: &[KindDef]) -> bool
+    ensures { IsTrue result ↔ IsWellFormed
+        (grammar_of_parts rules.now categories.now kinds.now (entry_of_rules rules.now)) }
+{
+    rules.len() <= MAX_COUNT
+        && categories.len() <= MAX_COUNT
+        && kinds.len() <= MAX_COUNT
+        && have_few_items(rules)
+        && have_own(categories, kinds, rules)
+}
+
+/// The category of the first rule.
+fn entry_of_rules(rules: &[Rule]) -> Option<Symbol>
+    ensures { result ≡ entry_of_rules rules.now }
+{
+    let rule = rules.first()?;
+    Some(Symbol::Category(rule.category))
+}
+
+/// These parts, and `None` where they are not well formed. It looks at each item once and takes no
+/// memory.
+pub(crate) fn parts_of(
+    rules: Vec<Rule>,
+    categories: Vec<Name>,
+    kinds: Vec<KindDef>,
+) -> Option<GrammarParts>
+    ensures { GivesParts (grammar_of_parts
+        rules.items categories.items kinds.items (entry_of_rules rules.items)) result }
+{
+    if !is_well_formed(rules.as_slice(), categories.as_slice(), kinds.as_slice()) {
+        return None;
+    }
+    let entry = entry_of_rules(rules.as_slice());
+    Some(GrammarParts::of(rules, categories, kinds, entry))
+}
+
+impl Grammar {
+    /// The grammar of these rules, which may be one that no file spells. `None` where a rule has a
+    /// symbol that is not there, where there are 65,536 rules, categories or kinds or more, or 2^31
+    /// items or more, and where some category reaches itself. Categories may share a name, of which
+    /// `find` then knows the first. The entry is the category of the first rule.
+    ///
+    /// It looks at each item once, and then at the chains of steps: it passes over the items for
+    /// the nullable categories, at most once more than there are of them, looks at each item twice
+    /// for the steps, searches from each step of each category, and for the ranks goes round by
+    /// round over all steps, at most as many rounds as there are categories. Beside the ranks,
+    /// which the grammar keeps, it takes memory for the steps and for a few numbers of each
+    /// category.
+    pub fn of_rules(
+        alloc: Global,
+        rules: Vec<Rule>,
+        categories: Vec<Name>,
+        kinds: Vec<KindDef>,
+    ) -> Result<Option<Grammar>, AllocError>
+        ensures { IfOk result (MakesGrammar (grammar_of_parts
+            rules.items categories.items kinds.items (entry_of_rules rules.items))) }
+    {
+        let Some(parts) = parts_of(rules, categories, kinds) else {
+            return Ok(None);
+        };
+        match check_cycles(alloc, &parts)? {
+            CycleCheck::Cyclic(_) => Ok(None),
+            CycleCheck::Ranked(ranks) => Ok(Some(Grammar::of(parts, ranks))),
+        }
+    }
+}

@@ -1,0 +1,99 @@
+//! Rules, categories, kinds and an entry that fit together, before the check for cycles.
+ghost use Rattle.std.specs.Prelude.{◌≡◌, ◌<◌, ◌^◌, length, IfSome};
+ghost use Rattle.spec_grammar.specs.Grammars.{HasOwnSymbols, IsSymbolOf, item_count};
+ghost use Rattle.numbered_grammar.specs.Making.{grammar_of_parts};
+
+use spec_grammar::{Rule, Symbol};
+use spec_lexing::KindDef;
+use spec_text::Name;
+use std::marker::Model;
+
+/// Rules, categories and kinds, each numbered from 0, and an entry. The rules have symbols of these
+/// alone, the entry is one of them, and a category may reach itself.
+#[derive(Debug, Drop)]
+pub struct GrammarParts {
+    rules: Vec<Rule>,
+    categories: Vec<Name>,
+    kinds: Vec<KindDef>,
+    entry: Option<Symbol>,
+}
+
+impl Model for GrammarParts {
+    ghost use Rattle.std.specs.Prelude.{◌<◌, ◌^◌, length, IfSome};
+    ghost use Rattle.spec_grammar.specs.Grammars.{Grammar, HasOwnSymbols, IsSymbolOf, item_count};
+    ghost use Rattle.numbered_grammar.specs.Making.{grammar_of_parts};
+
+    ghost Value = { Grammar };
+
+    ghost view = { λ g. grammar_of_parts g.rules.items g.categories.items g.kinds.items g.entry };
+
+    ghost invariant = { λ g. (length g.rules.items < 2 ^ 16)
+        × (length g.categories.items < 2 ^ 16)
+        × (length g.kinds.items < 2 ^ 16)
+        × (item_count g.rules.items < 2 ^ 31)
+        × HasOwnSymbols (grammar_of_parts g.rules.items g.categories.items g.kinds.items g.entry)
+        × IfSome g.entry
+        (IsSymbolOf (grammar_of_parts g.rules.items g.categories.items g.kinds.items g.entry)) };
+}
+
+impl GrammarParts {
+    pub fn of(
+        rules: Vec<Rule>,
+        categories: Vec<Name>,
+        kinds: Vec<KindDef>,
+        entry: Option<Symbol>,
+    ) -> GrammarParts
+        requires rules { length rules.items < 2 ^ 16 }
+        requires categories { length categories.items < 2 ^ 16 }
+        requires kinds { length kinds.items < 2 ^ 16 }
+        requires few { item_count rules.items < 2 ^ 31 }
+        requires own_symbols { HasOwnSymbols
+            (grammar_of_parts rules.items categories.items kinds.items entry) }
+        requires entry { IfSome entry
+            (IsSymbolOf (grammar_of_parts rules.items categories.items kinds.items entry)) }
+        ensures { result ≡ grammar_of_parts rules.items categories.items kinds.items entry }
+    {
+        GrammarParts {
+            rules,
+            categories,
+            kinds,
+            entry,
+        }
+    }
+
+    pub fn rules(&self) -> &[Rule]
+        ensures items { result.now ≡ self.now.rules }
+        ensures few { length self.now.rules < 2 ^ 16 }
+        ensures few_items { item_count self.now.rules < 2 ^ 31 }
+        ensures own_symbols { HasOwnSymbols self.now }
+    {
+        self.rules.as_slice()
+    }
+
+    pub fn categories(&self) -> &[Name]
+        ensures items { result.now ≡ self.now.categories }
+        ensures few { length self.now.categories < 2 ^ 16 }
+    {
+        self.categories.as_slice()
+    }
+
+    pub fn kinds(&self) -> &[KindDef]
+        ensures items { result.now ≡ self.now.lexicon.kinds }
+        ensures few { length self.now.lexicon.kinds < 2 ^ 16 }
+    {
+        self.kinds.as_slice()
+    }
+
+    pub fn category_count(&self) -> u16
+        ensures { result ≡ length self.now.categories }
+    {
+        self.categories.len() as u16
+    }
+
+    pub fn entry(&self) -> Option<Symbol>
+        ensures entry { result ≡ self.now.entry }
+        ensures own { IfSome result (IsSymbolOf self.now) }
+    {
+        self.entry
+    }
+}

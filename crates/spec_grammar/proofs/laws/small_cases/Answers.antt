@@ -1,6 +1,0 @@
--- Each case by its tree, or by the laws.
-use Rattle.spec_grammar.proofs.Examples.{small_cases}
-use Rattle.spec_grammar.proofs.laws.small_cases.Goals as goal
-
-pub returns : goal.returns
-returns c = small_cases

@@ -1,0 +1,2 @@
+pub mod DerivationCases
+pub mod CycleCases
