@@ -12,7 +12,7 @@ use Rattle.binary_form.specs.Symbols.{BinarySymbol, plain, BinaryDerives, symbol
 use Rattle.binary_form.specs.BinaryForm.{IsNumberOf, IsNullableNumber}
 use Rattle.binary_form.proofs.NumberLemmas.{number_is_one}
 use Rattle.valiant.specs.Charts.{ChartValue}
-use Rattle.spec_session.specs.Script.{Constituent, entry_whole, category_whole, category_span}
+use Rattle.spec_script.specs.Script.{Constituent, entry_whole, category_whole, category_span}
 use Rattle.spec_session.specs.Replies.{IsOfCategory, first_of, end_of, IsWithin, IsDerived, IsAnswer, yes_line, no_line, yes, no}
 use Rattle.chart_service.specs.Opening.{HasNamesAndWords, IsOpened}
 
@@ -59,14 +59,14 @@ module _ (g : Grammar) (chart : ChartValue) (text : List ℕ) (tokens : List Tok
       )
 
 -- a constituent is of one category
-one_category : (g : Expansion) (constituent : Constituent) (c d : ℕ) → HasNamesAndWords g
+one_category : (g : Grammar) (constituent : Constituent) (c d : ℕ) → HasNamesAndWords g
     → IsOfCategory g constituent c → IsOfCategory g constituent d → c ≡ d
 one_category g entry_whole c d names is other = cc
 one_category g (category_whole name) c d names is other = names.distinct c d name is other
 one_category g (category_span name first end) c d names is other = names.distinct c d name is other
 
 -- the answer on a constituent of a category within the text, by whether the category derives it
-module _ (g : Expansion) (chart : ChartValue) (text : List ℕ) (tokens : List Token)
+module _ (g : Grammar) (chart : ChartValue) (text : List ℕ) (tokens : List Token)
     (o : IsOpened g chart text tokens) (constituent : Constituent) (category size first end : ℕ)
     (is : IsOfCategory g constituent category) (size_is : size ≡ length chart.kinds)
     (first_is : first ≡ first_of constituent) (end_is : end ≡ end_of size constituent)

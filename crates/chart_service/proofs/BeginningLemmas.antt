@@ -7,10 +7,10 @@ use Rattle.spec_grammar.specs.Grammars.{Grammar}
 use Rattle.spec_script.specs.Script.{Command, header, grammar, opens, ask, line_of, block_of}
 use Rattle.spec_script.specs.Script.{text_of, IsWithinLimits, IsInOrder, BeginsWithCommands, broken}
 use Rattle.spec_session.specs.GrammarReplies.{IsAccepted, grammar_reply}
-use Rattle.spec_session.specs.Steps.{version_reply}
+use Rattle.spec_session.specs.Steps.{no_texts, with_text, version_reply}
 use Rattle.spec_session.specs.Sessions.{last_line}
 use Rattle.spec_script.proofs.ScriptLemmas.{line_is_short}
-use Rattle.spec_session.proofs.FrontLemmas.{grammar_told}
+use Rattle.spec_session.proofs.FrontLemmas.{none_told, grammar_told}
 use Rattle.chart_service.specs.declared.language.Language.{Language}
 use Rattle.chart_service.specs.declared.opening.Opened.{Opened}
 use Rattle.script_reader.specs.declared.reading.Block.{Block}
@@ -234,7 +234,7 @@ module _ {input before : List ℕ} {g : Grammar} {at : ℕ} {coming now : Option
       begins = text_begins.2;
       accepted = subst (IsAccepted h.block) (sym o.grammar) h.accepted;
       is_opened = o.is_opened;
-      are_replies = refl;
+      are_replies = none_told opened.language.grammar (with_text no_texts text);
       has_written = o.written (before ++ grammar_reply g) h.has_written
           ∙ ap Some (append_assoc before (grammar_reply g) (version_reply 0 (length o.tokens))
           ∙ ap (λ bytes. before ++ bytes) same_reply);

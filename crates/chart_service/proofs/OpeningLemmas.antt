@@ -21,7 +21,7 @@ use Rattle.spec_lbnf.specs.declared.fault.GrammarFault.TheVariants as made
 use Rattle.spec_lbnf.specs.Faults.{Spells, IsFirstFault, is_large}
 use Rattle.spec_lbnf.specs.Checks.{AreFit}
 use Rattle.spec_script.specs.Script.{opens}
-use Rattle.spec_session.specs.Steps.{IsReply}
+use Rattle.spec_session.specs.Steps.{no_texts, IsReply}
 use Rattle.spec_session.specs.GrammarReplies.{IsRefused, IsRefusedFor, AreAccepted, faulty, unfit}
 use Rattle.spec_session.specs.GrammarReplies.{too_many_symbols, fault_reason, unfit_reason}
 use Rattle.spec_session.specs.GrammarReplies.{symbols_reason}
@@ -159,7 +159,7 @@ cut_text g chart text old new o count e cut status stop = by_status status stop
     line : List ℕ
     line = version_reply 0 count
 
-    is_line : IsReply g [] (opens text) line
+    is_line : IsReply g no_texts (opens text) line
     is_line = (o.0, (o.1).are_tokens, ap (version_reply 0) (e ∙ chart_len g chart text o.0 o.1))
 
     by_status : (status : Status) → IsWriteStop status → EndsAtText g text old new status

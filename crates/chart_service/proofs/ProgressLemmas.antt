@@ -10,13 +10,14 @@ use Rattle.spec_script.specs.Script.{Constituent, Query, has, Command, header, g
 use Rattle.spec_script.specs.Script.{block_of, text_of, IsWithinLimits, AreQuestions, IsInOrder}
 use Rattle.spec_script.specs.Script.{BeginsWithCommands, Ending, ended, broken, EndsAs, IsScript}
 use Rattle.spec_session.specs.GrammarReplies.{IsAccepted, grammar_reply}
-use Rattle.spec_session.specs.Steps.{IsReply, version_reply}
+use Rattle.spec_session.specs.Steps.{no_texts, with_text, IsReply, version_reply}
+use Rattle.spec_session.specs.Runs.{AreReplies}
 use Rattle.spec_session.specs.Answers.{IsAnswer}
-use Rattle.spec_session.specs.Sessions.{AreReplies, AreAllReplies, IsSession, refused, whole, last_line, last_status}
+use Rattle.spec_session.specs.Sessions.{AreAllReplies, IsSession, refused, whole, last_line, last_status}
 use Rattle.spec_script.proofs.ScriptLemmas.{tested, each_differs, lacks_if_each_differs, cut_same}
 use Rattle.spec_script.proofs.ScriptLemmas.{command_line, line_lacks_lf, line_is_short}
 use Rattle.spec_session.proofs.SessionsLemmas.{replies_come_first, replies_then_last_line, refusal_is_all}
-use Rattle.spec_session.proofs.FrontLemmas.{questions_more, replies_more, grammar_told, text_told}
+use Rattle.spec_session.proofs.FrontLemmas.{questions_more, replies_more, none_told, grammar_told, text_told}
 use Rattle.chart_service.specs.declared.opening.Opened.{Opened}
 use Rattle.chart_service.specs.declared.status.Status.{Status}
 use Rattle.chart_service.specs.declared.status.Status.TheVariants.{Ended, BadGrammar, BadScript}
@@ -167,16 +168,16 @@ module _ (input before : List ℕ) where
   ended_at_text block text g accepted mid mid_rest mid_begins at rest begins old new written status h =
       by_status status h
     where
-      sure : (line : List ℕ) → IsReply g [] (opens text) line → (out : List ℕ) (n : ℕ)
+      sure : (line : List ℕ) → IsReply g no_texts (opens text) line → (out : List ℕ) (n : ℕ)
           → IsSession input out n → (more : List ℕ) × (out ≡ (grammar_reply g ++ line) ++ more)
       sure line t out n s =
-          let told = text_told g block text t.0 [] [] accepted t.1 refl in
+          let told = text_told g block text t.0 [] [] accepted t.1 (none_told g (with_text no_texts text)) in
           let front : List Command = header ∷ grammar block ∷ opens text ∷ [] in
           let first = replies_come_first input front at rest _ begins tt told out n s in
           let short : version_reply 0 (length t.0) ++ [] ≡ line = append-nil (version_reply 0 (length t.0)) ∙ sym t.2 in
           (first.0, first.1 ∙ ap (λ bytes. (grammar_reply g ++ bytes) ++ first.0) short)
 
-      by_line : (line : List ℕ) → IsReply g [] (opens text) line → GrowsByPrefix old new line
+      by_line : (line : List ℕ) → IsReply g no_texts (opens text) line → GrowsByPrefix old new line
           → (status : Status) → IsFaultStatus (number_of status) → Ends input before new status
       by_line line t cut status fault = cut_short (grammar_reply g) line (sure line t) old new written cut status fault
 
@@ -362,10 +363,10 @@ module _ {input before : List ℕ} {coming : Option (List ℕ)} {at : ℕ} {now 
     are_more : AreQuestions (r.questions ++ ask query ∷ [])
     are_more = questions_more r.questions (ask query) r.are_questions tt
 
-    replies_are : AreReplies opened.language.grammar (r.text ∷ [])
+    replies_are : AreReplies opened.language.grammar (with_text no_texts r.text)
         (r.questions ++ ask query ∷ []) (r.replies ++ line)
     replies_are =
-        replies_more opened.language.grammar (r.text ∷ []) r.questions r.replies (ask query) line
+        replies_more opened.language.grammar (with_text no_texts r.text) r.questions r.replies query line
         r.are_questions r.are_replies (r.text, r.tokens, ([], refl), (r.is_opened).are_tokens, answer)
 
     longer : (told_more : List ℕ)

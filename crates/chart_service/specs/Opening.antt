@@ -13,7 +13,7 @@ use Rattle.spec_lbnf.specs.Faults.{Spells}
 use Rattle.spec_lbnf.specs.Checks.{AreFit}
 use Rattle.spec_script.specs.Script.{opens}
 use Rattle.spec_session.specs.GrammarReplies.{IsAccepted, IsRefused, fault_reason, unfit_reason}
-use Rattle.spec_session.specs.Steps.{IsReply}
+use Rattle.spec_session.specs.Steps.{no_texts, IsReply}
 use Rattle.spec_session.specs.GrammarReplies.{symbols_reason, refusal_line}
 use Rattle.spec_session.specs.GrammarReplies.{grammar_reply}
 use Rattle.spec_session.specs.Steps.{version_reply}
@@ -112,9 +112,9 @@ Accepts block old new (Err status) = EndsAtGrammar block old new status
 -- the session was ended at the text: a fault left a prefix of its reply
 abbrev pub EndsAtText : Grammar → List ℕ → Option (List ℕ) → Option (List ℕ) → Status → Type 0
 EndsAtText g text old new WriteFault =
-    (line : List ℕ) × IsReply g [] (opens text) line × GrowsByPrefix old new line
+    (line : List ℕ) × IsReply g no_texts (opens text) line × GrowsByPrefix old new line
 EndsAtText g text old new OutOfMemory =
-    Stays old new ⊎ ((line : List ℕ) × IsReply g [] (opens text) line × GrowsByPrefix old new line)
+    Stays old new ⊎ ((line : List ℕ) × IsReply g no_texts (opens text) line × GrowsByPrefix old new line)
 EndsAtText g text old new Ended = ⊥
 EndsAtText g text old new BadGrammar = ⊥
 EndsAtText g text old new BadScript = ⊥

@@ -5,8 +5,9 @@ use Rattle.spec_lexing.specs.declared.token.Token.{Token}
 use Rattle.spec_script.specs.Script.{Command, header, grammar, opens, AreQuestions}
 use Rattle.spec_script.specs.Script.{BeginsWithCommands}
 use Rattle.spec_session.specs.GrammarReplies.{IsAccepted, grammar_reply}
-use Rattle.spec_session.specs.Steps.{version_reply}
-use Rattle.spec_session.specs.Sessions.{AreReplies, IsSession}
+use Rattle.spec_session.specs.Steps.{no_texts, with_text, version_reply}
+use Rattle.spec_session.specs.Runs.{AreReplies}
+use Rattle.spec_session.specs.Sessions.{IsSession}
 use Rattle.chart_service.specs.declared.opening.Opened.{Opened}
 use Rattle.chart_service.specs.declared.status.Status.{Status}
 use Rattle.chart_service.specs.Statuses.{number_of}
@@ -28,7 +29,8 @@ pub record Running (input before : List ℕ) (coming : Option (List ℕ)) (at : 
   pub begins : BeginsWithCommands 0 input (header ∷ grammar block ∷ opens text ∷ questions) at rest
   pub accepted : IsAccepted block opened.language.grammar
   pub is_opened : IsOpened opened.language.grammar opened.chart text tokens
-  pub are_replies : AreReplies opened.language.grammar (text ∷ []) questions replies
+  pub are_replies : AreReplies opened.language.grammar (with_text no_texts text) questions
+      replies
   pub has_written : now ≡ Some (before
       ++ (grammar_reply opened.language.grammar ++ (version_reply 0 (length tokens) ++ replies)))
 

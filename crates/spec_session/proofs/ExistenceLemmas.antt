@@ -10,14 +10,15 @@ use Rattle.spec_script.specs.Script.{block_of, text_of, IsWithinLimits, AreQuest
 use Rattle.spec_script.specs.Script.{BeginsWithCommands, GoesOn, HasEndLine, Ending, ended, broken}
 use Rattle.spec_script.specs.Script.{IsScript}
 use Rattle.spec_session.specs.GrammarReplies.{grammar_reply}
-use Rattle.spec_session.specs.Steps.{version_reply, IsCurrent}
+use Rattle.spec_session.specs.Steps.{version_reply, State, no_texts, with_text, IsCurrent}
 use Rattle.spec_session.specs.Answers.{HasCategory, first_of, end_of, IsWithin, IsOutside}
 use Rattle.spec_session.specs.Answers.{IsDerived, unknown_category_line, outside_line, yes_line}
 use Rattle.spec_session.specs.Answers.{no_line, of_no_category, of_no_span, IsHasAnswer, refused_has}
 use Rattle.spec_session.specs.Answers.{yes, no, IsAnswer}
-use Rattle.spec_session.specs.Sessions.{AreReplies, last_line, last_status, IsSession, refused, whole}
+use Rattle.spec_session.specs.Sessions.{last_line, last_status, IsSession, refused, whole}
 use Rattle.spec_session.specs.Existence.{SomeSession}
 use Rattle.spec_session.proofs.DenialLemmas.{IsUndeniable, decided}
+use Rattle.spec_session.proofs.RunLemmas.{AreTold, replies_told}
 use Rattle.spec_session.proofs.VerdictLemmas.{HasVerdict, some_verdict}
 
 -- a beginning and the command behind it are a beginning
@@ -170,37 +171,41 @@ some_answer g tokens (has constituent) = some_has_answer g tokens constituent
 module _ (g : Grammar) where
   -- questions on a current text have replies
   some_replies :
-      (texts : List (List ℕ)) (text : List ℕ) → IsCurrent texts text →
+      (state : State) (text : List ℕ) → IsCurrent state text →
       (questions : List Command) → AreQuestions questions →
-      IsUndeniable ((out : List ℕ) × AreReplies g texts questions out)
-  some_replies texts text current [] are denied = denied ([], refl)
-  some_replies texts text current (ask query ∷ questions) are denied =
+      IsUndeniable ((out : List ℕ) × AreTold g state questions out)
+  some_replies state text current [] are denied = denied ([], refl)
+  some_replies state text current (ask query ∷ questions) are denied =
       let tokens = some_tokens g.lexicon text in
       some_answer g tokens.0 query
       (λ (answer : HasAnswer g tokens.0 query).
-      some_replies texts text current questions are
-      (λ (others : (out : List ℕ) × AreReplies g texts questions out).
+      some_replies state text current questions are
+      (λ (others : (out : List ℕ) × AreTold g state questions out).
       denied (
         answer.0 ++ others.0,
-        (answer.0, others.0, (text, tokens.0, current, tokens.1, answer.1), refl, others.1),
+        (answer.0, others.0, state, (text, tokens.0, current, tokens.1, answer.1), refl, refl, others.1),
       )))
-  some_replies texts text current (command ∷ questions) are denied = are
+  some_replies state text current (command ∷ questions) are denied = are
 
   -- a text and the questions behind it have replies
   replies_from_text :
-      (text : List ℕ) (questions : List Command) → AreQuestions questions →
-      IsUndeniable ((out : List ℕ) × AreReplies g [] (opens text ∷ questions) out)
+      (text : List ℕ)
+      (questions : List Command) → AreQuestions questions →
+      IsUndeniable ((out : List ℕ) × AreTold g no_texts (opens text ∷ questions) out)
   replies_from_text text questions are denied =
       let tokens = some_tokens g.lexicon text in
       let line : List ℕ = version_reply 0 (length tokens.0) in
-      some_replies (text ∷ []) text ([], refl) questions are
-      (λ (others : (out : List ℕ) × AreReplies g (text ∷ []) questions out).
-      denied (line ++ others.0, (line, others.0, (tokens.0, tokens.1, refl), refl, others.1)))
+      some_replies (with_text no_texts text) text ([], refl) questions are
+      (λ (others : (out : List ℕ) × AreTold g (with_text no_texts text) questions out).
+      denied (
+        line ++ others.0,
+        (line, others.0, with_text no_texts text, (tokens.0, tokens.1, refl), refl, refl, others.1),
+      ))
 
 -- the commands behind a grammar have replies, whatever the grammar is
 abbrev HaveReplies : List Command → Type 0
 HaveReplies commands =
-    (g : Grammar) → IsUndeniable ((out : List ℕ) × AreReplies g [] commands out)
+    (g : Grammar) → IsUndeniable ((out : List ℕ) × AreTold g no_texts commands out)
 
 module _ (input : List ℕ) where
   -- a script with a grammar has a session, where the commands behind the grammar have replies
@@ -212,13 +217,14 @@ module _ (input : List ℕ) where
       let h = script.begins in
       some_verdict block (λ (split : HasVerdict block). elim split [
         | inl accepted ↦ replies accepted.0
-            (λ (told : (out : List ℕ) × AreReplies accepted.0 [] commands out).
+            (λ (told : (out : List ℕ) × AreTold accepted.0 no_texts commands out).
             let all : List ℕ = grammar_reply accepted.0 ++ told.0 in
+            let replied = replies_told accepted.0 no_texts commands told.0 told.1 in
             denied (
               all ++ last_line ending,
               last_status ending,
               whole (header ∷ grammar block ∷ commands) ending all script
-                  (accepted.0, told.0, accepted.1, told.1, refl) refl refl,
+                  (accepted.0, told.0, accepted.1, replied, refl) refl refl,
             ))
         | inr refusal ↦
             let end : ℕ = length (text_of header) + length (text_of (grammar block)) in

@@ -1,4 +1,5 @@
 pub mod RepliesLemmas
+pub mod RunLemmas
 pub mod SessionsLemmas
 pub mod FrontLemmas
 pub mod DenialLemmas

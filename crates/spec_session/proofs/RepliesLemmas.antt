@@ -15,7 +15,7 @@ use Rattle.spec_script.specs.Script.{Constituent, Query, has, Command, header, g
 use Rattle.spec_session.specs.GrammarReplies.{IsAccepted, IsRefused, IsRefusedFor, faulty, unfit}
 use Rattle.spec_session.specs.GrammarReplies.{too_many_symbols, fault_reason, unfit_reason}
 use Rattle.spec_session.specs.GrammarReplies.{symbols_reason, refusal_line}
-use Rattle.spec_session.specs.Steps.{version_reply, IsCurrent, IsReply}
+use Rattle.spec_session.specs.Steps.{version_reply, State, IsCurrent, IsReply}
 use Rattle.spec_session.specs.Answers.{HasCategory, IsWithin, IsOutside, IsDerived}
 use Rattle.spec_session.specs.Answers.{IsQuestionRefused, of_no_category, of_no_span, IsHasAnswer, refused_has}
 use Rattle.spec_session.specs.Answers.{yes, no, IsAnswer}
@@ -121,9 +121,9 @@ one_last (x ∷ older) text [] other e = absurd (omega (arith, ap length e, leng
 one_last (x ∷ older) text (y ∷ others) other e = one_last older text others other (ap (drop 1) e)
 
 -- one text is current
-one_current : (texts : List (List ℕ)) (text other : List ℕ) → IsCurrent texts text → IsCurrent texts other →
+one_current : (state : State) (text other : List ℕ) → IsCurrent state text → IsCurrent state other →
     text ≡ other
-one_current texts text other h k = one_last h.0 text k.0 other (sym h.1 ∙ k.1)
+one_current state text other h k = one_last h.0 text k.0 other (sym h.1 ∙ k.1)
 
 -- a text has one list of tokens under a grammar
 one_tokens : (g : Grammar) (text : List ℕ) (tokens others : List Token) →
@@ -131,16 +131,16 @@ one_tokens : (g : Grammar) (text : List ℕ) (tokens others : List Token) →
 one_tokens g text tokens others h k = one_token_list MatchesKind token_kind (lex_kinds g.lexicon) text 0 tokens others h k
 
 -- a command has one reply
-pub one_reply : (g : Grammar) (texts : List (List ℕ)) (command : Command) (line other : List ℕ) →
-    IsReply g texts command line → IsReply g texts command other → line ≡ other
-one_reply g texts header line other h k = absurd h
-one_reply g texts (grammar block) line other h k = absurd h
-one_reply g texts (opens text) line other h k =
+pub one_reply : (g : Grammar) (state : State) (command : Command) (line other : List ℕ) →
+    IsReply g state command line → IsReply g state command other → line ≡ other
+one_reply g state header line other h k = absurd h
+one_reply g state (grammar block) line other h k = absurd h
+one_reply g state (opens text) line other h k =
     let same : h.0 ≡ k.0 = one_tokens g text h.0 k.0 h.1 k.1 in
-    let replies = ap (λ (tokens : List Token). version_reply (length texts) (length tokens)) same in
+    let replies = ap (λ (tokens : List Token). version_reply (length state.texts) (length tokens)) same in
     h.2 ∙ replies ∙ sym k.2
-one_reply g texts (ask query) line other h k =
-    let one_text : h.0 ≡ k.0 = one_current texts h.0 k.0 h.2 k.2 in
+one_reply g state (ask query) line other h k =
+    let one_text : h.0 ≡ k.0 = one_current state h.0 k.0 h.2 k.2 in
     let again : AreTokensOf g.lexicon h.0 k.1 = rw one_text k.3 in
     let same : h.1 ≡ k.1 = one_tokens g h.0 h.1 k.1 h.3 again in
     one_answer g h.1 query line other h.4 (rw same k.4)

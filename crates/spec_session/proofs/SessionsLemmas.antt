@@ -4,10 +4,12 @@ use Rattle.std.proofs.lemmas.List.{nil_from_length}
 use Rattle.spec_grammar.specs.Grammars.{Grammar}
 use Rattle.spec_script.specs.Script.{Command, header, grammar, BeginsWithCommands, Ending, IsScript}
 use Rattle.spec_session.specs.GrammarReplies.{IsRefused, grammar_reply}
-use Rattle.spec_session.specs.Steps.{texts_after}
-use Rattle.spec_session.specs.Sessions.{AreReplies, AreAllReplies, last_line, last_status, IsSession, refused, whole}
+use Rattle.spec_session.specs.Steps.{State, no_texts}
+use Rattle.spec_session.specs.Runs.{AreReplies}
+use Rattle.spec_session.specs.Sessions.{AreAllReplies, last_line, last_status, IsSession, refused, whole}
 use Rattle.spec_session.specs.Laws.{OneSession, RepliesComeFirst, RepliesThenLastLine, RefusalIsAll}
 use Rattle.spec_script.proofs.BeginningLemmas.{two_beginnings, script_goes_on, same_script}
+use Rattle.spec_session.proofs.RunLemmas.{AreTold, told_of, one_after}
 use Rattle.spec_session.proofs.RepliesLemmas.{one_grammar, accepted_or_refused, one_refusal, one_reply}
 
 -- the bytes begin with these
@@ -29,14 +31,22 @@ same_starts a b h k =
     h.1 ∙ ap (λ bytes. b ++ bytes) (nil_from_length h.0 (omega arith)) ∙ append-nil b
 
 -- the replies to the first commands are the first of the replies
-replies_start : (g : Grammar) (texts : List (List ℕ)) (commands behind : List Command) (told out : List ℕ) →
-    AreReplies g texts commands told → AreReplies g texts (commands ++ behind) out → StartsWith out told
-replies_start g texts [] behind told out h k = (out, rw h refl)
-replies_start g texts (command ∷ commands) behind told out h k =
-    let one : k.0 ≡ h.0 = one_reply g texts command k.0 h.0 k.2 h.2 in
-    let again : out ≡ h.0 ++ k.1 = k.3 ∙ ap (λ line. line ++ k.1) one in
-    let tail = replies_start g (texts_after texts command) commands behind h.1 k.1 h.4 k.4 in
-    starts_after h.0 out k.1 told h.1 h.3 again tail
+told_start : (g : Grammar) (from : State) (commands behind : List Command) (told out : List ℕ) →
+    AreTold g from commands told → AreTold g from (commands ++ behind) out → StartsWith out told
+told_start g from [] behind told out h k = (out, rw h refl)
+told_start g from (command ∷ commands) behind told out h k =
+    let one : k.0 ≡ h.0 = one_reply g from command k.0 h.0 k.3 h.3 in
+    let one_state : k.2 ≡ h.2 = one_after command from k.2 h.2 k.4 h.4 in
+    let again : out ≡ h.0 ++ k.1 = k.5 ∙ ap (λ line. line ++ k.1) one in
+    let IsFrom : State → Type 0 = λ (s : State). AreTold g s (commands ++ behind) k.1 in
+    let tail = told_start g h.2 commands behind h.1 k.1 h.6 (subst IsFrom one_state k.6) in
+    starts_after h.0 out k.1 told h.1 h.5 again tail
+
+replies_start : (g : Grammar) (from : State) (commands behind : List Command) (told out : List ℕ) →
+    AreReplies g from commands told → AreReplies g from (commands ++ behind) out → StartsWith out told
+replies_start g from commands behind told out h k =
+    told_start g from commands behind told out (told_of g from commands told h)
+    (told_of g from (commands ++ behind) out k)
 
 -- so are the replies to the first commands of a script
 all_replies_start : (commands behind : List Command) (told out : List ℕ) →
@@ -46,8 +56,8 @@ all_replies_start (header ∷ []) behind told out h k = (out, rw h refl)
 all_replies_start (header ∷ grammar block ∷ commands) behind told out h k =
     let one : k.0 ≡ h.0 = one_grammar block k.0 h.0 k.2 h.2 in
     let again : out ≡ grammar_reply h.0 ++ k.1 = k.4 ∙ ap (λ g. grammar_reply g ++ k.1) one in
-    let replies : AreReplies h.0 [] (commands ++ behind) k.1 = rw (sym one) k.3 in
-    let tail = replies_start h.0 [] commands behind h.1 k.1 h.3 replies in
+    let replies : AreReplies h.0 no_texts (commands ++ behind) k.1 = rw (sym one) k.3 in
+    let tail = replies_start h.0 no_texts commands behind h.1 k.1 h.3 replies in
     starts_after (grammar_reply h.0) out k.1 told h.1 h.4 again tail
 all_replies_start commands behind told out h k = absurd h
 

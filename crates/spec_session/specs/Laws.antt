@@ -2,8 +2,17 @@
 use Rattle.std.specs.Prelude.{◌≡◌, ℕ, List, [], ◌∷◌, ◌++◌}
 use Rattle.spec_script.specs.Script.{Command, header, grammar, IsInOrder, BeginsWithCommands}
 use Rattle.spec_script.specs.Script.{Ending, IsScript}
+use Rattle.spec_grammar.specs.Grammars.{Grammar}
 use Rattle.spec_session.specs.GrammarReplies.{IsRefused}
+use Rattle.spec_session.specs.Steps.{State, Step}
+use Rattle.spec_session.specs.Runs.{IsRunOf}
 use Rattle.spec_session.specs.Sessions.{AreAllReplies, last_line, last_status, IsSession}
+
+-- commands have one run from a state
+abbrev pub OneRun : Type 0
+OneRun =
+    (g : Grammar) (from : State) (commands : List Command) (steps others : List Step) →
+    IsRunOf g from commands steps → IsRunOf g from commands others → steps ≡ others
 
 -- any two sessions of an input write the same bytes and end with the same status
 abbrev pub OneSession : Type 0

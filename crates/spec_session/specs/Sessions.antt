@@ -1,21 +1,13 @@
--- The session of an input: the replies to its commands in order, and its last line. It knows a
+-- The session of an input: the replies of the run of its commands, and its last line. It knows a
 -- grammar and texts alone.
 use Rattle.std.specs.Prelude.{◌≡◌, ℕ, List, [], ◌∷◌, ◌++◌, codes, decimal}
 use Rattle.spec_grammar.specs.Grammars.{Grammar}
 use Rattle.spec_script.specs.Script.{Command, header, grammar, Ending, ended, broken}
-use Rattle.spec_script.specs.Script.{BeginsWithCommands}
-use Rattle.spec_script.specs.Script.{IsScript}
+use Rattle.spec_script.specs.Script.{BeginsWithCommands, IsScript}
 use Rattle.spec_session.specs.Lines.{as_line}
 use Rattle.spec_session.specs.GrammarReplies.{IsAccepted, IsRefused, grammar_reply}
-use Rattle.spec_session.specs.Steps.{IsReply}
-use Rattle.spec_session.specs.Steps.{texts_after}
-
--- the bytes are the replies to the commands, in order
-abbrev pub AreReplies : Grammar → List (List ℕ) → List Command → List ℕ → Type 0
-AreReplies g texts [] out = out ≡ []
-AreReplies g texts (command ∷ commands) out =
-    (line : List ℕ) × (rest : List ℕ) × IsReply g texts command line × (out ≡ line ++ rest)
-    × AreReplies g (texts_after texts command) commands rest
+use Rattle.spec_session.specs.Steps.{no_texts}
+use Rattle.spec_session.specs.Runs.{AreReplies}
 
 -- the last line of a session
 abbrev pub last_line : Ending → List ℕ
@@ -33,15 +25,15 @@ abbrev pub AreAllReplies : List Command → List ℕ → Type 0
 AreAllReplies [] out = out ≡ []
 AreAllReplies (header ∷ []) out = out ≡ []
 AreAllReplies (header ∷ grammar block ∷ commands) out =
-    (g : Grammar) × (replies : List ℕ) × IsAccepted block g × AreReplies g [] commands replies
+    (g : Grammar) × (replies : List ℕ) × IsAccepted block g × AreReplies g no_texts commands replies
     × (out ≡ grammar_reply g ++ replies)
 AreAllReplies commands out = ⊥
 
 -- the session of the input writes these bytes and ends with this status: it ends at a grammar that
 -- is refused, with its line alone and status 2; else it goes to the script's end
 pub data IsSession (input out : List ℕ) (status : ℕ) : Type 0 where
-  refused : (block rest : List ℕ) (at : ℕ) → BeginsWithCommands 0 input (header ∷ grammar block ∷ []) at rest
-      → IsRefused block out → status ≡ 2 → IsSession input out status
+  refused : (block rest : List ℕ) (at : ℕ)
+      → BeginsWithCommands 0 input (header ∷ grammar block ∷ []) at rest → IsRefused block out → status ≡ 2 → IsSession input out status
   whole : (commands : List Command) (ending : Ending) (replies : List ℕ)
       → IsScript input commands ending → AreAllReplies commands replies
       → out ≡ replies ++ last_line ending → status ≡ last_status ending → IsSession input out status

@@ -1,6 +1,11 @@
 //! Laws of sessions. Each is the contract of a function with an empty body.
-ghost use Rattle.spec_session.specs.Laws.{OneSession, RepliesComeFirst};
+ghost use Rattle.spec_session.specs.Laws.{OneRun, OneSession, RepliesComeFirst};
 ghost use Rattle.spec_session.specs.Laws.{RepliesThenLastLine, RefusalIsAll};
+
+/// Commands have at most one run from a state: one reply to each, and one state behind it.
+pub fn one_run()
+    ensures { OneRun }
+{}
 
 /// An input has at most one session: the bytes that it writes, and its status.
 pub fn one_session()

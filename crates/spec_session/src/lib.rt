@@ -6,4 +6,4 @@ mod existence;
 mod laws;
 
 pub use existence::some_session;
-pub use laws::{one_session, refusal_is_all, replies_come_first, replies_then_last_line};
+pub use laws::{one_run, one_session, refusal_is_all, replies_come_first, replies_then_last_line};

@@ -36,7 +36,7 @@ use Rattle.spec_script.specs.declared.question.Constituent.TheVariants.{Category
 use Rattle.spec_session.specs.Lines.{as_line}
 use Rattle.spec_session.specs.GrammarReplies.{IsAccepted}
 use Rattle.spec_session.specs.Answers.{IsDerived, IsHasAnswer, refused_has, of_no_category, of_no_span, yes, no}
-use Rattle.spec_session.specs.Steps.{IsReply}
+use Rattle.spec_session.specs.Steps.{State, IsReply}
 
 -- the grammar's block
 abbrev pub rule_block : List ℕ
@@ -117,8 +117,8 @@ full zero other is empty = cc
 full (suc r) other is empty = cc
 
 -- the texts so far
-abbrev pub one_text : List (List ℕ)
-one_text = codes "a" ∷ []
+abbrev pub one_text : State
+one_text = record { texts = codes "a" ∷ [] }
 
 -- the constituents of the questions
 abbrev pub category_s : Constituent

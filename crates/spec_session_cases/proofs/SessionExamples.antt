@@ -10,17 +10,19 @@ use Rattle.spec_script.specs.Script.{BeginsWithCommands, EndsAs, Ending, ended, 
 use Rattle.spec_script.specs.declared.question.Constituent.TheVariants.{EntryWhole}
 use Rattle.spec_session.specs.Lines.{as_line}
 use Rattle.spec_session.specs.GrammarReplies.{grammar_reply}
-use Rattle.spec_session.specs.Steps.{version_reply, IsReply}
-use Rattle.spec_session.specs.Sessions.{AreReplies, last_line, last_status, IsSession, whole}
+use Rattle.spec_session.specs.Steps.{version_reply, no_texts, IsReply}
+use Rattle.spec_session.specs.Runs.{AreReplies}
+use Rattle.spec_session.specs.Sessions.{last_line, last_status, IsSession, whole}
 use Rattle.spec_session_cases.specs.Examples.{front, front_replies}
 use Rattle.spec_script.proofs.ScriptLemmas.{model}
+use Rattle.spec_session.proofs.RunLemmas.{AreTold, replies_told}
 use Rattle.spec_session_cases.proofs.GrammarExample.{rule_block, rule_grammar, accepted, one_token, are_tokens, one_text, category_s, category_t, span_to, entry_reply, category_reply, empty_reply, unknown_reply, outside_reply}
 
 -- the answer to a question comes before those to others
 told : (constituent : Constituent) (line rest : List ℕ) (questions : List Command) →
-    IsReply rule_grammar one_text (ask (has constituent)) line → AreReplies rule_grammar one_text questions rest →
-    AreReplies rule_grammar one_text (ask (has constituent) ∷ questions) (line ++ rest)
-told constituent line rest questions is others = (line, rest, is, refl, others)
+    IsReply rule_grammar one_text (ask (has constituent)) line → AreTold rule_grammar one_text questions rest →
+    AreTold rule_grammar one_text (ask (has constituent) ∷ questions) (line ++ rest)
+told constituent line rest questions is others = (line, rest, one_text, is, refl, refl, others)
 
 -- a command that has these bytes stands before other commands
 next : (command : Command) (bytes : List ℕ) (at end : ℕ) (commands : List Command) (more rest : List ℕ) →
@@ -59,7 +61,7 @@ commands questions = header ∷ grammar rule_block ∷ opens (codes "a") ∷ que
 -- where questions have these bytes and these answers, and the script ends so behind them
 module _ (questions : List Command) (asked answers last : List ℕ) (at : ℕ) (rest : List ℕ) (ending : Ending)
     (in_order : AreQuestions questions) (begins : BeginsWithCommands 38 asked questions at rest)
-    (replies : AreReplies rule_grammar one_text questions answers)
+    (replies : AreTold rule_grammar one_text questions answers)
     (ends : EndsAs (commands questions) at rest ending) (last_is : last ≡ last_line ending) where
   ascii : IsAscii (codes "a")
   ascii = IsAscii-from_all (codes "a") (All-from_recursion (λ (byte : ℕ). byte < 128) (codes "a") (omega arith, tt))
@@ -76,8 +78,10 @@ module _ (questions : List Command) (asked answers last : List ℕ) (at : ℕ) (
       (omega arith) (omega arith, ascii) begins))
 
   -- the text and the questions have these replies
-  all_replies : AreReplies rule_grammar [] (opens (codes "a") ∷ questions) (version ++ answers)
-  all_replies = (version, answers, (one_token, are_tokens, version_is), refl, replies)
+  all_replies : AreReplies rule_grammar no_texts (opens (codes "a") ∷ questions) (version ++ answers)
+  all_replies =
+      replies_told rule_grammar no_texts (opens (codes "a") ∷ questions) (version ++ answers)
+      (version, answers, one_text, (one_token, are_tokens, version_is), refl, refl, replies)
 
   -- the session is these replies and the last line
   pub small_session : IsSession (front ++ asked) (front_replies ++ (answers ++ last)) (last_status ending)
@@ -145,7 +149,7 @@ questions_begin =
     refl (omega arith) (tt, omega arith) second
 
 -- and their answers
-questions_told : AreReplies rule_grammar one_text questions (codes "yes\nyes\nno\nrefused category\nrefused span 1\n")
+questions_told : AreTold rule_grammar one_text questions (codes "yes\nyes\nno\nrefused category\nrefused span 1\n")
 questions_told =
     let fifth = told (span_to 2) (codes "refused span 1\n") [] [] outside_reply refl in
     let fourth = told category_t (codes "refused category\n") (codes "refused span 1\n") (drop 4 questions) unknown_reply fifth in
