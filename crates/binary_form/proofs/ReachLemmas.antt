@@ -1,6 +1,5 @@
 -- What a symbol reaches by unit steps, and what its number reaches.
-use Rattle.std.proofs.Common.{◌≡◌, ℕ, ◌<◌, ◌↔◌, List, refl, sym, ◌∙◌, subst}
-use Rattle.spec_grammar.specs.declared.rule.Rule.{Rule}
+use Rattle.std.proofs.Common.{◌≡◌, ℕ, ◌<◌, ◌↔◌, refl, sym, ◌∙◌, subst}
 use Rattle.spec_grammar.specs.Grammars.{Grammar, HasOwnSymbols, symbol_count}
 use Rattle.binary_form.specs.Symbols.{BinarySymbol, IsBinarySymbolOf, symbol_number}
 use Rattle.binary_form.specs.UnitSteps.{UnitStep, whole_side, last_item, passed_item, Reaches}

@@ -14,8 +14,8 @@ use crate::numbering::{first_suffixes, symbol_count};
 use crate::rows::rows_of;
 use crate::steps::{longer_suffixes_of, unit_steps};
 use cell_sets::Cell;
-use numbered_grammar::Grammar;
 use number_graph::{Links, reached_from};
+use numbered_grammar::Grammar;
 use std::alloc::{AllocError, Global};
 
 /// The most symbols that a binary form has.

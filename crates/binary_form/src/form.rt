@@ -9,8 +9,8 @@ ghost use Rattle.binary_form.specs.declared.build.TheConstants.{MAX_SYMBOLS};
 
 use crate::product::{is_met, product_of};
 use cell_sets::Cell;
-use numbered_grammar::{Grammar, Symbol};
 use number_graph::Links;
+use numbered_grammar::{Grammar, Symbol};
 use sqlite_items::Items;
 use std::alloc::{AllocError, Global};
 use std::marker::Model;

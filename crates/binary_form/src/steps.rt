@@ -10,8 +10,8 @@ ghost use Rattle.binary_form.specs.RowLinks.{IsRowStep, AreUnitSteps};
 use crate::nullable::is_rest_nullable;
 use crate::numbering::plain_count;
 use crate::rows::SuffixRow;
-use numbered_grammar::Grammar;
 use number_graph::Links;
+use numbered_grammar::Grammar;
 use std::alloc::{AllocError, Global};
 
 /// Whether the suffix goes on behind its item, and the item derives the empty span.

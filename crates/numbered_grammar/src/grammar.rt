@@ -13,8 +13,8 @@ use spec_lexing::KindDef;
 use spec_text::Name;
 use std::marker::Model;
 
-/// An accepted grammar: its rules, categories and kinds, each numbered from 0. No category reaches
-/// itself by steps, and each has its rank.
+/// A grammar: its rules, categories and kinds, each numbered from 0. No category reaches itself by
+/// steps, and each has its rank.
 #[derive(Debug, Drop)]
 pub struct Grammar {
     parts: GrammarParts,
@@ -56,7 +56,7 @@ impl Grammar {
         }
     }
 
-    /// The rules, in file order. It takes no memory.
+    /// The rules, by number. It takes no memory.
     pub fn rules(&self) -> &[Rule]
         ensures items { result.now ≡ self.now.rules }
         ensures few { length self.now.rules < 2 ^ 16 }
@@ -67,14 +67,14 @@ impl Grammar {
         self.parts.rules()
     }
 
-    /// How many rules there are. They are numbered from 0, in file order. It takes no memory.
+    /// How many rules there are. It takes no memory.
     pub fn rule_count(&self) -> u16
         ensures { result ≡ length self.now.rules }
     {
         self.parts.rules().len() as u16
     }
 
-    /// The rule of this number, in file order. It takes no memory.
+    /// The rule of this number. It takes no memory.
     pub fn rule(&self, r: u16) -> &Rule
         requires { r < length self.now.rules }
         ensures { slice_get self.now.rules r ≡ Some result.now }
@@ -82,9 +82,7 @@ impl Grammar {
         &self.parts.rules()[r as usize]
     }
 
-    /// The symbol that is asked for where none is named: the first category of the first definition
-    /// of entry points, or else the category of the first rule. `None` where there are no rules and
-    /// no entry points. It takes no memory.
+    /// The symbol that is asked for where none is named, if there is one. It takes no memory.
     pub fn entry(&self) -> Option<Symbol>
         ensures entry { result ≡ self.now.entry }
         ensures own { IfSome result (IsSymbolOf self.now) }
@@ -92,17 +90,14 @@ impl Grammar {
         self.parts.entry()
     }
 
-    /// How many categories there are. `expand` numbers them from 0 as the rules meet them, in each
-    /// rule its own category first, and puts those that only internal rules have behind them;
-    /// `of_rules` keeps the numbers that it is given. It takes no memory.
+    /// How many categories there are. It takes no memory.
     pub fn category_count(&self) -> u16
         ensures { result ≡ length self.now.categories }
     {
         self.parts.category_count()
     }
 
-    /// The text of the category of this number, a list's in its brackets. Numbers are those that
-    /// `category_count` tells of. It takes no memory.
+    /// The text of the category of this number. It takes no memory.
     pub fn category_name(&self, c: u16) -> &Name
         requires { c < length self.now.categories }
         ensures { slice_get self.now.categories c ≡ Some result.now }
@@ -127,9 +122,7 @@ impl Grammar {
         self.ranks[c as usize]
     }
 
-    /// How many kinds of token there are. `expand` makes one for each word and numbers them from 0
-    /// as the rules meet the words; `of_rules` keeps the numbers that it is given. It takes no
-    /// memory.
+    /// How many kinds of token there are. It takes no memory.
     pub fn kind_count(&self) -> u16
         ensures { result ≡ length self.now.lexicon.kinds }
     {
@@ -144,8 +137,7 @@ impl Grammar {
         self.parts.kinds()
     }
 
-    /// The kind of this number, with its word. Numbers are those that `kind_count` tells of. It
-    /// takes no memory.
+    /// The kind of this number. It takes no memory.
     pub fn kind(&self, k: u16) -> &KindDef
         requires { k < length self.now.lexicon.kinds }
         ensures { slice_get self.now.lexicon.kinds k ≡ Some result.now }
@@ -153,9 +145,8 @@ impl Grammar {
         &self.parts.kinds()[k as usize]
     }
 
-    /// The category of this text, which is the first where several have it; in a grammar of
-    /// `expand` only one has. It compares the text with each name in turn, up to the first that is
-    /// the same, and takes no memory.
+    /// The category of this text, which is the first where several have it. It compares the text
+    /// with each name in turn, up to the first that is the same, and takes no memory.
     pub fn find(&self, text: &[u8]) -> Option<Symbol>
         ensures found { FindsCategory self.now.categories text.now result }
         ensures own { IfSome result (IsSymbolOf self.now) }
