@@ -5,10 +5,10 @@ use Rattle.spec_lbnf.specs.declared.token.PlacedToken.{PlacedToken}
 use Rattle.spec_lbnf.specs.FileTokens.{IsScan}
 use Rattle.lbnf_readers.specs.FileLaws.{RiseTo}
 use Rattle.spec_lbnf.specs.declared.fault.TextFault.{TextFault}
-use Rattle.spec_lbnf.specs.Faults.{IsFirstFault}
+use Rattle.spec_lbnf.specs.Faults.{IsSmallText, IsFirstFault}
 use Rattle.lbnf_readers.proofs.ScanLemmas.{offsets_rise}
 use Rattle.lbnf_text.specs.Faulting.{Reads}
-use Rattle.lbnf_text.specs.Reading.{IsSmallText, ReadsFile}
+use Rattle.lbnf_text.specs.Reading.{ReadsFile}
 
 -- offsets that rise are no more than the last of them
 few_offsets : (from : ℕ) (tokens : List PlacedToken) (stop : ℕ) → RiseTo from tokens stop → from + length tokens ≤ stop

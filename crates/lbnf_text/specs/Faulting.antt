@@ -5,7 +5,7 @@ use Rattle.spec_lbnf.specs.declared.token.FileToken.{FileToken}
 use Rattle.spec_lbnf.specs.declared.token.FileToken.TheVariants.{Identifier}
 use Rattle.spec_lbnf.specs.declared.fault.TextFault.{TextFault}
 use Rattle.spec_lbnf.specs.declared.fault.TextFault.TheVariants.{Memory, Syntax}
-use Rattle.spec_lbnf.specs.Faults.{piece_fault}
+use Rattle.lbnf_readers.specs.FileFaults.{piece_fault}
 use Rattle.lbnf_text.specs.declared.faults.Start.{Start}
 use Rattle.lbnf_text.specs.declared.faults.Start.TheVariants.{Nothing, Word, TwoWords, Other}
 
