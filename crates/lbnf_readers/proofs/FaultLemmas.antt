@@ -12,7 +12,7 @@ use Rattle.spec_lbnf.specs.declared.token.FileToken.{FileToken}
 use Rattle.spec_lbnf.specs.declared.token.FileToken.TheVariants.{Identifier, Number, Text, Character}
 use Rattle.spec_lbnf.specs.declared.token.FileToken.TheVariants.{Sign as SignToken}
 use Rattle.spec_lbnf.specs.declared.token.PlacedToken.{PlacedToken}
-use Rattle.spec_lbnf.specs.FileTokens.{IsScan, AreTokensTo, BeginsWith}
+use Rattle.spec_lbnf.specs.FileTokens.{IsScan, AreTokensTo, IsTokenBefore}
 use Rattle.spec_lbnf.specs.GrammarFile.{category_tokens, SpellsDefs, AreSpelledBy, pieces_of}
 use Rattle.spec_lbnf.specs.declared.fault.TextFault.{TextFault}
 use Rattle.spec_lbnf.specs.declared.fault.TextFault.TheVariants.{NotUtf8, Syntax, TooLarge}
@@ -196,7 +196,7 @@ scan_short size bytes [] stop scan = tt
 scan_short size bytes (token ∷ tokens) stop scan =
     (short token.token scan.0 scan.1 scan.4, scan_short size scan.1 tokens stop scan.5)
   where
-    short : (t : FileToken) (here rest : List ℕ) → BeginsWith t here rest → IsShort t
+    short : (t : FileToken) (here rest : List ℕ) → IsTokenBefore t here rest → IsShort t
     short (Identifier name) here rest is = is.0.short
     short (Number value) here rest is = tt
     short (Text value) here rest is = tt

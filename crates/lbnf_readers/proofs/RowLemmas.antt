@@ -13,7 +13,7 @@ use Rattle.spec_lbnf.specs.declared.token.FileToken.{FileToken}
 use Rattle.spec_lbnf.specs.declared.token.FileToken.TheVariants.{Identifier}
 use Rattle.spec_lbnf.specs.declared.token.FileToken.TheVariants.{Sign as SignToken}
 use Rattle.spec_lbnf.specs.declared.token.PlacedToken.{PlacedToken}
-use Rattle.spec_lbnf.specs.FileBytes.{starts_upper}
+use Rattle.spec_lbnf.specs.GrammarFile.{starts_upper}
 use Rattle.spec_lbnf.specs.GrammarFile.{SpellsDefs, pieces_of, keyword}
 use Rattle.spec_lbnf.specs.Faults.{bare, CanGoOn, LacksLong, unbuilt_words, last_piece, IsLeftOut, unbuilt_form, first_word, lower_label, label_bracket, LeavesOut, IsFirstLong, StopsAt, FaultAt, long_category, left_out, misplaced, no_token, early_end}
 use Rattle.lbnf_readers.specs.FileFaults.{word_fault, piece_fault, token_fault}

@@ -8,7 +8,7 @@ use Rattle.spec_lbnf.specs.declared.token.Sign.TheVariants.{OpenParen}
 use Rattle.spec_lbnf.specs.declared.token.FileToken.{FileToken}
 use Rattle.spec_lbnf.specs.declared.token.FileToken.TheVariants.{Identifier}
 use Rattle.spec_lbnf.specs.declared.token.FileToken.TheVariants.{Sign as SignToken}
-use Rattle.spec_lbnf.specs.FileBytes.{starts_upper}
+use Rattle.spec_lbnf.specs.GrammarFile.{starts_upper}
 use Rattle.spec_lbnf.specs.GrammarFile.{pieces_of}
 use Rattle.spec_lbnf.specs.Faults.{unbuilt_words, last_piece}
 

@@ -6,7 +6,7 @@ use Rattle.spec_grammar.specs.Cycles.{IsAcyclic}
 use Rattle.spec_lbnf.specs.declared.definition.Def.{Def}
 use Rattle.spec_lbnf.specs.declared.fault.GrammarFault.{GrammarFault}
 use Rattle.spec_lbnf.specs.Faults.{Spells}
-use Rattle.spec_lbnf.specs.Limits.{size_of, AreWithinLimits}
+use Rattle.spec_lbnf.specs.Limits.{size_of, AreFewAndSmall}
 use Rattle.spec_lbnf.specs.Expansion.{Expansion, distinct, number_of, expansion_of, HasOwnSymbols}
 use Rattle.spec_lbnf.specs.Expansion.{IsSymbolOf}
 use Rattle.spec_lbnf.specs.Checks.{AreAllKnown, IsFirstCyclic, AreFit, IsUnfit}
@@ -63,4 +63,4 @@ TwoBytesForEach =
 
 -- what a file spells is within the limits
 abbrev pub DefsWithinLimits : Type 0
-DefsWithinLimits = (bytes : List ℕ) (defs : List Def) → Spells bytes defs → AreWithinLimits defs
+DefsWithinLimits = (bytes : List ℕ) (defs : List Def) → Spells bytes defs → AreFewAndSmall defs
