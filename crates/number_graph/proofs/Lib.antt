@@ -1,4 +1,3 @@
 pub mod LinkLemmas
 pub mod FlagLemmas
 pub mod ReachLemmas
-pub mod CycleLemmas

@@ -1,7 +1,7 @@
 -- Serves the proofs alone. The search that flags what a number reaches.
 use Rattle.std.specs.Prelude.{◌≡◌, ℕ, suc, ◌*◌, ◌+◌, ◌≤◌, ◌⊎◌, List, [], ◌∷◌, Bool, true, false}
 use Rattle.std.specs.Prelude.{length, Contains}
-use Rattle.number_graph.specs.Graphs.{HasLink, NumberReaches, IsSet}
+use Rattle.number_graph.specs.Graphs.{HasLink, IsReachedFromAny, IsSet}
 
 -- how many flags are clear
 abbrev pub clear_count : List Bool → ℕ
@@ -26,11 +26,11 @@ pub record SetsFlags (targets : List ℕ) (old new : List Bool) (old_waiting wai
 
 -- a search is under way: what has a flag is reached, what waits has one, and what has one and
 -- does not wait is linked to numbers that have one
-pub record IsSearch (links : List (List ℕ)) (from : ℕ) (flags : List Bool) (waiting : List ℕ)
+pub record IsSearch (links : List (List ℕ)) (starts : List ℕ) (flags : List Bool) (waiting : List ℕ)
     : Type 0 where
   pub count : length flags ≡ length links
-  pub start : IsSet flags from
-  pub sound : (n : ℕ) → IsSet flags n → NumberReaches (HasLink links) from n
+  pub begun : (n : ℕ) → Contains starts n → IsSet flags n
+  pub sound : (n : ℕ) → IsSet flags n → IsReachedFromAny links starts n
   pub all_set : (n : ℕ) → Contains waiting n → IsSet flags n
   pub closed : (m : ℕ) → IsSet flags m
       → Contains waiting m ⊎ ((n : ℕ) → HasLink links m n → IsSet flags n)

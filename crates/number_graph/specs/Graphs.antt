@@ -2,10 +2,15 @@
 -- it is linked to.
 use Rattle.std.specs.Prelude.{◌≡◌, ℕ, ◌<◌, ◌↔◌, ◌⊎◌, List, [], Bool, false, IsTrue, length}
 use Rattle.std.specs.Prelude.{slice_index_or, replicate, Contains}
+use Rattle.cell_sets.specs.Cells.{IsRising}
 
 -- the first number is linked to the second
 abbrev pub HasLink : List (List ℕ) → ℕ → ℕ → Type 0
 HasLink links m n = Contains (slice_index_or links m []) n
+
+-- the numbers that a number is linked to are in rising order, so that each of them is there once
+abbrev pub AreRising : List (List ℕ) → Type 0
+AreRising links = (m : ℕ) → IsRising (slice_index_or links m [])
 
 -- the new links are the old ones and these
 pub record AddsLinks (Added : ℕ → ℕ → Type 0) (old new : List (List ℕ)) : Type 0 where
@@ -33,10 +38,24 @@ pub data NumberReaches (Step : ℕ → ℕ → Type 0) : ℕ → ℕ → Type 0 
 abbrev pub IsSet : List Bool → ℕ → Type 0
 IsSet flags n = IsTrue (slice_index_or flags n false)
 
+-- so many numbers have a flag each, which is set exactly where this holds of the number
+pub record AreFlagsOf (total : ℕ) (Holds : ℕ → Type 0) (flags : List Bool) : Type 0 where
+  pub count : length flags ≡ total
+  pub exact : (n : ℕ) → IsSet flags n ↔ Holds n
+
 -- each number has a flag, which is set exactly where the number is reached by links
-pub record AreReachedFlags (links : List (List ℕ)) (from : ℕ) (flags : List Bool) : Type 0 where
-  pub count : length flags ≡ length links
-  pub exact : (n : ℕ) → IsSet flags n ↔ NumberReaches (HasLink links) from n
+abbrev pub AreReachedFlags : List (List ℕ) → ℕ → List Bool → Type 0
+AreReachedFlags links from flags = AreFlagsOf (length links) (NumberReaches (HasLink links) from) flags
+
+-- links lead to the number from one of these
+abbrev pub IsReachedFromAny : List (List ℕ) → List ℕ → ℕ → Type 0
+IsReachedFromAny links starts n =
+    (m : ℕ) × Contains starts m × NumberReaches (HasLink links) m n
+
+-- each number has a flag, which is set exactly where it is reached by links from one of these
+abbrev pub AreFlagsFromAny : List (List ℕ) → List ℕ → List Bool → Type 0
+AreFlagsFromAny links starts flags =
+    AreFlagsOf (length links) (IsReachedFromAny links starts) flags
 
 -- the number reaches itself by one link or more
 abbrev pub IsOnCycle : List (List ℕ) → ℕ → Type 0

@@ -5,7 +5,7 @@ mod closure;
 mod cycle;
 mod links;
 
-pub use closure::reached_from;
+pub use closure::{reached_from, reached_from_any};
 pub use cycle::reaches_itself;
 pub use links::Links;
 

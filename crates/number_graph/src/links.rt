@@ -3,22 +3,26 @@ ghost use Rattle.std.specs.Prelude.{◌≡◌, ◌<◌, [], length, slice_index_
 ghost use Rattle.std.specs.Prelude.{IfOk, OnOk, OnErr};
 ghost use Rattle.number_graph.specs.Graphs.{AddsLink, AddsLinks, AreNoLinks};
 
-use sqlite_items::Items;
+use cell_sets::{Cell, ListCell};
 use std::alloc::{AllocError, Global};
 use std::marker::Model;
 
-/// For each number, the numbers that it is linked to.
-#[derive(Debug, Drop)]
+/// For each number, the numbers that it is linked to, in rising order.
+#[derive(Drop)]
 pub struct Links {
-    lists: Vec<Items<u16>>,
+    alloc: Global,
+    lists: Vec<ListCell>,
 }
 
 impl Model for Links {
     ghost use Rattle.std.specs.Prelude.{List, ℕ};
+    ghost use Rattle.number_graph.specs.Graphs.{AreRising};
 
     ghost Value = { List (List ℕ) };
 
     ghost view = { λ links. links.lists.items };
+
+    ghost invariant = { λ links. AreRising links.lists.items };
 }
 
 impl Links {
@@ -28,9 +32,9 @@ impl Links {
     {
         let mut lists = Vec::with_capacity(alloc, count)?;
         for _number in 0..count {
-            lists.push(Items::new(alloc))?;
+            lists.push(ListCell::empty())?;
         }
-        Ok(Links { lists })
+        Ok(Links { alloc, lists })
     }
 
     /// How many numbers there are.
@@ -40,7 +44,7 @@ impl Links {
         self.lists.len()
     }
 
-    /// The numbers that this one is linked to.
+    /// The numbers that this one is linked to, each once, in rising order.
     pub fn from(&self, number: u16) -> &[u16]
         requires { number < length self.now }
         ensures { result.now ≡ slice_index_or self.now number [] }
@@ -48,13 +52,14 @@ impl Links {
         self.lists[number as usize].as_slice()
     }
 
-    /// Links one number to another.
+    /// Links one number to another. Where they are linked already, nothing changes.
     pub fn add(&mut self, from: u16, to: u16) -> Result<(), AllocError>
         requires { from < length self.old }
         ensures ok { OnOk result (AddsLink self.old self.new from to) }
         ensures err { OnErr result (self.new ≡ self.old) }
     {
-        self.lists[from as usize].push(to)
+        self.lists[from as usize].insert(self.alloc, to)?;
+        Ok(())
     }
 
     /// Links one number to another where the test holds.

@@ -1,5 +1,5 @@
 //! Small graphs, with what their numbers reach by hand.
-ghost use Rattle.std.specs.Prelude.{◌≡◌, ◌<◌, length, IfOk, OnOk};
+ghost use Rattle.std.specs.Prelude.{◌≡◌, ℕ, ◌<◌, length, Contains, IfOk, OnOk};
 ghost use Rattle.number_graph.specs.Graphs.{AreLinksWithin};
 
 use super::*;
@@ -41,6 +41,14 @@ fn reached(
     reached_from(alloc, &links, from)
 }
 
+/// Whether one of the starts reaches each number of a graph of four.
+fn reached_by(alloc: Global, pairs: &[(u16, u16)], starts: &[u16]) -> Result<Vec<bool>, AllocError>
+    requires { (n : ℕ) → Contains starts.now n → n < 4 }
+{
+    let links = links_of(alloc, 4, pairs)?;
+    reached_from_any(alloc, &links, starts)
+}
+
 /// Whether each number of a graph of four reaches itself.
 fn on_cycles(alloc: Global, pairs: &[(u16, u16)]) -> Result<Vec<bool>, AllocError> {
     let links = links_of(alloc, 4, pairs)?;
@@ -62,12 +70,13 @@ fn linked(alloc: Global, pairs: &[(u16, u16)]) -> Result<Vec<u16>, AllocError> {
 }
 
 #[test]
-fn links_stay_in_the_order_in_which_they_are_added(rt: HostRuntime) -> Result<(), Fail> {
-    let cases: [(&[(u16, u16)], &[u16]); 4] = [
+fn each_link_is_kept_once_in_rising_order(rt: HostRuntime) -> Result<(), Fail> {
+    let cases: [(&[(u16, u16)], &[u16]); 5] = [
         (&[], &[]),
-        (&[(1, 2), (1, 0)], &[2, 0]),
+        (&[(1, 2), (1, 0)], &[0, 2]),
         (&[(2, 0), (0, 1), (2, 2)], &[1, 0, 2]),
-        (&[(1, 1), (1, 1)], &[1, 1]),
+        (&[(1, 1), (1, 1)], &[1]),
+        (&[(0, 2), (0, 0), (0, 1), (0, 2), (0, 0)], &[0, 1, 2]),
     ];
     for (place, (pairs, want)) in cases.iter().enumerate() {
         let all = linked(rt.alloc(), pairs)?;
@@ -94,6 +103,18 @@ fn a_number_reaches_itself_and_what_links_lead_to(rt: HostRuntime) -> Result<(),
         let flags = reached(rt.alloc(), 4, pairs, *from)?;
         assert_eq!(rt; flags.as_slice(), want.as_slice(), "at {place}");
     }
+    Ok(())
+}
+
+#[test]
+fn what_any_of_the_starts_leads_to_is_reached(rt: HostRuntime) -> Result<(), Fail> {
+    let fork: &[(u16, u16)] = &[(0, 3), (0, 2), (2, 2)];
+    let none = reached_by(rt.alloc(), fork, &[])?;
+    assert_eq!(rt; none.as_slice(), [false, false, false, false].as_slice());
+    let both = reached_by(rt.alloc(), fork, &[1, 2])?;
+    assert_eq!(rt; both.as_slice(), [false, true, true, false].as_slice());
+    let twice = reached_by(rt.alloc(), fork, &[2, 0, 2])?;
+    assert_eq!(rt; twice.as_slice(), [true, false, true, true].as_slice());
     Ok(())
 }
 
