@@ -12,6 +12,11 @@ use Rattle.number_graph.specs.Graphs.{HasLink, AddsLinks, AddsLink, AreLinksWith
 pub Contains-one : (x y : ℕ) → Contains (x ∷ []) y → y ≡ x
 Contains-one x y (n, within, is) = grind (arith, is, within)
 
+-- what stands at a place of a list is in it
+pub stands_at : (xs : List ℕ) (place : ℕ) → place < length xs → Contains xs (slice_index_or xs place 0)
+stands_at xs place within =
+    (place, within, get_or_default xs place (slice_index_or xs place 0) 0 within)
+
 module _ (links : List (List ℕ)) (from to : ℕ) (old list : List ℕ) (within : from < length links)
     (is_old : old ≡ slice_index_or links from old) (adds : AddsSymbol old list to) where
   -- what the list of the number held before the link

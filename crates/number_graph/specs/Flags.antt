@@ -1,6 +1,6 @@
 -- Serves the proofs alone. The search that flags what a number reaches.
-use Rattle.std.specs.Prelude.{◌≡◌, ℕ, suc, ◌*◌, ◌+◌, ◌≤◌, ◌⊎◌, List, [], ◌∷◌, Bool, true, false}
-use Rattle.std.specs.Prelude.{length, Contains}
+use Rattle.std.specs.Prelude.{◌≡◌, ℕ, suc, ◌*◌, ◌+◌, ◌≤◌, ◌⊎◌, List, [], ◌∷◌, ◌++◌, Bool, true, false}
+use Rattle.std.specs.Prelude.{length, slice_index_or, slice_set, Contains}
 use Rattle.number_graph.specs.Graphs.{HasLink, IsReachedFromAny, IsSet}
 
 -- how many flags are clear
@@ -12,6 +12,13 @@ clear_count (false ∷ flags) = suc (clear_count flags)
 -- how much a search has left to do: two steps for each clear flag, one for each number that waits
 abbrev pub work_left : List Bool → List ℕ → ℕ
 work_left flags waiting = 2 * clear_count flags + length waiting
+
+-- the number had its flag and nothing is changed, or it gets its flag and stands behind the others
+abbrev pub FlagsOne : ℕ → List Bool → List Bool → List ℕ → List ℕ → Type 0
+FlagsOne target flags new order longer =
+    (IsSet flags target × (new ≡ flags) × (longer ≡ order))
+    ⊎ ((slice_index_or flags target false ≡ false) × (new ≡ slice_set flags target true)
+    × (longer ≡ order ++ target ∷ []))
 
 -- these numbers have their flags, and those that had none wait
 pub record SetsFlags (targets : List ℕ) (old new : List Bool) (old_waiting waiting : List ℕ)

@@ -1,2 +1,5 @@
 pub mod Graphs
 pub mod Flags
+pub mod Derivations
+pub mod Chains
+pub mod HeightSteps

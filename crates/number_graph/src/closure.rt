@@ -1,15 +1,21 @@
 //! What a number reaches by links.
 ghost use Rattle.std.specs.Prelude.{ℕ, ◌<◌, ◌∷◌, [], length, Contains, IfOk, OnOk};
 ghost use Rattle.number_graph.specs.Graphs.{AreFlagsFromAny, AreLinksWithin, AreReachedFlags};
-ghost use Rattle.number_graph.specs.Flags.{SetsFlags};
+ghost use Rattle.number_graph.specs.Flags.{FlagsOne, SetsFlags};
 
 use crate::links::Links;
 use std::alloc::{AllocError, Global};
 
 /// Flags the number, which then waits to be looked at, unless it has its flag.
-fn flag(target: u16, flags: &mut Vec<bool>, waiting: &mut Vec<u16>) -> Result<(), AllocError>
+pub(crate) fn flag(
+    target: u16,
+    flags: &mut Vec<bool>,
+    waiting: &mut Vec<u16>,
+) -> Result<(), AllocError>
     requires { target < length flags.old.items }
-    ensures { OnOk result (SetsFlags (target ∷ [])
+    ensures sets { OnOk result (SetsFlags (target ∷ [])
+        flags.old.items flags.new.items waiting.old.items waiting.new.items) }
+    ensures one { OnOk result (FlagsOne target
         flags.old.items flags.new.items waiting.old.items waiting.new.items) }
 {
     if flags[target as usize] {

@@ -49,7 +49,15 @@ impl Links {
         requires { number < length self.now }
         ensures { result.now ≡ slice_index_or self.now number [] }
     {
-        self.lists[number as usize].as_slice()
+        self.list(number as usize)
+    }
+
+    /// The numbers that the one at this place is linked to, each once, in rising order.
+    pub(crate) fn list(&self, place: usize) -> &[u16]
+        requires { place < length self.now }
+        ensures { result.now ≡ slice_index_or self.now place [] }
+    {
+        self.lists[place].as_slice()
     }
 
     /// Links one number to another. Where they are linked already, nothing changes.

@@ -59,6 +59,19 @@ fn on_cycles(alloc: Global, pairs: &[(u16, u16)]) -> Result<Vec<bool>, AllocErro
     Ok(answers)
 }
 
+/// The heights of the numbers of a graph of five.
+fn heights_of(alloc: Global, pairs: &[(u16, u16)]) -> Result<Vec<Option<u16>>, AllocError> {
+    let links = links_of(alloc, 5, pairs)?;
+    heights(alloc, &links)
+}
+
+/// The least number of a graph of five that reaches itself.
+fn least(alloc: Global, pairs: &[(u16, u16)]) -> Result<Option<u16>, AllocError> {
+    let links = links_of(alloc, 5, pairs)?;
+    let told = heights(alloc, &links)?;
+    least_on_cycle(alloc, &links, told.as_slice())
+}
+
 /// The numbers that each number of a graph of three is linked to, one after another.
 fn linked(alloc: Global, pairs: &[(u16, u16)]) -> Result<Vec<u16>, AllocError> {
     let links = links_of(alloc, 3, pairs)?;
@@ -130,6 +143,50 @@ fn a_number_on_a_cycle_reaches_itself(rt: HostRuntime) -> Result<(), Fail> {
     for (place, (pairs, want)) in cases.iter().enumerate() {
         let answers = on_cycles(rt.alloc(), pairs)?;
         assert_eq!(rt; answers.as_slice(), want.as_slice(), "at {place}");
+    }
+    Ok(())
+}
+
+#[test]
+fn the_longest_chain_from_each_number_is_measured(rt: HostRuntime) -> Result<(), Fail> {
+    let cases: [(&[(u16, u16)], [Option<u16>; 5]); 5] = [
+        (&[], [Some(0), Some(0), Some(0), Some(0), Some(0)]),
+        (
+            &[(0, 1), (1, 2), (2, 3), (3, 4)],
+            [Some(4), Some(3), Some(2), Some(1), Some(0)],
+        ),
+        (
+            &[(4, 3), (4, 0), (3, 2), (2, 0), (1, 0), (4, 3)],
+            [Some(0), Some(1), Some(1), Some(2), Some(3)],
+        ),
+        (
+            &[(0, 1), (1, 2), (2, 1), (3, 4), (2, 3)],
+            [None, None, None, Some(1), Some(0)],
+        ),
+        (
+            &[(2, 2), (3, 2), (0, 4)],
+            [Some(1), Some(0), None, None, Some(0)],
+        ),
+    ];
+    for (place, (pairs, want)) in cases.iter().enumerate() {
+        let told = heights_of(rt.alloc(), pairs)?;
+        assert_eq!(rt; told.as_slice(), want.as_slice(), "at {place}");
+    }
+    Ok(())
+}
+
+#[test]
+fn the_least_number_on_a_cycle_is_told(rt: HostRuntime) -> Result<(), Fail> {
+    let cases: [(&[(u16, u16)], Option<u16>); 5] = [
+        (&[], None),
+        (&[(0, 1), (1, 2), (2, 3), (3, 4), (0, 4)], None),
+        (&[(0, 1), (1, 2), (2, 1), (4, 4)], Some(1)),
+        (&[(0, 3), (3, 4), (4, 3)], Some(3)),
+        (&[(4, 0), (0, 4)], Some(0)),
+    ];
+    for (pairs, want) in &cases {
+        let found = least(rt.alloc(), pairs)?;
+        assert_eq!(rt; found, *want);
     }
     Ok(())
 }
