@@ -4,3 +4,4 @@ pub mod ReachLemmas
 pub mod DerivationLemmas
 pub mod ChainLemmas
 pub mod HeightLemmas
+pub mod ImplicationLemmas

@@ -1,12 +1,13 @@
 -- What one link more changes.
-use Rattle.std.proofs.Common.{◌≡◌, ◌≢◌, ℕ, zero, suc, ◌<◌, ◌↔◌, ◌⊎◌, inl, inr, List, [], ◌∷◌, Bool, IsTrue, length, slice_set, replicate}
+use Rattle.std.proofs.Common.{◌≡◌, ◌≢◌, ℕ, zero, suc, ◌<◌, ◌↔◌, ◌⊎◌, inl, inr, List, [], ◌∷◌, ◌++◌, Bool, IsTrue, length, slice_set, replicate}
 use Rattle.std.proofs.Common.{slice_index_or, sym, ap, ◌∙◌, arith, length-set, get_or-set_other, subst}
 use Rattle.std.specs.List.{Contains}
 use Rattle.std.proofs.lemmas.Bool.{cases_eq, cases_lt}
-use Rattle.std.proofs.lemmas.List.{get_or_default, get_or_past}
+use Rattle.std.proofs.lemmas.List.{get_or_default, get_or_past, get_or_append_left, get_or_push, length_push}
+use Rattle.std.proofs.lemmas.List.Elements.{Contains-append_left, Contains-push, Contains-push_cases}
 use Rattle.std.proofs.lemmas.Grind.{get_or-set_at}
 use Rattle.cell_sets.specs.Cells.{AddsSymbol}
-use Rattle.number_graph.specs.Graphs.{HasLink, AddsLinks, AddsLink, AreLinksWithin}
+use Rattle.number_graph.specs.Graphs.{HasLink, AddsLinks, AddsLink, AreLinksWithin, PushesLinks}
 
 -- the one member of a list of one
 pub Contains-one : (x y : ℕ) → Contains (x ∷ []) y → y ≡ x
@@ -157,3 +158,52 @@ added_within old new from to adds below within m n has = elim ((adds.links m n).
       omega (arith, is, adds.count)
   | inr added ↦ omega (arith, added.1, below, adds.count)
 ]
+
+-- where a list of numbers is put behind the others, one number more is linked to these
+pub pushes_links :
+    (links : List (List ℕ)) (targets list : List ℕ)
+    → ((n : ℕ) → Contains list n ↔ Contains targets n) → PushesLinks links (links ++ list ∷ []) targets
+pushes_links links targets list alike = record {
+  count = length_push links list;
+  links = λ m n. (new_one m n, old_one m n);
+}
+  where
+    new_one :
+        (m n : ℕ) → HasLink (links ++ list ∷ []) m n
+        → HasLink links m n ⊎ ((m ≡ length links) × Contains targets n)
+    new_one m n has = elim (cases_lt m (length links)) [
+      | inl within ↦
+          let P : List ℕ → Type 0 = λ xs. Contains xs n in
+          inl (subst P (get_or_append_left links (list ∷ []) [] m within) has)
+      | inr past ↦
+          let P : List ℕ → Type 0 = λ xs. Contains xs n in
+          let short : m < length (links ++ list ∷ []) = link_within (links ++ list ∷ []) m n has in
+          let same : length links ≡ m = omega (arith, short, past, length_push links list) in
+          inr (sym same, (alike n).0 (subst P (get_or_push links list [] m same) has))
+    ]
+
+    old_one :
+        (m n : ℕ) → HasLink links m n ⊎ ((m ≡ length links) × Contains targets n)
+        → HasLink (links ++ list ∷ []) m n
+    old_one m n (inl has) =
+        let P : List ℕ → Type 0 = λ xs. Contains xs n in
+        subst P (sym (get_or_append_left links (list ∷ []) [] m (link_within links m n has))) has
+    old_one m n (inr (same, has)) =
+        let P : List ℕ → Type 0 = λ xs. Contains xs n in
+        subst P (sym (get_or_push links list [] m (sym same))) ((alike n).1 has)
+
+-- one number more in a list that has the same members as a front of another
+pub alike_more :
+    (targets old new : List ℕ) (target : ℕ)
+    → ((n : ℕ) → Contains old n ↔ Contains targets n) → AddsSymbol old new target
+    → (n : ℕ) → Contains new n ↔ Contains (targets ++ target ∷ []) n
+alike_more targets old new target alike adds n = (
+  (λ has. elim ((adds n).0 has) [
+    | inl before ↦ Contains-append_left targets (target ∷ []) n ((alike n).0 before)
+    | inr same ↦ subst (Contains (targets ++ target ∷ [])) (sym same) (Contains-push targets target)
+  ]),
+  (λ has. elim (Contains-push_cases targets target n has) [
+    | inl before ↦ (adds n).1 (inl ((alike n).1 before))
+    | inr same ↦ (adds n).1 (inr (sym same))
+  ]),
+)

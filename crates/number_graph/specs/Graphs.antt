@@ -1,6 +1,6 @@
 -- Numbers linked to numbers, and what reaches what. Links are a list for each number, of those that
 -- it is linked to.
-use Rattle.std.specs.Prelude.{◌≡◌, ℕ, ◌<◌, ◌↔◌, ◌⊎◌, List, [], Bool, false, IsTrue, length}
+use Rattle.std.specs.Prelude.{◌≡◌, ℕ, ◌+◌, ◌<◌, ◌↔◌, ◌⊎◌, List, [], Bool, false, IsTrue, length}
 use Rattle.std.specs.Prelude.{slice_index_or, replicate, Contains}
 use Rattle.cell_sets.specs.Cells.{IsRising}
 
@@ -20,6 +20,12 @@ pub record AddsLinks (Added : ℕ → ℕ → Type 0) (old new : List (List ℕ)
 -- the new links are the old ones and one more
 abbrev pub AddsLink : List (List ℕ) → List (List ℕ) → ℕ → ℕ → Type 0
 AddsLink old new from to = AddsLinks (λ m n. (m ≡ from) × (n ≡ to)) old new
+
+-- there is one number more, and it is linked to these; the other links are as they were
+pub record PushesLinks (old new : List (List ℕ)) (targets : List ℕ) : Type 0 where
+  pub count : length new ≡ length old + 1
+  pub links : (m n : ℕ)
+      → HasLink new m n ↔ (HasLink old m n ⊎ ((m ≡ length old) × Contains targets n))
 
 -- there are so many numbers, and no links among them
 abbrev pub AreNoLinks : ℕ → List (List ℕ) → Type 0

@@ -3,3 +3,4 @@ pub mod Flags
 pub mod Derivations
 pub mod Chains
 pub mod HeightSteps
+pub mod Implications

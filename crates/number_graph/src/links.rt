@@ -1,11 +1,22 @@
 //! Links from numbers to numbers.
-ghost use Rattle.std.specs.Prelude.{◌≡◌, ◌<◌, [], length, slice_index_or, IsTrue};
+ghost use Rattle.std.specs.Prelude.{◌≡◌, ℕ, ◌<◌, ◌↔◌, [], length, Contains, slice_index_or, IsTrue};
 ghost use Rattle.std.specs.Prelude.{IfOk, OnOk, OnErr};
-ghost use Rattle.number_graph.specs.Graphs.{AddsLink, AddsLinks, AreNoLinks};
+ghost use Rattle.number_graph.specs.Graphs.{AddsLink, AddsLinks, AreNoLinks, PushesLinks};
 
 use cell_sets::{Cell, ListCell};
 use std::alloc::{AllocError, Global};
 use std::marker::Model;
+
+/// A list of these numbers in rising order, each once.
+fn cell_of(alloc: Global, numbers: &[u16]) -> Result<ListCell, AllocError>
+    ensures { IfOk result (λ cell. (n : ℕ) → Contains cell n ↔ Contains numbers.now n) }
+{
+    let mut cell = ListCell::empty();
+    for number in numbers {
+        cell.insert(alloc, *number)?;
+    }
+    Ok(cell)
+}
 
 /// For each number, the numbers that it is linked to, in rising order.
 #[derive(Drop)]
@@ -80,6 +91,16 @@ impl Links {
         if test {
             self.add(from, to)?;
         }
+        Ok(())
+    }
+
+    /// One number more, and links from it to these.
+    pub(crate) fn push(&mut self, targets: &[u16]) -> Result<(), AllocError>
+        ensures ok { OnOk result (PushesLinks self.old self.new targets.now) }
+        ensures err { OnErr result (self.new ≡ self.old) }
+    {
+        let cell = cell_of(self.alloc, targets)?;
+        self.lists.push(cell)?;
         Ok(())
     }
 }

@@ -1,6 +1,7 @@
 //! Small graphs, with what their numbers reach by hand.
-ghost use Rattle.std.specs.Prelude.{◌≡◌, ℕ, ◌<◌, length, Contains, IfOk, OnOk};
+ghost use Rattle.std.specs.Prelude.{◌≡◌, ℕ, ◌<◌, length, Contains, IsTrue, IfOk, OnOk};
 ghost use Rattle.number_graph.specs.Graphs.{AreLinksWithin};
+ghost use Rattle.number_graph.specs.Implications.{AreImplicationsWithin};
 
 use super::*;
 use std::alloc::{AllocError, Global};
@@ -70,6 +71,44 @@ fn least(alloc: Global, pairs: &[(u16, u16)]) -> Result<Option<u16>, AllocError>
     let links = links_of(alloc, 5, pairs)?;
     let told = heights(alloc, &links)?;
     least_on_cycle(alloc, &links, told.as_slice())
+}
+
+fn are_below(numbers: &[u16], total: usize) -> bool
+    ensures { IsTrue result → (n : ℕ) → Contains numbers.now n → n < total }
+{
+    for number in numbers {
+        if *number as usize >= total {
+            return false;
+        }
+    }
+    true
+}
+
+/// Adds the implication where its numbers are below the total.
+fn add_within(
+    implications: &mut Implications,
+    total: usize,
+    premises: &[u16],
+    conclusion: u16,
+) -> Result<(), AllocError>
+    requires { AreImplicationsWithin total implications.old }
+    ensures { OnOk result (AreImplicationsWithin total implications.new) }
+{
+    if are_below(premises, total) {
+        if (conclusion as usize) < total {
+            implications.add(premises, conclusion)?;
+        }
+    }
+    Ok(())
+}
+
+/// For each of six numbers, whether it follows from the implications.
+fn following(alloc: Global, pairs: &[(&[u16], u16)]) -> Result<Vec<bool>, AllocError> {
+    let mut implications = Implications::new(alloc)?;
+    for pair in pairs {
+        add_within(&mut implications, 6, pair.0, pair.1)?;
+    }
+    consequences(alloc, 6, &implications)
 }
 
 /// The numbers that each number of a graph of three is linked to, one after another.
@@ -187,6 +226,26 @@ fn the_least_number_on_a_cycle_is_told(rt: HostRuntime) -> Result<(), Fail> {
     for (pairs, want) in &cases {
         let found = least(rt.alloc(), pairs)?;
         assert_eq!(rt; found, *want);
+    }
+    Ok(())
+}
+
+#[test]
+fn a_conclusion_follows_once_all_its_premises_do(rt: HostRuntime) -> Result<(), Fail> {
+    let chain: &[(&[u16], u16)] = &[(&[4], 5), (&[3], 4), (&[2], 3), (&[], 2)];
+    let missing: &[(&[u16], u16)] = &[(&[], 0), (&[], 1), (&[0, 2, 1], 3), (&[1, 0, 1], 4)];
+    let circle: &[(&[u16], u16)] = &[(&[0], 1), (&[1], 0), (&[1, 2], 3), (&[], 2)];
+    let either: &[(&[u16], u16)] = &[(&[0], 5), (&[1], 5), (&[5, 1], 2), (&[], 1), (&[5], 0)];
+    let cases: [(&[(&[u16], u16)], [bool; 6]); 5] = [
+        (&[], [false, false, false, false, false, false]),
+        (chain, [false, false, true, true, true, true]),
+        (missing, [true, true, false, false, true, false]),
+        (circle, [false, false, true, false, false, false]),
+        (either, [true, true, true, false, false, true]),
+    ];
+    for (place, (pairs, want)) in cases.iter().enumerate() {
+        let flags = following(rt.alloc(), pairs)?;
+        assert_eq!(rt; flags.as_slice(), want.as_slice(), "at {place}");
     }
     Ok(())
 }
