@@ -19,7 +19,7 @@ use crate::macros::rules_of;
 use crate::numbering::numbered_rules;
 use crate::parts::GrammarParts;
 use crate::tables::{Tables, tables_of};
-use lbnf_text::{Def, Defs, RawRule, copy_name};
+use lbnf_text::{Def, Defs, RawRule};
 use spec_lbnf::GrammarFault;
 use spec_lexing::KindDef;
 use spec_text::Name;
@@ -73,7 +73,7 @@ fn cyclic(alloc: Global, parts: &GrammarParts, category: u16) -> GrammarFault
     requires first { IsLeastCyclic parts.now category }
     ensures { IsSuchOrMemory (AtCycleOf parts.now) result }
 {
-    match copy_name(alloc, &parts.categories()[category as usize]) {
+    match parts.categories()[category as usize].copy(alloc) {
         Ok(name) => GrammarFault::Cyclic { name },
         Err(_) => GrammarFault::Memory,
     }
