@@ -13,7 +13,6 @@ ghost use Rattle.lbnf_grammar.specs.Checking.{Checks, IsListed, IsUnlisted};
 
 use crate::names::Names;
 use crate::naming::{all_own_categories, named_categories};
-use lbnf_text::copy_name;
 use spec_lbnf::{Def, GrammarFault};
 use spec_text::Name;
 use std::alloc::Global;
@@ -45,7 +44,7 @@ fn first_predefined(names: &[Name]) -> Option<&Name>
 fn repeated(alloc: Global, name: &Name) -> GrammarFault
     ensures { IsSuchOrMemory (λ why. why ≡ GrammarFault.RepeatedToken name.now) result }
 {
-    match copy_name(alloc, name) {
+    match name.copy(alloc) {
         Ok(name) => GrammarFault::RepeatedToken { name },
         Err(_) => GrammarFault::Memory,
     }
@@ -91,7 +90,7 @@ fn unknown(alloc: Global, name: &Name, def: u32) -> GrammarFault
     if is_predefined(name.as_slice()) {
         return GrammarFault::Unbuilt { def };
     }
-    match copy_name(alloc, name) {
+    match name.copy(alloc) {
         Ok(name) => GrammarFault::UnknownCategory { name, def },
         Err(_) => GrammarFault::Memory,
     }

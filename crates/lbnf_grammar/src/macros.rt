@@ -8,7 +8,7 @@ ghost use Rattle.spec_lbnf.specs.Expansion.{level_category, level_rule, bracket_
 ghost use Rattle.spec_lbnf.specs.Expansion.{rules_of_def, rules_of};
 
 use crate::texts::{copy_category, copy_items, copy_rule, numbered_name};
-use lbnf_text::{copy_name, word_item, words};
+use lbnf_text::{word_item, words};
 use spec_grammar::Label;
 use spec_lbnf::{CatName, Def, RawItem, RawRule};
 use spec_text::Name;
@@ -20,7 +20,7 @@ fn list_of(alloc: Global, cat: &CatName) -> Result<CatName, AllocError>
     requires { cat.now.depth ≤ 63 }
     ensures { IfOk result (λ list. list ≡ list_of cat.now) }
 {
-    let name = copy_name(alloc, &cat.name)?;
+    let name = cat.name.copy(alloc)?;
     let depth = cat.depth + 1;
     Ok(CatName { name, depth })
 }
@@ -120,7 +120,7 @@ fn level_category(alloc: Global, name: &Name, level: u32) -> Result<CatName, All
     ensures { IfOk result (λ cat. cat ≡ level_category name.now level) }
 {
     let name = match level {
-        0 => copy_name(alloc, name)?,
+        0 => name.copy(alloc)?,
         _ => numbered_name(alloc, name, level)?,
     };
     Ok(CatName { name, depth: 0 })

@@ -7,7 +7,6 @@ ghost use Rattle.lbnf_grammar.specs.Numbering.{with_names};
 use crate::names::Names;
 use crate::naming::internal_category;
 use crate::texts::category_text;
-use lbnf_text::copy_name;
 use spec_lbnf::{Def, RawItem, RawRule};
 use std::alloc::{AllocError, Global};
 
@@ -24,7 +23,7 @@ impl Tables {
     {
         match item {
             RawItem::Cat(cat) => self.categories.add(alloc, category_text(alloc, cat)?),
-            RawItem::Word(word) => self.words.add(alloc, copy_name(alloc, word)?),
+            RawItem::Word(word) => self.words.add(alloc, word.copy(alloc)?),
         }
     }
 

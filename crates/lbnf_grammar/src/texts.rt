@@ -3,7 +3,6 @@ ghost use Rattle.std.specs.Prelude.{◌≡◌, ◌++◌, IfOk};
 ghost use Rattle.std.specs.Fmt.{decimal};
 ghost use Rattle.spec_lbnf.specs.Expansion.{category_text};
 
-use lbnf_text::copy_name;
 use spec_grammar::Label;
 use spec_lbnf::{CatName, RawItem, RawRule};
 use spec_text::Name;
@@ -14,7 +13,7 @@ pub(crate) fn copy_label(alloc: Global, label: &Label) -> Result<Label, AllocErr
     ensures { IfOk result (λ copy. copy ≡ label.now) }
 {
     match label {
-        Label::Named(name) => Ok(Label::Named(copy_name(alloc, name)?)),
+        Label::Named(name) => Ok(Label::Named(name.copy(alloc)?)),
         Label::Wild => Ok(Label::Wild),
         Label::Nil => Ok(Label::Nil),
         Label::Cons => Ok(Label::Cons),
@@ -34,7 +33,7 @@ pub(crate) fn numbered_name(alloc: Global, name: &Name, number: u32) -> Result<N
 pub(crate) fn copy_category(alloc: Global, cat: &CatName) -> Result<CatName, AllocError>
     ensures { IfOk result (λ copy. copy ≡ cat.now) }
 {
-    let name = copy_name(alloc, &cat.name)?;
+    let name = cat.name.copy(alloc)?;
     let depth = cat.depth;
     Ok(CatName { name, depth })
 }
@@ -44,7 +43,7 @@ pub(crate) fn copy_item(alloc: Global, item: &RawItem) -> Result<RawItem, AllocE
 {
     match item {
         RawItem::Cat(cat) => Ok(RawItem::Cat(copy_category(alloc, cat)?)),
-        RawItem::Word(word) => Ok(RawItem::Word(copy_name(alloc, word)?)),
+        RawItem::Word(word) => Ok(RawItem::Word(word.copy(alloc)?)),
     }
 }
 

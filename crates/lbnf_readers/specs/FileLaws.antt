@@ -8,7 +8,8 @@ use Rattle.spec_lbnf.specs.FileTokens.{IsTokenBefore, Separates, IsScan}
 -- bytes begin with at most one longest token, and one rest is behind it
 abbrev pub HasOneToken : Type 0
 HasOneToken =
-    (bytes : List ℕ) (a b : FileToken) (r s : List ℕ) → IsTokenBefore a bytes r → IsTokenBefore b bytes s
+    (bytes : List ℕ) (a b : FileToken) (r s : List ℕ) → IsTokenBefore a bytes r
+    → IsTokenBefore b bytes s
     → (a ≡ b) × (r ≡ s)
 
 -- bytes begin with at most one white byte or comment, so that one rest is behind it

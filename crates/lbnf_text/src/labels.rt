@@ -5,7 +5,6 @@ ghost use Rattle.lbnf_readers.specs.FileReading.{sign_label_at, label_at};
 ghost use Rattle.lbnf_text.specs.Parsing.{Gives};
 
 use crate::parser::{Parser, Stop, is_sign, upper_name};
-use crate::texts::copy_name;
 use spec_grammar::Label;
 use spec_lbnf::{PlacedToken, Sign};
 use std::alloc::Global;
@@ -85,7 +84,7 @@ impl<'a> Parser<'a> {
         let (first, behind) = self.split()?;
         match upper_name(&first.token) {
             Some(name) => {
-                let name = copy_name(alloc, name)?;
+                let name = name.copy(alloc)?;
                 self.go_to(behind);
                 Ok(Label::Named(name))
             }

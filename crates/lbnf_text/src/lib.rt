@@ -18,7 +18,7 @@ pub use reading::{MAX_FILE, read_defs};
 pub use spec_grammar::Label;
 pub use spec_lbnf::{CatName, Def, RawItem, RawRule, TextFault};
 pub use spec_text::Name;
-pub use texts::{copy_name, word_item, words};
+pub use texts::{word_item, words};
 
 #[cfg(test)]
 mod tests;

@@ -8,7 +8,6 @@ ghost use Rattle.lbnf_readers.specs.FileReading.{upper_name, text_value, number_
 ghost use Rattle.lbnf_readers.specs.FileReading.{sign_at, name_at, text_at, number_at};
 ghost use Rattle.lbnf_text.specs.Parsing.{Gives, IsFirstToken, Splits};
 
-use crate::texts::copy_name;
 use spec_lbnf::{FileToken, PlacedToken, Sign};
 use spec_text::Name;
 use std::alloc::{AllocError, Global};
@@ -105,7 +104,7 @@ impl<'a> Parser<'a> {
     {
         let (first, behind) = self.split()?;
         let name = upper_name(&first.token).ok_or(Stop::Stuck)?;
-        let name = copy_name(alloc, name)?;
+        let name = name.copy(alloc)?;
         self.rest = behind;
         Ok(name)
     }
@@ -117,7 +116,7 @@ impl<'a> Parser<'a> {
     {
         let (first, behind) = self.split()?;
         let text = text_value(&first.token).ok_or(Stop::Stuck)?;
-        let text = copy_name(alloc, text)?;
+        let text = text.copy(alloc)?;
         self.rest = behind;
         Ok(text)
     }

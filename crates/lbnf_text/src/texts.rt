@@ -1,4 +1,4 @@
-//! Copies of names, and the words of strings.
+//! The words of strings.
 ghost use Rattle.std.specs.Prelude.{◌≡◌, map, not, IfOk};
 ghost use Rattle.spec_lbnf.specs.Words.{is_empty, words_in};
 ghost use Rattle.spec_lbnf.specs.Expansion.{word_items};
@@ -8,14 +8,6 @@ use spec_lbnf::RawItem;
 use spec_text::Name;
 use sqlite_items::Items;
 use std::alloc::{AllocError, Global};
-
-/// The name of the same bytes, which are copied.
-pub fn copy_name(alloc: Global, name: &Name) -> Result<Name, AllocError>
-    ensures { IfOk result (λ copy. copy ≡ name.now) }
-{
-    let bytes = Vec::from_slice(alloc, name.as_slice())?;
-    Ok(Name::of(bytes))
-}
 
 fn has_bytes(part: &str) -> bool
     ensures { result ≡ not (is_empty part.now) }

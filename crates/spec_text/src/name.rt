@@ -1,6 +1,7 @@
 //! Names and words of a grammar. Each is UTF-8, since automata over bytes rest on it.
-ghost use Rattle.std.specs.Prelude.{◌≡◌, IsUtf8};
+ghost use Rattle.std.specs.Prelude.{◌≡◌, IsUtf8, IfOk};
 
+use std::alloc::{AllocError, Global};
 use std::marker::Model;
 
 /// A name or a word, seen as its list of bytes, which are UTF-8.
@@ -44,5 +45,13 @@ impl Name {
             Ok(text) => text,
             Err(_) => unreachable!(),
         }
+    }
+
+    /// The name of the same bytes, which are copied.
+    pub fn copy(&self, alloc: Global) -> Result<Name, AllocError>
+        ensures { IfOk result (λ copy. copy ≡ self.now) }
+    {
+        let bytes = Vec::from_slice(alloc, self.as_slice())?;
+        Ok(Name::of(bytes))
     }
 }

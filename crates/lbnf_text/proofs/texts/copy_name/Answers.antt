@@ -1,7 +1,0 @@
-use Rattle.std.proofs.Common.{subst, sym, ◌∙◌}
-use Rattle.std.specs.Str.{IsUtf8}
-use Rattle.std.proofs.lemmas.Str.{IsUtf8-had}
-use Rattle.lbnf_text.proofs.texts.copy_name.Goals as goal
-
-pub of-requires : goal.of-requires
-of-requires c = subst IsUtf8 (sym (c.in_ok-bytes.ensures.items ∙ c.as_slice.ensures.bytes)) (IsUtf8-had c.args.name.now c.as_slice.ensures.utf8)
