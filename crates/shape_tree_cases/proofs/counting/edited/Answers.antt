@@ -1,0 +1,11 @@
+use Rattle.std.proofs.Common.{rules}
+use Rattle.shape_tree.proofs.PartLemmas.{kept_of_two}
+use Rattle.shape_tree_cases.specs.Trees.{HasLowParts, IsLowTree}
+use Rattle.shape_tree_cases.proofs.counting.edited.Goals as goal
+
+pub realise-requires-clause-sound : goal.realise-requires-clause-sound
+realise-requires-clause-sound c =
+    let leaf : IsLowTree c.leaf-leaf.result = search rules in
+    let old : IsLowTree c.args.old.now = search rules in
+    kept_of_two HasLowParts IsLowTree c.leaf-leaf.result c.args.old.now c.in_ok-shape.shape
+    (λ w l i r low has. (has.1, has.2)) leaf old c.in_ok-shape.ensures.parts
