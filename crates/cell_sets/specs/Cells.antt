@@ -19,6 +19,18 @@ AddsSymbol old new symbol = Adds (λ s. s ≡ symbol) old new
 abbrev pub IsUnion : List ℕ → List ℕ → List ℕ → Type 0
 IsUnion left right both = Adds (Contains right) left both
 
+-- some number is in both lists
+abbrev pub Meet : List ℕ → List ℕ → Type 0
+Meet left right = (s : ℕ) × Contains left s × Contains right s
+
+-- the third list has what both of the others have
+abbrev pub IsCommon : List ℕ → List ℕ → List ℕ → Type 0
+IsCommon left right common = (s : ℕ) → Contains common s ↔ (Contains left s × Contains right s)
+
+-- two lists have the same members
+abbrev pub HaveSame : List ℕ → List ℕ → Type 0
+HaveSame left right = (s : ℕ) → Contains left s ↔ Contains right s
+
 -- the next member from a symbol on is the least that is not below it, and None where all are below
 abbrev pub IsNextFrom : List ℕ → ℕ → Option ℕ → Type 0
 IsNextFrom xs symbol next = MatchOption next
@@ -29,4 +41,4 @@ IsNextFrom xs symbol next = MatchOption next
 abbrev pub RisingListsAreSets : Type 0
 RisingListsAreSets =
     (xs ys : List ℕ) → IsRising xs → IsRising ys
-    → ((s : ℕ) → Contains xs s ↔ Contains ys s) → xs ≡ ys
+    → HaveSame xs ys → xs ≡ ys

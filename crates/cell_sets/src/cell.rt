@@ -1,7 +1,7 @@
 //! What a set of symbols can do. Contracts see it as its symbols in rising order.
 ghost use Rattle.std.specs.Prelude.{◌≡◌, ℕ, ◌<◌, List, [], ◌↔◌, IsTrue, IfOk, OnOk, OnErr};
 ghost use Rattle.std.specs.List.{Contains};
-ghost use Rattle.cell_sets.specs.Cells.{IsRising, AddsSymbol, IsUnion, IsNextFrom};
+ghost use Rattle.cell_sets.specs.Cells.{IsRising, AddsSymbol, IsUnion, Meet, IsCommon, HaveSame, IsNextFrom};
 
 use std::alloc::{AllocError, Global};
 
@@ -52,6 +52,20 @@ pub trait Cell: Room + Sized + Send + Sync + Drop {
         ensures ok { IfOk result (λ both.
             IsUnion (symbols self.now) (symbols other.now) (symbols both)) }
         ensures rising { IfOk result (λ both. IsRising (symbols both)) };
+
+    /// Whether some symbol is in both.
+    fn meets(&self, other: &Self) -> bool
+        ensures { IsTrue result ↔ Meet (symbols self.now) (symbols other.now) };
+
+    /// A cell with the symbols that are in both.
+    fn common(&self, alloc: Global, other: &Self) -> Result<Self, AllocError>
+        ensures ok { IfOk result (λ common.
+            IsCommon (symbols self.now) (symbols other.now) (symbols common)) }
+        ensures rising { IfOk result (λ common. IsRising (symbols common)) };
+
+    /// Whether both have the same symbols.
+    fn same(&self, other: &Self) -> bool
+        ensures { IsTrue result ↔ HaveSame (symbols self.now) (symbols other.now) };
 }
 
 /// Adds the symbols of another cell. After an error the cell is as it was.

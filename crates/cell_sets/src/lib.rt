@@ -2,6 +2,7 @@
 #![tactic(auto)]
 
 mod cell;
+mod comparing;
 mod laws;
 mod list_cell;
 mod merging;

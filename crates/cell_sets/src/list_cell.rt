@@ -3,6 +3,7 @@ ghost use Rattle.std.specs.Prelude.{◌≡◌};
 ghost use Rattle.cell_sets.specs.Cells.{IsRising};
 ghost use Rattle.cell_sets.specs.ListCells.{items_of};
 
+use crate::comparing::{are_same, common_of, have_common};
 use crate::merging::merged;
 use crate::places::{has_in, insert_into, next_in};
 use crate::{Cell, Room};
@@ -86,5 +87,20 @@ impl Cell for ListCell {
     fn union(&self, alloc: Global, other: &Self) -> Result<Self, AllocError> {
         let both = merged(alloc, self.as_slice(), other.as_slice())?;
         Ok(ListCell { items: Some(both) })
+    }
+
+    fn meets(&self, other: &Self) -> bool {
+        have_common(self.as_slice(), other.as_slice())
+    }
+
+    fn common(&self, alloc: Global, other: &Self) -> Result<Self, AllocError> {
+        let common = common_of(alloc, self.as_slice(), other.as_slice())?;
+        Ok(ListCell {
+            items: Some(common),
+        })
+    }
+
+    fn same(&self, other: &Self) -> bool {
+        are_same(self.as_slice(), other.as_slice())
     }
 }

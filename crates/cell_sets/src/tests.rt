@@ -186,3 +186,45 @@ fn a_union_has_the_symbols_of_both(rt: HostRuntime) -> Result<(), Fail> {
     }
     Ok(())
 }
+
+/// What two cells with these symbols have in common: whether they meet, the common symbols, and
+/// whether they are the same.
+fn compared<C: Cell>(
+    alloc: Global,
+    left: &[u16],
+    right: &[u16],
+) -> Result<(bool, Vec<u16>, bool), AllocError>
+    requires { C.ROOM ≡ 65536 }
+{
+    let (left, _) = filled::<C>(alloc, left)?;
+    let (right, _) = filled::<C>(alloc, right)?;
+    let common = left.common(alloc, &right)?;
+    Ok((
+        left.meets(&right),
+        members_of(alloc, &common)?,
+        left.same(&right),
+    ))
+}
+
+#[test]
+fn cells_meet_where_they_have_a_common_symbol(rt: HostRuntime) -> Result<(), Fail> {
+    let cases = [
+        (&[][..], &[][..], &[][..], true),
+        (&[1, 2], &[], &[], false),
+        (&[], &[1, 2], &[], false),
+        (&[1, 3], &[2, 4], &[], false),
+        (&[4, 5, 6], &[6, 5, 4], &[4, 5, 6], true),
+        (&[4, 5], &[4, 5, 6], &[4, 5], false),
+        (&[4, 5, 6], &[5, 6], &[5, 6], false),
+        (&[1, 4, 7, 10], &[2, 4, 7], &[4, 7], false),
+        (&[0, 65535], &[65535], &[65535], false),
+        (&[0, 65535], &[65535, 0], &[0, 65535], true),
+    ];
+    for (left, right, members, same) in cases {
+        let (meet, common, are_same) = compared::<ListCell>(rt.alloc(), left, right)?;
+        assert_eq!(rt; meet, !members.is_empty(), "at {left:?} and {right:?}");
+        assert_eq!(rt; common.as_slice(), members, "at {left:?} and {right:?}");
+        assert_eq!(rt; are_same, same, "at {left:?} and {right:?}");
+    }
+    Ok(())
+}
