@@ -12,8 +12,9 @@ use Rattle.binary_form.specs.Symbols.{BinarySymbol, plain, BinaryDerives, symbol
 use Rattle.binary_form.specs.BinaryForm.{IsNumberOf, IsNullableNumber}
 use Rattle.binary_form.proofs.NumberLemmas.{number_is_one}
 use Rattle.valiant.specs.Charts.{ChartValue}
-use Rattle.spec_script.specs.Script.{Constituent, entry_whole, category_whole, category_span}
-use Rattle.spec_session.specs.Replies.{IsOfCategory, first_of, end_of, IsWithin, IsDerived, IsAnswer, yes_line, no_line, yes, no}
+use Rattle.spec_script.specs.Script.{Constituent}
+use Rattle.spec_script.specs.declared.question.Constituent.TheVariants.{EntryWhole, CategoryWhole, CategorySpan}
+use Rattle.spec_session.specs.Answers.{IsOfCategory, first_of, end_of, IsWithin, IsDerived, IsHasAnswer, yes_line, no_line, yes, no}
 use Rattle.chart_service.specs.Opening.{HasNamesAndWords, IsOpened}
 
 module _ (g : Grammar) (chart : ChartValue) (text : List ℕ) (tokens : List Token)
@@ -61,9 +62,9 @@ module _ (g : Grammar) (chart : ChartValue) (text : List ℕ) (tokens : List Tok
 -- a constituent is of one category
 one_category : (g : Grammar) (constituent : Constituent) (c d : ℕ) → HasNamesAndWords g
     → IsOfCategory g constituent c → IsOfCategory g constituent d → c ≡ d
-one_category g entry_whole c d names is other = cc
-one_category g (category_whole name) c d names is other = names.distinct c d name is other
-one_category g (category_span name first end) c d names is other = names.distinct c d name is other
+one_category g EntryWhole c d names is other = cc
+one_category g (CategoryWhole name) c d names is other = names.distinct c d name is other
+one_category g (CategorySpan name first end) c d names is other = names.distinct c d name is other
 
 -- the answer on a constituent of a category within the text, by whether the category derives it
 module _ (g : Grammar) (chart : ChartValue) (text : List ℕ) (tokens : List Token)
@@ -85,7 +86,7 @@ module _ (g : Grammar) (chart : ChartValue) (text : List ℕ) (tokens : List Tok
   DerivesSpan i j = Derives g.rules (kinds_of tokens) (Category category) i j
 
   pub answer_yes : Derives g.rules (kinds_of tokens) (Category category) first end →
-      IsAnswer g tokens constituent yes_line
+      IsHasAnswer g tokens constituent yes_line
   answer_yes d =
       yes within (record {
         category = category;
@@ -94,7 +95,7 @@ module _ (g : Grammar) (chart : ChartValue) (text : List ℕ) (tokens : List Tok
       }) refl
 
   pub answer_no : (Derives g.rules (kinds_of tokens) (Category category) first end → ⊥) →
-      IsAnswer g tokens constituent no_line
+      IsHasAnswer g tokens constituent no_line
   answer_no never =
       no (category, is) within
       (λ d. let same : d.category ≡ category = one_category g constituent d.category category o.distinct d.is_category is in

@@ -1,5 +1,5 @@
 //! Lexing: the tokens of a whole ASCII text, each by longest match from where the last one ended.
-ghost use Rattle.std.specs.Prelude.{◌≡◌, [], ◌+◌, ◌^◌, ◌<◌, ◌≤◌, take, length, All, IfOk};
+ghost use Rattle.std.specs.Prelude.{◌≡◌, [], ◌+◌, ◌^◌, ◌<◌, ◌≤◌, take, length, All, IsTrue, IfOk};
 ghost use Rattle.std.specs.Str.{IsAscii};
 ghost use Rattle.spec_lexing.specs.declared.kind_def.KindDef.TheVariants.{Word};
 ghost use Rattle.spec_lexing.specs.Lexicon.{lexicon_of};
@@ -220,16 +220,33 @@ mod tests {
         Ok(kinds)
     }
 
+    /// Whether each of the kinds is a word.
+    fn are_words(kinds: &[KindDef]) -> bool
+        ensures { IsTrue result → All IsWord kinds.now }
+    {
+        for kind in kinds {
+            match kind {
+                KindDef::Word(_) => {}
+                KindDef::Token { .. } => return false,
+            }
+        }
+        true
+    }
+
     /// The tokens of the text, where the kinds are these words.
     fn cut(alloc: Global, texts: &[&str], text: &str) -> Result<Vec<Token>, Fail> {
         let kinds = words(alloc, texts)?;
         if kinds.len() > 65535 {
             return Err("a list of few words".into());
         }
-        if !text.as_bytes().is_ascii() {
-            return Err("a text of ASCII bytes".into());
+        if !are_words(&kinds) {
+            return Err("a list of words".into());
         }
-        let tokens = tokens_of(alloc, &kinds, text.as_bytes())?;
+        let bytes = text.as_bytes();
+        if bytes.len() > 65535 || !bytes.is_ascii() {
+            return Err("a short text of ASCII bytes".into());
+        }
+        let tokens = tokens_of(alloc, &kinds, bytes)?;
         Ok(tokens)
     }
 

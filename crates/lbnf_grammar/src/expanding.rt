@@ -1,6 +1,6 @@
 //! Expanding definitions: the checks, then the numbers.
 ghost use Rattle.std.specs.Prelude.{◌≡◌, map, IfOk};
-ghost use Rattle.spec_lbnf.specs.Limits.{AreWithinLimits};
+ghost use Rattle.spec_lbnf.specs.Limits.{AreFewAndSmall};
 ghost use Rattle.spec_lbnf.specs.Expansion.{rules_of, categories_of, words_of, expansion_of};
 ghost use Rattle.spec_lbnf.specs.Checks.{HasFewRules, AreAllKnown};
 ghost use Rattle.spec_lexing.specs.declared.kind_def.KindDef.TheVariants.{Word as WordKind};
@@ -54,7 +54,7 @@ fn parts_by(
 
 /// The parts of the grammar that the definitions stand for.
 fn numbered_parts(alloc: Global, defs: &[Def]) -> Result<GrammarParts, AllocError>
-    requires limits { AreWithinLimits defs.now }
+    requires limits { AreFewAndSmall defs.now }
     requires few_rules { HasFewRules defs.now }
     requires known { AreAllKnown defs.now }
     ensures { IfOk result (λ parts. parts ≡ expansion_of defs.now) }
@@ -77,7 +77,7 @@ fn acyclic(alloc: Global, parts: GrammarParts) -> Result<Grammar, GrammarFault>
 
 /// The grammar that the definitions stand for, or why they are unfit.
 fn expand_defs(alloc: Global, defs: &[Def]) -> Result<Grammar, GrammarFault>
-    requires { AreWithinLimits defs.now }
+    requires { AreFewAndSmall defs.now }
     ensures { Expands defs.now result }
 {
     check_labels(defs)?;

@@ -14,7 +14,7 @@ use Rattle.spec_lbnf.specs.declared.token.FileToken.{FileToken}
 use Rattle.spec_lbnf.specs.declared.token.FileToken.TheVariants.{Identifier, Number, Text, Character}
 use Rattle.spec_lbnf.specs.declared.token.FileToken.TheVariants.{Sign as SignToken}
 use Rattle.spec_lbnf.specs.declared.token.PlacedToken.{PlacedToken}
-use Rattle.spec_lbnf.specs.FileBytes.{starts_upper}
+use Rattle.spec_lbnf.specs.GrammarFile.{starts_upper}
 use Rattle.spec_lbnf.specs.GrammarFile.{IsCategory, IsLabel, IsUpperName, label_tokens, category_tokens, entry_tokens, nonempty_tokens, keyword, SpellsRule, SpellsDef}
 use Rattle.lbnf_readers.specs.FileReading.{Read, next_on, ◌>>=◌, pure, to_end, is_word, rule_at, list_macro_at, coercions_at, entries_at, def_by, def_at}
 use Rattle.lbnf_readers.proofs.TokenTestLemmas.{word_true}

@@ -12,10 +12,12 @@ use Rattle.spec_lbnf.specs.declared.token.PlacedToken.{PlacedToken}
 use Rattle.spec_lbnf.specs.GrammarFile.{category_tokens, SpellsDef, is_semicolon, pieces_of, AreSpelledBy, SpellsDefs}
 use Rattle.spec_lbnf.specs.declared.fault.TextFault.{TextFault}
 use Rattle.spec_lbnf.specs.declared.fault.TextFault.TheVariants.{Syntax}
-use Rattle.spec_lbnf.specs.Faults.{bare, CanGoOn, HasLongCategory, last_piece, piece_fault, token_fault, at_token, at_bytes, at_end, IsFirstLong, FaultsAt, at_long, behind as goes_no_further}
+use Rattle.spec_lbnf.specs.Faults.{bare, CanGoOn, LacksLong, HasLongCategory, last_piece, IsFirstLong}
+use Rattle.lbnf_readers.specs.FileFaults.{piece_fault, token_fault}
+use Rattle.lbnf_readers.proofs.RowLemmas.{at_token, at_bytes, at_end, FaultsAt, at_long, behind as goes_no_further}
 use Rattle.lbnf_readers.specs.FileReading.{Read, got, stuck, long, def_at}
 use Rattle.lbnf_readers.specs.FileDefinitions.{piece_at, behind_piece, offset_of, def_or_fault, piece_def, and_defs, defs_at, defs_of}
-use Rattle.spec_lbnf.proofs.BoundaryLemmas.{IsClosed, IsOpenFront, LacksLong, closed_both, lacks_both, long_of_one, one_closed, nothing_closed}
+use Rattle.spec_lbnf.proofs.BoundaryLemmas.{IsClosed, IsOpenFront, closed_both, lacks_both, long_of_one, one_closed, nothing_closed}
 use Rattle.lbnf_readers.proofs.ReaderLemmas.{IsNothing, GoesOn, IsGot, IsStuckAt, IsLongAt, Tells, HaveShortNames, short_behind, short_before, bare-append}
 use Rattle.spec_lbnf.proofs.BracketLemmas.{category_no_close}
 use Rattle.lbnf_readers.proofs.RuleLemmas.{category_some}

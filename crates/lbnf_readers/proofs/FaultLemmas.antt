@@ -12,14 +12,16 @@ use Rattle.spec_lbnf.specs.declared.token.FileToken.{FileToken}
 use Rattle.spec_lbnf.specs.declared.token.FileToken.TheVariants.{Identifier, Number, Text, Character}
 use Rattle.spec_lbnf.specs.declared.token.FileToken.TheVariants.{Sign as SignToken}
 use Rattle.spec_lbnf.specs.declared.token.PlacedToken.{PlacedToken}
-use Rattle.spec_lbnf.specs.FileTokens.{IsScan, AreTokensTo, BeginsWith}
+use Rattle.spec_lbnf.specs.FileTokens.{IsScan, AreTokensTo, IsTokenBefore}
 use Rattle.spec_lbnf.specs.GrammarFile.{category_tokens, SpellsDefs, AreSpelledBy, pieces_of}
 use Rattle.spec_lbnf.specs.declared.fault.TextFault.{TextFault}
 use Rattle.spec_lbnf.specs.declared.fault.TextFault.TheVariants.{NotUtf8, Syntax, TooLarge}
-use Rattle.spec_lbnf.specs.Faults.{bare, CanGoOn, HasLongCategory, token_fault, StopsBehind, at_token, at_bytes, at_end, IsFirstLong, FaultsAt, at_long, behind as goes_no_further, Spells, IsTokenFault, IsFirstFault, is_large, is_not_utf8, in_tokens}
+use Rattle.spec_lbnf.specs.Faults.{bare, CanGoOn, HasLongCategory, LacksLong, IsSmallText, IsFirstLong, IsFront, FaultAt, Spells, IsFirstFault, is_large, is_not_utf8, in_tokens}
+use Rattle.lbnf_readers.specs.FileFaults.{token_fault}
+use Rattle.lbnf_readers.proofs.RowLemmas.{StopsBehind, at_token, at_bytes, at_end, FaultsAt, at_long, behind as goes_no_further, row_of, told_of}
 use Rattle.lbnf_readers.specs.FileDefinitions.{defs_of}
 use Rattle.lbnf_readers.specs.ReadingLaws.{OneListOfDefs, OneFileOfDefs, OneFirstFault, SpelledOrFaulty, DefsOrFault}
-use Rattle.spec_lbnf.proofs.BoundaryLemmas.{LacksLong, two_cuts, long_before, long_of_one, IsShort}
+use Rattle.spec_lbnf.proofs.BoundaryLemmas.{two_cuts, long_before, long_of_one, IsShort}
 use Rattle.lbnf_readers.proofs.ReaderLemmas.{HaveShortNames, bare-append}
 use Rattle.spec_lbnf.proofs.BracketLemmas.{category_begins}
 use Rattle.lbnf_readers.proofs.DefLemmas.{one_def}
@@ -194,7 +196,7 @@ scan_short size bytes [] stop scan = tt
 scan_short size bytes (token ∷ tokens) stop scan =
     (short token.token scan.0 scan.1 scan.4, scan_short size scan.1 tokens stop scan.5)
   where
-    short : (t : FileToken) (here rest : List ℕ) → BeginsWith t here rest → IsShort t
+    short : (t : FileToken) (here rest : List ℕ) → IsTokenBefore t here rest → IsShort t
     short (Identifier name) here rest is = is.0.short
     short (Number value) here rest is = tt
     short (Text value) here rest is = tt
@@ -221,13 +223,12 @@ module _ (bytes : List ℕ) (tokens : List PlacedToken) (stop : ℕ) (scan : IsS
       (scan_short (length bytes) bytes tokens stop scan)
 
   -- the definitions that are read of tokens that reach the end of the file are those of the file
-  pub defs_are : (defs : List Def) → length bytes ≤ 65536 → IsUtf8 bytes → stop ≡ length bytes → defs_of tokens stop ≡ Ok defs
+  pub defs_are : (defs : List Def) → IsSmallText bytes → stop ≡ length bytes → defs_of tokens stop ≡ Ok defs
       → Spells bytes defs
-  defs_are defs few utf8 end read =
+  defs_are defs small end read =
       let is : SpellsDefs defs (bare tokens) × LacksLong (bare tokens) = subst (Outcome bytes tokens stop []) read scanned_tell in
       record {
-        few = few;
-        utf8 = utf8;
+        small = small;
         tokens = tokens;
         scan = subst (IsScan bytes tokens) end scan;
         spelled = is.0;
@@ -236,35 +237,20 @@ module _ (bytes : List ℕ) (tokens : List PlacedToken) (stop : ℕ) (scan : IsS
 
   -- where the tokens spell definitions, and do not reach the end of the file, it has a fault where
   -- they end
-  pub stop_is : (defs : List Def) → length bytes ≤ 65536 → IsUtf8 bytes → stop < length bytes → defs_of tokens stop ≡ Ok defs
+  pub stop_is : (defs : List Def) → IsSmallText bytes → stop < length bytes → defs_of tokens stop ≡ Ok defs
       → IsFirstFault bytes (Syntax stop)
-  stop_is defs few utf8 early read =
+  stop_is defs small early read =
       let is : SpellsDefs defs (bare tokens) × LacksLong (bare tokens) = subst (Outcome bytes tokens stop []) read scanned_tell in
-      in_tokens few utf8 (record {
-        tokens = tokens;
-        stop = stop;
-        scan = scan;
-        front = tokens;
-        behind = [];
-        split = sym (append-nil tokens);
-        viable = ([], defs, subst (SpellsDefs defs) (sym (append-nil (bare tokens))) is.0);
-        faults = goes_no_further is.1 (at_bytes refl early refl);
-      })
+      let viable : CanGoOn (bare tokens) = ([], defs, subst (SpellsDefs defs) (sym (append-nil (bare tokens))) is.0) in
+      in_tokens small tokens stop scan tokens (record { behind = []; split = sym (append-nil tokens); viable = viable })
+      (row_of bytes tokens stop tokens (Syntax stop) (goes_no_further is.1 (at_bytes refl early refl)))
 
   -- the fault that is read of the tokens is that of the file
-  pub fault_is : (fault : TextFault) → length bytes ≤ 65536 → IsUtf8 bytes → defs_of tokens stop ≡ Err fault → IsFirstFault bytes fault
-  fault_is fault few utf8 read =
+  pub fault_is : (fault : TextFault) → IsSmallText bytes → defs_of tokens stop ≡ Err fault → IsFirstFault bytes fault
+  fault_is fault small read =
       let is : HasFault bytes tokens stop fault = subst (Outcome bytes tokens stop []) read scanned_tell in
-      in_tokens few utf8 (record {
-        tokens = tokens;
-        stop = stop;
-        scan = scan;
-        front = is.front;
-        behind = is.rest;
-        split = is.split;
-        viable = is.viable;
-        faults = is.faults;
-      })
+      in_tokens small tokens stop scan is.front (record { behind = is.rest; split = is.split; viable = is.viable })
+      (row_of bytes tokens stop is.front fault is.faults)
 
 -- a file spells at most one list of definitions
 pub one_file_of_defs : OneFileOfDefs
@@ -276,30 +262,37 @@ one_file_of_defs bytes a b first second =
 utf8_whole : (bytes : List ℕ) → utf8_valid_len bytes < length bytes → IsUtf8 bytes → ⊥
 utf8_whole bytes early utf8 = omega (arith, early, utf8_valid_len-IsUtf8 bytes utf8)
 
--- the fault of tokens, with the scan set apart
-has_fault : (bytes : List ℕ) (fault : TextFault) → (is : IsTokenFault bytes fault) → HasFault bytes is.tokens is.stop fault
-has_fault bytes fault is = record { front = is.front; rest = is.behind; split = is.split; viable = is.viable; faults = is.faults }
+-- a front with a fault at it, as the readers tell it
+has_fault : (bytes : List ℕ) (tokens : List PlacedToken) (stop : ℕ) (front : List PlacedToken) (fault : TextFault)
+    → IsFront tokens front → FaultAt bytes tokens stop front fault → HasFault bytes tokens stop fault
+has_fault bytes tokens stop front fault is at = record {
+  front = front;
+  rest = is.behind;
+  split = is.split;
+  viable = is.viable;
+  faults = told_of bytes tokens stop front fault at;
+}
 
 -- a file's tokens have at most one first fault
-one_token_fault : (bytes : List ℕ) (a b : TextFault) → IsTokenFault bytes a → IsTokenFault bytes b → a ≡ b
-one_token_fault bytes a b first second =
-    let same = one_list (length bytes) first.tokens second.tokens bytes first.stop second.stop first.scan second.scan in
-    one_of_tokens bytes second.tokens second.stop a b
-    (subst (λ n. HasFault bytes second.tokens n a) same.1
-    (subst (λ ts. HasFault bytes ts first.stop a) same.0 (has_fault bytes a first)))
-    (has_fault bytes b second)
+one_token_fault : (bytes : List ℕ) (a b : TextFault) (xs ys : List PlacedToken) (m n : ℕ) → IsScan bytes xs m → IsScan bytes ys n
+    → HasFault bytes xs m a → HasFault bytes ys n b → a ≡ b
+one_token_fault bytes a b xs ys m n scan again first second =
+    let same = one_list (length bytes) xs ys bytes m n scan again in
+    one_of_tokens bytes ys n a b
+    (subst (λ k. HasFault bytes ys k a) same.1 (subst (λ ts. HasFault bytes ts m a) same.0 first)) second
 
 -- a file has at most one first fault
 pub one_first_fault : OneFirstFault
 one_first_fault bytes a b (is_large large is_a) (is_large more is_b) = is_a ∙ sym is_b
 one_first_fault bytes a b (is_large large is_a) (is_not_utf8 few early is_b) = absurd (omega (arith, large, few))
-one_first_fault bytes a b (is_large large is_a) (in_tokens few utf8 is_b) = absurd (omega (arith, large, few))
+one_first_fault bytes a b (is_large large is_a) (in_tokens small ys n again other front at) = absurd (omega (arith, large, small.few))
 one_first_fault bytes a b (is_not_utf8 few early is_a) (is_large large is_b) = absurd (omega (arith, large, few))
 one_first_fault bytes a b (is_not_utf8 few early is_a) (is_not_utf8 also more is_b) = is_a ∙ sym is_b
-one_first_fault bytes a b (is_not_utf8 few early is_a) (in_tokens also utf8 is_b) = absurd (utf8_whole bytes early utf8)
-one_first_fault bytes a b (in_tokens few utf8 is_a) (is_large large is_b) = absurd (omega (arith, large, few))
-one_first_fault bytes a b (in_tokens few utf8 is_a) (is_not_utf8 also early is_b) = absurd (utf8_whole bytes early utf8)
-one_first_fault bytes a b (in_tokens few utf8 is_a) (in_tokens also again is_b) = one_token_fault bytes a b is_a is_b
+one_first_fault bytes a b (is_not_utf8 few early is_a) (in_tokens small ys n again other front at) = absurd (utf8_whole bytes early small.utf8)
+one_first_fault bytes a b (in_tokens small xs m scan front is at) (is_large large is_b) = absurd (omega (arith, large, small.few))
+one_first_fault bytes a b (in_tokens small xs m scan front is at) (is_not_utf8 also early is_b) = absurd (utf8_whole bytes early small.utf8)
+one_first_fault bytes a b (in_tokens small xs m scan front is at) (in_tokens also ys n again other too there) =
+    one_token_fault bytes a b xs ys m n scan again (has_fault bytes xs m front a is at) (has_fault bytes ys n other b too there)
 
 -- tokens that spell definitions up to the end of the file have no fault
 no_fault_of_spelled : (bytes : List ℕ) (tokens : List PlacedToken) (stop : ℕ) (defs : List Def) (fault : TextFault)
@@ -319,21 +312,21 @@ no_fault_of_spelled bytes tokens stop defs fault end spelled lacks has = by has.
 
 -- no file both spells definitions and has a first fault
 pub spelled_or_faulty : SpelledOrFaulty
-spelled_or_faulty bytes defs fault spelled (is_large large is) = omega (arith, large, spelled.few)
-spelled_or_faulty bytes defs fault spelled (is_not_utf8 few early is) = utf8_whole bytes early spelled.utf8
-spelled_or_faulty bytes defs fault spelled (in_tokens few utf8 is) =
-    let same = one_list (length bytes) spelled.tokens is.tokens bytes (length bytes) is.stop spelled.scan is.scan in
-    no_fault_of_spelled bytes is.tokens is.stop defs fault (sym same.1)
+spelled_or_faulty bytes defs fault spelled (is_large large is) = omega (arith, large, spelled.small.few)
+spelled_or_faulty bytes defs fault spelled (is_not_utf8 few early is) = utf8_whole bytes early spelled.small.utf8
+spelled_or_faulty bytes defs fault spelled (in_tokens small tokens stop scan front is at) =
+    let same = one_list (length bytes) spelled.tokens tokens bytes (length bytes) stop spelled.scan scan in
+    no_fault_of_spelled bytes tokens stop defs fault (sym same.1)
     (subst (λ ts. SpellsDefs defs (bare ts)) same.0 spelled.spelled)
-    (subst (λ ts. LacksLong (bare ts)) same.0 spelled.short) (has_fault bytes fault is)
+    (subst (λ ts. LacksLong (bare ts)) same.0 spelled.short) (has_fault bytes tokens stop front fault is at)
 
 -- a file spells definitions, or has a fault
 abbrev HasAnswer : List ℕ → Type 0
 HasAnswer bytes = ((defs : List Def) × Spells bytes defs) ⊎ ((fault : TextFault) × IsFirstFault bytes fault)
 
 -- a file of UTF-8 that is not too large has one of the two
-utf8_answer : (bytes : List ℕ) → length bytes ≤ 65536 → IsUtf8 bytes → HasAnswer bytes
-utf8_answer bytes few utf8 = by (defs_of tokens stop) refl (before_or_at stop (length bytes) (scan_within (length bytes) bytes tokens stop scan))
+utf8_answer : (bytes : List ℕ) → IsSmallText bytes → HasAnswer bytes
+utf8_answer bytes small = by (defs_of tokens stop) refl (before_or_at stop (length bytes) (scan_within (length bytes) bytes tokens stop scan))
   where
     tokens : List PlacedToken
     tokens = (scan_of bytes).0
@@ -345,9 +338,9 @@ utf8_answer bytes few utf8 = by (defs_of tokens stop) refl (before_or_at stop (l
     scan = scanned bytes
 
     by : (x : Result (List Def) TextFault) → defs_of tokens stop ≡ x → (stop < length bytes) ⊎ (stop ≡ length bytes) → HasAnswer bytes
-    by (Ok defs) read (inl early) = inr (Syntax stop, stop_is bytes tokens stop scan defs few utf8 early read)
-    by (Ok defs) read (inr end) = inl (defs, defs_are bytes tokens stop scan defs few utf8 end read)
-    by (Err fault) read ends = inr (fault, fault_is bytes tokens stop scan fault few utf8 read)
+    by (Ok defs) read (inl early) = inr (Syntax stop, stop_is bytes tokens stop scan defs small early read)
+    by (Ok defs) read (inr end) = inl (defs, defs_are bytes tokens stop scan defs small end read)
+    by (Err fault) read ends = inr (fault, fault_is bytes tokens stop scan fault small read)
 
 -- each file spells definitions or has a first fault
 pub defs_or_fault : DefsOrFault
@@ -357,5 +350,5 @@ defs_or_fault bytes = elim (cases_lt 65536 (length bytes)) [
 ]
   where
     by : length bytes ≤ 65536 → (b : Bool) → is_utf8 bytes ≡ b → HasAnswer bytes
-    by few true utf8 = utf8_answer bytes few (IsUtf8-from_is_utf8 bytes utf8)
+    by few true utf8 = utf8_answer bytes (record { few = few; utf8 = IsUtf8-from_is_utf8 bytes utf8 })
     by few false none = inr (NotUtf8 (utf8_valid_len bytes), is_not_utf8 few (stops_early bytes none) refl)

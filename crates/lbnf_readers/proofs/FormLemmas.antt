@@ -12,7 +12,7 @@ use Rattle.spec_lbnf.specs.declared.token.FileToken.{FileToken}
 use Rattle.spec_lbnf.specs.declared.token.FileToken.TheVariants.{Identifier, Number, Text}
 use Rattle.spec_lbnf.specs.declared.token.FileToken.TheVariants.{Sign as SignToken}
 use Rattle.spec_lbnf.specs.declared.token.PlacedToken.{PlacedToken}
-use Rattle.spec_lbnf.specs.FileBytes.{starts_upper}
+use Rattle.spec_lbnf.specs.GrammarFile.{starts_upper}
 use Rattle.spec_lbnf.specs.GrammarFile.{IsCategory, IsUpperName, category_tokens, entry_tokens, nonempty_tokens, keyword}
 use Rattle.spec_lbnf.specs.Faults.{bare}
 use Rattle.lbnf_readers.specs.FileReading.{◌>>=◌, pure, sign_at, upper_name, name_at, text_value, text_at, number_value, number_at, category_at, is_word, macro_at, list_macro_at, coercions_at, more_entries_at, entries_at}

@@ -11,5 +11,6 @@ pub mod LabelLemmas
 pub mod RuleLemmas
 pub mod FormLemmas
 pub mod DefLemmas
+pub mod RowLemmas
 pub mod DefsLemmas
 pub mod FaultLemmas

@@ -12,7 +12,7 @@ use Rattle.std.proofs.lemmas.List.Elements.{All-from_recursion, recursion_from_A
 use Rattle.std.proofs.lemmas.Str.{chars-encodes}
 use Rattle.spec_lbnf.specs.declared.token.FileToken.{FileToken}
 use Rattle.spec_lbnf.specs.declared.token.FileToken.TheVariants.{Text, Character}
-use Rattle.spec_lbnf.specs.FileTokens.{LiteralPart, plain, escape, IsPart, part_bytes, part_value, escaped, IsLiteral, BeginsWith}
+use Rattle.spec_lbnf.specs.FileTokens.{LiteralPart, plain, escape, IsPart, part_bytes, part_value, escaped, IsLiteral, IsTokenBefore}
 use Rattle.lbnf_readers.specs.Scanning.{is_escape, byte_before, literal_from, string_of, string_at, is_encoded, character_of, character_at}
 
 -- the bytes that an escape may have behind its backslash
@@ -84,9 +84,9 @@ module _ (quote : ℕ) where
     pub reads : ReadsParts behind value_behind rest
 
   -- what is read, in both cases
-  abbrev Reads : Bool → List ℕ → List ℕ → List ℕ → Type 0
-  Reads true bytes value rest = ReadsEscape bytes value rest
-  Reads false bytes value rest = ReadsParts bytes value rest
+  abbrev ReadsLiteral : Bool → List ℕ → List ℕ → List ℕ → Type 0
+  ReadsLiteral true bytes value rest = ReadsEscape bytes value rest
+  ReadsLiteral false bytes value rest = ReadsParts bytes value rest
 
   -- a byte that stands for itself before parts
   plain_before : (byte : ℕ) (bytes value behind rest : List ℕ) → StandsPlain quote byte
@@ -119,7 +119,7 @@ module _ (quote : ℕ) where
 
   -- what is read is spelled
   parts_read : (bytes : List ℕ) (escapes : Bool) (value rest : List ℕ)
-      → literal_from quote escapes bytes ≡ Some (value, rest) → Reads escapes bytes value rest
+      → literal_from quote escapes bytes ≡ Some (value, rest) → ReadsLiteral escapes bytes value rest
   unfolding literal_from
   parts_read [] true value rest e = absurd (none-some _ e)
   parts_read [] false value rest e = absurd (none-some _ e)
@@ -191,17 +191,17 @@ string_again value bytes rest is =
 
 -- what is read of a string is one behind its opening quote
 pub string_read : (bytes : List ℕ) (token : FileToken) (rest : List ℕ) → string_at bytes ≡ Some (token, rest)
-    → BeginsWith token (34 ∷ bytes) rest
+    → IsTokenBefore token (34 ∷ bytes) rest
 unfolding string_at
 string_read bytes token rest e = of (literal_from 34 false bytes) refl e
   where
     of : (o : Option (List ℕ × List ℕ)) → literal_from 34 false bytes ≡ o → option_map string_of o ≡ Some (token, rest)
-        → BeginsWith token (34 ∷ bytes) rest
+        → IsTokenBefore token (34 ∷ bytes) rest
     of None k e = absurd (none-some _ e)
     of (Some read) k e =
         let parts = some_pair_parts (Text read.0) token read.1 rest e in
         let reads = literal_read 34 read.0 bytes read.1 k in
-        subst (λ r. BeginsWith token (34 ∷ bytes) r) parts.1 (subst (λ t. BeginsWith t (34 ∷ bytes) read.1) parts.0 reads)
+        subst (λ r. IsTokenBefore token (34 ∷ bytes) r) parts.1 (subst (λ t. IsTokenBefore t (34 ∷ bytes) read.1) parts.0 reads)
 
 -- the bytes of a scalar are told to be its
 pub is_encoded_again : (scalar : ℕ) → IsScalar scalar → is_encoded scalar (encode_utf8 scalar) ≡ true
@@ -231,18 +231,18 @@ character_again scalar bytes rest scalar_is is =
 
 -- what is read of a character is one behind its opening quote
 pub character_read : (bytes : List ℕ) (token : FileToken) (rest : List ℕ) → character_at bytes ≡ Some (token, rest)
-    → BeginsWith token (39 ∷ bytes) rest
+    → IsTokenBefore token (39 ∷ bytes) rest
 unfolding character_at
 character_read bytes token rest e = of (literal_from 39 false bytes) refl e
   where
     of : (o : Option (List ℕ × List ℕ)) → literal_from 39 false bytes ≡ o → option_and_then character_of o ≡ Some (token, rest)
-        → BeginsWith token (39 ∷ bytes) rest
+        → IsTokenBefore token (39 ∷ bytes) rest
     of None k e = absurd (none-some _ e)
     of (Some read) k e =
         let scalar : ℕ = get_or (chars read.0) 0 0 in
         let split = cond_some (is_encoded scalar read.0) (Character scalar, read.1) (token, rest) e in
         let is = is_encoded_read scalar read.0 split.0 in
         let reads = literal_read 39 read.0 bytes read.1 k in
-        let begins : BeginsWith (Character scalar) (39 ∷ bytes) read.1 =
+        let begins : IsTokenBefore (Character scalar) (39 ∷ bytes) read.1 =
         (is.0, subst (λ v. IsLiteral 39 v (39 ∷ bytes) read.1) (sym is.1) reads) in
-        subst (λ r. BeginsWith r.0 (39 ∷ bytes) r.1) split.1 begins
+        subst (λ r. IsTokenBefore r.0 (39 ∷ bytes) r.1) split.1 begins

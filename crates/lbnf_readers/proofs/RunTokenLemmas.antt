@@ -9,13 +9,14 @@ use Rattle.std.proofs.lemmas.Option.{cond_some}
 use Rattle.std.proofs.lemmas.List.Elements.{All-from_recursion, recursion_from_All}
 use Rattle.spec_lbnf.specs.declared.token.FileToken.{FileToken}
 use Rattle.spec_lbnf.specs.declared.token.FileToken.TheVariants.{Identifier, Number}
-use Rattle.spec_lbnf.specs.FileBytes.{is_name_byte}
-use Rattle.spec_lbnf.specs.FileTokens.{is_letter, is_digit, Begins, IsIdentifier, IsNumber, BeginsWith}
+use Rattle.spec_text.specs.Bytes.{is_name_byte}
+use Rattle.spec_lbnf.specs.FileTokens.{FirstIs, IsIdentifier, IsNumber, IsTokenBefore}
+use Rattle.spec_text.specs.Bytes.{is_letter, is_digit}
 use Rattle.lbnf_readers.specs.Scanning.{identifier_at, number_token_at}
 use Rattle.lbnf_readers.proofs.RunLemmas.{run_len, run_take, run_drop, run_passes, run_stops, run_whole}
 
 -- an identifier is read
-pub identifier_again : (name bytes rest : List ℕ) → BeginsWith (Identifier name) bytes rest
+pub identifier_again : (name bytes rest : List ℕ) → IsTokenBefore (Identifier name) bytes rest
     → identifier_at bytes ≡ Some (Identifier name, rest)
 unfolding identifier_at
 identifier_again name bytes rest (is, stops, e) =
@@ -34,12 +35,12 @@ letter_is_name_byte byte h = grind (arith, nat_tests)
 
 -- the identifier at the front of bytes that begin with a letter begins with it
 begins_run : (byte : ℕ) (bytes : List ℕ) → is_letter byte ≡ true
-    → Begins is_letter (take (prefix_len is_name_byte (byte ∷ bytes)) (byte ∷ bytes))
+    → FirstIs is_letter (take (prefix_len is_name_byte (byte ∷ bytes)) (byte ∷ bytes))
 begins_run byte bytes h = rw (letter_is_name_byte byte h, one-add) h
 
 -- what is read of an identifier is one
 pub identifier_read : (byte : ℕ) (bytes : List ℕ) (token : FileToken) (rest : List ℕ) → is_letter byte ≡ true
-    → identifier_at (byte ∷ bytes) ≡ Some (token, rest) → BeginsWith token (byte ∷ bytes) rest
+    → identifier_at (byte ∷ bytes) ≡ Some (token, rest) → IsTokenBefore token (byte ∷ bytes) rest
 unfolding identifier_at
 identifier_read byte bytes token rest letter e =
     let here : List ℕ = byte ∷ bytes in
@@ -50,10 +51,10 @@ identifier_read byte bytes token rest letter e =
       each = All-from_recursion (λ b. is_name_byte b ≡ true) _ (run_passes is_name_byte here);
       short = omega (arith, length-take n here, leb-true n 64 split.0);
     } in
-    subst (λ r. BeginsWith r.0 here r.1) split.1 (is, run_stops is_name_byte here, sym (run_whole is_name_byte here))
+    subst (λ r. IsTokenBefore r.0 here r.1) split.1 (is, run_stops is_name_byte here, sym (run_whole is_name_byte here))
 
 -- a number is read
-pub number_again : (value : ℕ) (bytes rest : List ℕ) → BeginsWith (Number value) bytes rest
+pub number_again : (value : ℕ) (bytes rest : List ℕ) → IsTokenBefore (Number value) bytes rest
     → number_token_at bytes ≡ Some (Number value, rest)
 unfolding number_token_at
 number_again value bytes rest (digits, is, stops, e, means) =
@@ -74,7 +75,7 @@ some_run byte bytes h = rw (h, one-add) (omega arith)
 
 -- what is read of a number is one
 pub number_read : (byte : ℕ) (bytes : List ℕ) (token : FileToken) (rest : List ℕ) → is_digit byte ≡ true
-    → number_token_at (byte ∷ bytes) ≡ Some (token, rest) → BeginsWith token (byte ∷ bytes) rest
+    → number_token_at (byte ∷ bytes) ≡ Some (token, rest) → IsTokenBefore token (byte ∷ bytes) rest
 unfolding number_token_at
 number_read byte bytes token rest digit e =
     let here : List ℕ = byte ∷ bytes in
@@ -85,4 +86,4 @@ number_read byte bytes token rest digit e =
       each = All-from_recursion (λ b. is_digit b ≡ true) _ (run_passes is_digit here);
       short = omega (arith, length-take n here, leb-true n 4 split.0);
     } in
-    subst (λ r. BeginsWith r.0 here r.1) split.1 (take n here, is, run_stops is_digit here, sym (run_whole is_digit here), refl)
+    subst (λ r. IsTokenBefore r.0 here r.1) split.1 (take n here, is, run_stops is_digit here, sym (run_whole is_digit here), refl)

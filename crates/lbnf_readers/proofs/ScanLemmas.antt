@@ -11,7 +11,8 @@ use Rattle.spec_lbnf.specs.declared.token.FileToken.TheVariants.{Identifier, Num
 use Rattle.spec_lbnf.specs.declared.token.FileToken.TheVariants.{Sign as SignToken}
 use Rattle.spec_lbnf.specs.declared.token.PlacedToken.{PlacedToken}
 use Rattle.spec_text.specs.Bytes.{is_white}
-use Rattle.spec_lbnf.specs.FileTokens.{is_letter, is_digit, Begins, BeginsWith, sign_bytes, Separates, Skips, nothing, goes_on, IsStuck, AreTokensTo, IsScan}
+use Rattle.spec_lbnf.specs.FileTokens.{FirstIs, IsTokenBefore, sign_bytes, Separates, Skips, nothing, goes_on, IsStuck, AreTokensTo, IsScan}
+use Rattle.spec_text.specs.Bytes.{is_letter, is_digit}
 use Rattle.lbnf_readers.specs.FileLaws.{RiseTo}
 use Rattle.lbnf_readers.specs.Scanning.{has_front, behind_space, identifier_at, number_token_at, byte_sign, longest_of, sign_token_at, token_at, tokens_by, tokens_from, scan_of}
 use Rattle.lbnf_readers.proofs.SpaceLemmas.{space_again, space_read}
@@ -20,7 +21,7 @@ use Rattle.lbnf_readers.proofs.SignLemmas.{sign_again, sign_read}
 use Rattle.lbnf_readers.proofs.RunTokenLemmas.{identifier_again, identifier_read, number_again, number_read}
 
 -- bytes that begin with a letter are read as an identifier
-letter_first : (bytes rest : List ℕ) → Begins is_letter bytes → token_at (bytes ++ rest) ≡ identifier_at (bytes ++ rest)
+letter_first : (bytes rest : List ℕ) → FirstIs is_letter bytes → token_at (bytes ++ rest) ≡ identifier_at (bytes ++ rest)
 unfolding token_at
 letter_first [] rest begins = elim begins [ ]
 letter_first (byte ∷ bytes) rest begins = rw begins refl
@@ -56,7 +57,7 @@ sign_first Minus bytes rest e = rw e refl
 sign_first Underscore bytes rest e = rw e refl
 
 -- a number that stands before a rest is read
-number_token_again : (value : ℕ) (bytes rest : List ℕ) → BeginsWith (Number value) bytes rest
+number_token_again : (value : ℕ) (bytes rest : List ℕ) → IsTokenBefore (Number value) bytes rest
     → token_at bytes ≡ Some (Number value, rest)
 number_token_again value bytes rest ([], is, stops, e, means) = absurd (omega (arith, is.some))
 number_token_again value bytes rest (digit ∷ digits, is, stops, e, means) =
@@ -64,7 +65,7 @@ number_token_again value bytes rest (digit ∷ digits, is, stops, e, means) =
     ∙ ap number_token_at (sym e) ∙ number_again value bytes rest (digit ∷ digits, is, stops, e, means)
 
 -- a string that stands before a rest is read
-string_token_again : (value bytes rest : List ℕ) → BeginsWith (Text value) bytes rest
+string_token_again : (value bytes rest : List ℕ) → IsTokenBefore (Text value) bytes rest
     → token_at bytes ≡ Some (Text value, rest)
 unfolding token_at
 string_token_again value bytes rest is =
@@ -72,7 +73,7 @@ string_token_again value bytes rest is =
     rw read.1 read.2
 
 -- a character that stands before a rest is read
-character_token_again : (scalar : ℕ) (bytes rest : List ℕ) → BeginsWith (Character scalar) bytes rest
+character_token_again : (scalar : ℕ) (bytes rest : List ℕ) → IsTokenBefore (Character scalar) bytes rest
     → token_at bytes ≡ Some (Character scalar, rest)
 unfolding token_at
 character_token_again scalar bytes rest is =
@@ -80,7 +81,7 @@ character_token_again scalar bytes rest is =
     rw read.1 read.2
 
 -- a token that stands before a rest is read
-pub token_again : (token : FileToken) (bytes rest : List ℕ) → BeginsWith token bytes rest
+pub token_again : (token : FileToken) (bytes rest : List ℕ) → IsTokenBefore token bytes rest
     → token_at bytes ≡ Some (token, rest)
 token_again (Identifier name) bytes rest is =
     ap token_at is.2 ∙ letter_first name rest is.0.letter ∙ ap identifier_at (sym is.2)
@@ -92,7 +93,7 @@ token_again (SignToken sign) bytes rest is = sign_first sign bytes rest is.1 ∙
 
 -- what is read stands before the rest
 pub token_read : (bytes : List ℕ) (token : FileToken) (rest : List ℕ) → token_at bytes ≡ Some (token, rest)
-    → BeginsWith token bytes rest
+    → IsTokenBefore token bytes rest
 unfolding token_at
 token_read [] token rest e = absurd (none-some _ e)
 token_read (byte ∷ bytes) token rest e = elim (cases_Bool (is_letter byte)) [
@@ -102,11 +103,11 @@ token_read (byte ∷ bytes) token rest e = elim (cases_Bool (is_letter byte)) [
     | inr k ↦ elim (cases_Bool (eqb byte 34)) [
       | inl m ↦
           let reads = string_read bytes token rest (rw (h, k, m) at e) in
-          subst (λ b. BeginsWith token (b ∷ bytes) rest) (sym (eqb-true byte 34 m)) reads
+          subst (λ b. IsTokenBefore token (b ∷ bytes) rest) (sym (eqb-true byte 34 m)) reads
       | inr m ↦ elim (cases_Bool (eqb byte 39)) [
         | inl n ↦
             let reads = character_read bytes token rest (rw (h, k, m, n) at e) in
-            subst (λ b. BeginsWith token (b ∷ bytes) rest) (sym (eqb-true byte 39 n)) reads
+            subst (λ b. IsTokenBefore token (b ∷ bytes) rest) (sym (eqb-true byte 39 n)) reads
         | inr n ↦ sign_read (byte ∷ bytes) token rest (rw (h, k, m, n) at e)
       ]
     ]
@@ -114,7 +115,7 @@ token_read (byte ∷ bytes) token rest e = elim (cases_Bool (is_letter byte)) [
 ]
 
 -- bytes begin with one token
-pub one_token : (bytes : List ℕ) (a b : FileToken) (r s : List ℕ) → BeginsWith a bytes r → BeginsWith b bytes s
+pub one_token : (bytes : List ℕ) (a b : FileToken) (r s : List ℕ) → IsTokenBefore a bytes r → IsTokenBefore b bytes s
     → (a ≡ b) × (r ≡ s)
 one_token bytes a b r s first second =
     some_pair_parts a b r s (sym (token_again a bytes r first) ∙ token_again b bytes s second)
@@ -176,7 +177,7 @@ no_token_in_space bytes rest (inr (inl is)) = rw is.whole refl
 no_token_in_space bytes rest (inr (inr is)) = rw is.whole refl
 
 -- no token begins where something separates tokens
-pub token_or_space : (token : FileToken) (bytes rest behind : List ℕ) → BeginsWith token bytes rest
+pub token_or_space : (token : FileToken) (bytes rest behind : List ℕ) → IsTokenBefore token bytes rest
     → Separates bytes behind → ⊥
 token_or_space token bytes rest behind begins space =
     none-some (token, rest) (sym (no_token_in_space bytes behind space) ∙ token_again token bytes rest begins)
@@ -208,12 +209,12 @@ sign_some Minus = omega arith
 sign_some Underscore = omega arith
 
 -- bytes that begin with one that passes have one
-begins_some : (passes : ℕ → Bool) (bytes : List ℕ) → Begins passes bytes → 0 < length bytes
+begins_some : (passes : ℕ → Bool) (bytes : List ℕ) → FirstIs passes bytes → 0 < length bytes
 begins_some passes [] begins = elim begins [ ]
 begins_some passes (byte ∷ bytes) begins = omega arith
 
 -- no token is empty
-pub token_some : (token : FileToken) (bytes rest : List ℕ) → BeginsWith token bytes rest → length rest < length bytes
+pub token_some : (token : FileToken) (bytes rest : List ℕ) → IsTokenBefore token bytes rest → length rest < length bytes
 token_some (Identifier name) bytes rest is =
     omega (arith, simp length-append at (ap length is.2), begins_some is_letter name is.0.letter)
 token_some (Number value) bytes rest (digits, is, stops, e, means) =
@@ -258,10 +259,10 @@ module _ (size : ℕ) where
       (refl, omega (arith, ap length same))
   one_list [] (token ∷ b) bytes s t (rest, skips, stuck, e) (here, behind, skips', e', begins, more) =
       let same = one_skip bytes rest here skips skips' stuck.no_space (λ l. token_or_space token.token here behind l begins) in
-      absurd (stuck.no_token token.token behind (subst (λ l. BeginsWith token.token l behind) (sym same) begins))
+      absurd (stuck.no_token token.token behind (subst (λ l. IsTokenBefore token.token l behind) (sym same) begins))
   one_list (token ∷ a) [] bytes s t (here, behind, skips, e, begins, more) (rest, skips', stuck, e') =
       let same = one_skip bytes rest here skips' skips stuck.no_space (λ l. token_or_space token.token here behind l begins) in
-      absurd (stuck.no_token token.token behind (subst (λ l. BeginsWith token.token l behind) (sym same) begins))
+      absurd (stuck.no_token token.token behind (subst (λ l. IsTokenBefore token.token l behind) (sym same) begins))
   one_list (token ∷ a) (other ∷ b) bytes s t (here, behind, skips, e, begins, more) (there, behind', skips', e', begins', more') =
       let same = one_skip bytes here there skips skips' (λ l. token_or_space token.token here behind l begins) (λ l. token_or_space other.token there behind' l begins') in
       let read = token_again token.token here behind begins in

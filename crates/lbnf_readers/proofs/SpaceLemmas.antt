@@ -8,7 +8,7 @@ use Rattle.std.proofs.lemmas.Slice.Eq.{bytes_eq-Decides}
 use Rattle.std.proofs.lemmas.List.{take_at}
 use Rattle.std.proofs.lemmas.List.Elements.{All-from_recursion, recursion_from_All}
 use Rattle.spec_text.specs.Bytes.{is_white}
-use Rattle.spec_lbnf.specs.FileTokens.{BeginsAs, EndsFirst, IsWhiteBefore, IsLineComment, IsBlockComment, Separates}
+use Rattle.spec_lbnf.specs.FileTokens.{HasFront, EndsFirst, IsWhiteBefore, IsLineComment, IsBlockComment, Separates}
 use Rattle.lbnf_readers.specs.Scanning.{has_front, is_in_line, behind_line, behind_closing, behind_white, behind_space}
 use Rattle.lbnf_readers.proofs.RunLemmas.{run_passes, run_stops, run_whole, run_drop}
 
@@ -25,11 +25,11 @@ front_again front bytes rest e =
     ap (has_front front) e ∙ (bytes_eq-Decides (take (length front) (front ++ rest)) front).1 (take_at front rest (length front) refl)
 
 -- what is not found does not stand at the front
-pub front_not : (front bytes : List ℕ) → has_front front bytes ≡ false → BeginsAs front bytes → ⊥
+pub front_not : (front bytes : List ℕ) → has_front front bytes ≡ false → HasFront front bytes → ⊥
 front_not front bytes h begins = both_ways (has_front front bytes) h (front_again front bytes begins.0 begins.1)
 
 -- what does not stand at the front is not found
-pub not_found : (front bytes : List ℕ) → (BeginsAs front bytes → ⊥) → has_front front bytes ≡ false
+pub not_found : (front bytes : List ℕ) → (HasFront front bytes → ⊥) → has_front front bytes ≡ false
 not_found front bytes apart =
     false_from_ne_true (has_front front bytes) (λ h. apart (drop (length front) bytes, front_read front bytes h))
 
@@ -50,7 +50,7 @@ first_in_itself closing = record {
 
 -- a closing text that does not stand at the front is first behind the first byte too
 first_behind : (byte : ℕ) (block rest : List ℕ) → EndsFirst block (codes "-}")
-    → (BeginsAs (codes "-}") (byte ∷ block ++ rest) → ⊥) → EndsFirst (byte ∷ block) (codes "-}")
+    → (HasFront (codes "-}") (byte ∷ block ++ rest) → ⊥) → EndsFirst (byte ∷ block) (codes "-}")
 first_behind byte block rest ends apart = record {
   inside = byte ∷ ends.inside;
   whole = ap (λ l. byte ∷ l) ends.whole;
@@ -76,7 +76,7 @@ closing_read (byte ∷ bytes) rest e = elim (cases_Bool (has_front (codes "-}") 
 
 -- the closing text is not at the front of a block that has more inside
 not_at_front : (byte : ℕ) (inside rest : List ℕ) → EndsFirst (byte ∷ inside ++ codes "-}") (codes "-}")
-    → BeginsAs (codes "-}") (byte ∷ (inside ++ codes "-}") ++ rest) → ⊥
+    → HasFront (codes "-}") (byte ∷ (inside ++ codes "-}") ++ rest) → ⊥
 not_at_front byte [] rest ends begins =
     let e : ◌≡◌ {A = ℕ} 45 125 = cc (begins.1) in
     absurd (omega arith)

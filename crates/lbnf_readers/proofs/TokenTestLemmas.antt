@@ -14,7 +14,7 @@ use Rattle.spec_lbnf.specs.declared.token.FileToken.{FileToken}
 use Rattle.spec_lbnf.specs.declared.token.FileToken.TheVariants.{Identifier, Number, Text}
 use Rattle.spec_lbnf.specs.declared.token.FileToken.TheVariants.{Character}
 use Rattle.spec_lbnf.specs.declared.token.FileToken.TheVariants.{Sign as SignToken}
-use Rattle.spec_lbnf.specs.FileBytes.{starts_upper}
+use Rattle.spec_lbnf.specs.GrammarFile.{starts_upper}
 use Rattle.spec_lbnf.specs.FileTokens.{sign_bytes}
 use Rattle.spec_lbnf.specs.GrammarFile.{IsUpperName}
 use Rattle.lbnf_readers.specs.FileReading.{is_sign, upper_name, text_value, number_value, is_word}

@@ -6,7 +6,8 @@ use Rattle.spec_lbnf.specs.declared.token.PlacedToken.{PlacedToken}
 use Rattle.spec_lbnf.specs.GrammarFile.{is_semicolon}
 use Rattle.spec_lbnf.specs.declared.fault.TextFault.{TextFault}
 use Rattle.spec_lbnf.specs.declared.fault.TextFault.TheVariants.{Syntax}
-use Rattle.spec_lbnf.specs.Faults.{bare, piece_fault}
+use Rattle.spec_lbnf.specs.Faults.{bare}
+use Rattle.lbnf_readers.specs.FileFaults.{piece_fault}
 use Rattle.lbnf_readers.specs.FileReading.{Read, got, stuck, long, def_at}
 
 -- the tokens before the first semicolon

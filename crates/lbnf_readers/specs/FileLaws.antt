@@ -3,12 +3,12 @@
 use Rattle.std.specs.Prelude.{◌≡◌, ℕ, ◌+◌, ◌≤◌, List, [], ◌∷◌, length}
 use Rattle.spec_lbnf.specs.declared.token.FileToken.{FileToken}
 use Rattle.spec_lbnf.specs.declared.token.PlacedToken.{PlacedToken}
-use Rattle.spec_lbnf.specs.FileTokens.{BeginsWith, Separates, IsScan}
+use Rattle.spec_lbnf.specs.FileTokens.{IsTokenBefore, Separates, IsScan}
 
 -- bytes begin with at most one longest token, and one rest is behind it
 abbrev pub HasOneToken : Type 0
 HasOneToken =
-    (bytes : List ℕ) (a b : FileToken) (r s : List ℕ) → BeginsWith a bytes r → BeginsWith b bytes s
+    (bytes : List ℕ) (a b : FileToken) (r s : List ℕ) → IsTokenBefore a bytes r → IsTokenBefore b bytes s
     → (a ≡ b) × (r ≡ s)
 
 -- bytes begin with at most one white byte or comment, so that one rest is behind it
@@ -18,7 +18,7 @@ HasOneSpace = (bytes r s : List ℕ) → Separates bytes r → Separates bytes s
 -- no token begins where a white byte or a comment does
 abbrev pub HasTokenOrSpace : Type 0
 HasTokenOrSpace =
-    (token : FileToken) (bytes r s : List ℕ) → BeginsWith token bytes r → Separates bytes s → ⊥
+    (token : FileToken) (bytes r s : List ℕ) → IsTokenBefore token bytes r → Separates bytes s → ⊥
 
 -- a file has tokens, up to some offset
 abbrev pub HasSomeScan : Type 0

@@ -2,4 +2,5 @@ pub mod FileLaws
 pub mod ReadingLaws
 pub mod Scanning
 pub mod FileReading
+pub mod FileFaults
 pub mod FileDefinitions

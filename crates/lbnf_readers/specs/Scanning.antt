@@ -19,8 +19,9 @@ use Rattle.spec_lbnf.specs.declared.token.FileToken.TheVariants.{Identifier, Num
 use Rattle.spec_lbnf.specs.declared.token.FileToken.TheVariants.{Character}
 use Rattle.spec_lbnf.specs.declared.token.FileToken.TheVariants.{Sign as SignToken}
 use Rattle.spec_lbnf.specs.declared.token.PlacedToken.{PlacedToken}
-use Rattle.spec_lbnf.specs.FileBytes.{is_name_byte}
-use Rattle.spec_lbnf.specs.FileTokens.{is_letter, is_digit, escaped, longer_by}
+use Rattle.spec_text.specs.Bytes.{is_name_byte}
+use Rattle.spec_lbnf.specs.FileTokens.{escaped, longer_by}
+use Rattle.spec_text.specs.Bytes.{is_letter, is_digit}
 
 -- the value, if the test passes
 abbrev pub only_if : {A : Type 0} → Bool → A → Option A

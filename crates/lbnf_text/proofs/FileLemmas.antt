@@ -5,10 +5,10 @@ use Rattle.spec_lbnf.specs.declared.token.PlacedToken.{PlacedToken}
 use Rattle.spec_lbnf.specs.FileTokens.{IsScan}
 use Rattle.lbnf_readers.specs.FileLaws.{RiseTo}
 use Rattle.spec_lbnf.specs.declared.fault.TextFault.{TextFault}
-use Rattle.spec_lbnf.specs.Faults.{IsFirstFault}
+use Rattle.spec_lbnf.specs.Faults.{IsSmallText, IsFirstFault}
 use Rattle.lbnf_readers.proofs.ScanLemmas.{offsets_rise}
-use Rattle.lbnf_text.specs.Faulting.{Reads}
-use Rattle.lbnf_text.specs.Reading.{IsSmallText, ReadsFile}
+use Rattle.lbnf_text.specs.Faulting.{IsReadAs}
+use Rattle.lbnf_text.specs.Reading.{ReadsFile}
 
 -- offsets that rise are no more than the last of them
 few_offsets : (from : ℕ) (tokens : List PlacedToken) (stop : ℕ) → RiseTo from tokens stop → from + length tokens ≤ stop
@@ -18,7 +18,7 @@ few_offsets from (token ∷ tokens) stop rise = omega (arith, rise.0, few_offset
 -- the fault that is told of the definitions is the first of the file, which is a small text where
 -- memory ran out
 pub told_fault : {A : Type 0} (view : A → List Def) (bytes : List ℕ) (read : Result (List Def) TextFault) (answer : TextFault)
-    → IsSmallText bytes → Reads view read (Err answer) → ((fault : TextFault) → read ≡ Err fault → IsFirstFault bytes fault)
+    → IsSmallText bytes → IsReadAs view read (Err answer) → ((fault : TextFault) → read ≡ Err fault → IsFirstFault bytes fault)
     → ReadsFile view bytes (Err answer)
 told_fault view bytes read answer small (inl memory) first = inl (memory, small)
 told_fault view bytes read answer small (inr told) first = inr (first answer told)

@@ -9,8 +9,9 @@ use Rattle.std.proofs.lemmas.Bool.Decides.{nat_tests}
 use Rattle.std.proofs.lemmas.List.Sums.{prefix_len-le-length, prefix_len_passes}
 use Rattle.std.proofs.lemmas.Str.{IsCharBoundary-start, IsCharBoundary-after_ascii}
 use Rattle.std.proofs.lemmas.Str.Parse.{IsDigitsTest, IsNumeralModel, numerals_by_value, digits_value_short, parse_gives}
-use Rattle.spec_lbnf.specs.FileBytes.{is_name_byte}
-use Rattle.spec_lbnf.specs.FileTokens.{is_digit, Begins}
+use Rattle.spec_text.specs.Bytes.{is_name_byte}
+use Rattle.spec_lbnf.specs.FileTokens.{FirstIs}
+use Rattle.spec_text.specs.Bytes.{is_digit}
 use Rattle.lbnf_readers.proofs.RunLemmas.{run_passes}
 
 -- a text may be cut behind a run of ASCII bytes
@@ -56,7 +57,7 @@ numerals : IsNumeralModel AreDigits (digits_value 10)
 numerals = numerals_by_value AreDigits digits_are
 
 -- digits, one to four, are parsed
-pub digits_parse : {E : Type 0} (text : List ℕ) (result : Result ℕ E) → Begins is_digit text
+pub digits_parse : {E : Type 0} (text : List ℕ) (result : Result ℕ E) → FirstIs is_digit text
     → length (take (prefix_len is_digit text) text) ≤ 4
     → ParsesUnsigned 16 10 (take (prefix_len is_digit text) text) result
     → result ≡ Ok (digits_value 10 (take (prefix_len is_digit text) text))

@@ -5,7 +5,7 @@ use Rattle.spec_lbnf.specs.declared.token.FileToken.{FileToken}
 use Rattle.spec_lbnf.specs.declared.token.FileToken.TheVariants.{Identifier}
 use Rattle.spec_lbnf.specs.declared.fault.TextFault.{TextFault}
 use Rattle.spec_lbnf.specs.declared.fault.TextFault.TheVariants.{Memory, Syntax}
-use Rattle.spec_lbnf.specs.Faults.{piece_fault}
+use Rattle.lbnf_readers.specs.FileFaults.{piece_fault}
 use Rattle.lbnf_text.specs.declared.faults.Start.{Start}
 use Rattle.lbnf_text.specs.declared.faults.Start.TheVariants.{Nothing, Word, TwoWords, Other}
 
@@ -14,9 +14,9 @@ abbrev pub IsFault : TextFault → TextFault → Type 0
 IsFault fault answer = (answer ≡ Memory) ⊎ (answer ≡ fault)
 
 -- the answer, as it is seen, is what was to be read, or its fault, or that memory ran out
-abbrev pub Reads : {A B : Type 0} → (A → B) → Result B TextFault → Result A TextFault → Type 0
-Reads view read (Ok value) = read ≡ Ok (view value)
-Reads view read (Err answer) = (answer ≡ Memory) ⊎ (read ≡ Err answer)
+abbrev pub IsReadAs : {A B : Type 0} → (A → B) → Result B TextFault → Result A TextFault → Type 0
+IsReadAs view read (Ok value) = read ≡ Ok (view value)
+IsReadAs view read (Err answer) = (answer ≡ Memory) ⊎ (read ≡ Err answer)
 
 -- the bytes of the identifier that the token is
 abbrev pub identifier : FileToken → Option (List ℕ)

@@ -27,9 +27,9 @@ Gives read (Ok value) rest = read ≡ got value rest
 Gives read (Err stop) rest = stop ≢ Memory → read ≡ stopped stop rest
 
 -- the answer is the first of the tokens and those behind it, or that there is none
-abbrev pub IsFirst : List PlacedToken → Option (Bor PlacedToken × Bor (List PlacedToken)) → Type 0
-IsFirst tokens (Some parts) = tokens ≡ parts.0.now ∷ parts.1.now
-IsFirst tokens None = tokens ≡ []
+abbrev pub IsFirstToken : List PlacedToken → Option (Bor PlacedToken × Bor (List PlacedToken)) → Type 0
+IsFirstToken tokens (Some parts) = tokens ≡ parts.0.now ∷ parts.1.now
+IsFirstToken tokens None = tokens ≡ []
 
 -- the answer is the next token and those behind it, or that none is left
 abbrev pub Splits : List PlacedToken → Result (Bor PlacedToken × Bor (List PlacedToken)) Stop

@@ -2,7 +2,7 @@
 ghost use Rattle.std.specs.Prelude.{◌≡◌, ◌≤◌, length};
 ghost use Rattle.spec_lbnf.specs.GrammarFile.{is_semicolon};
 ghost use Rattle.lbnf_readers.specs.FileDefinitions.{piece_at, behind_piece, piece_def, defs_of};
-ghost use Rattle.lbnf_text.specs.Faulting.{Reads};
+ghost use Rattle.lbnf_text.specs.Faulting.{IsReadAs};
 
 use crate::faults::{offset_of, stuck_fault};
 use crate::parser::{Parser, Stop, first_of, is_sign};
@@ -40,7 +40,7 @@ fn cut(tokens: &[PlacedToken]) -> (&[PlacedToken], &[PlacedToken])
 /// what stands behind the piece.
 #[tactic(auto, unfolding(lbnf_readers::specs::FileDefinitions::piece_def))]
 fn piece_def(alloc: Global, number: u32, piece: &[PlacedToken], stop: u32) -> Result<Def, TextFault>
-    ensures { Reads (λ def. def) (piece_def number piece.now stop) result }
+    ensures { IsReadAs (λ def. def) (piece_def number piece.now stop) result }
 {
     let mut parser = Parser::new(piece);
     match parser.definition(alloc) {
@@ -58,7 +58,7 @@ fn piece_def(alloc: Global, number: u32, piece: &[PlacedToken], stop: u32) -> Re
 /// last token.
 pub fn definitions(alloc: Global, tokens: &[PlacedToken], stop: u32) -> Result<Vec<Def>, TextFault>
     requires { length tokens.now ≤ 65536 }
-    ensures { Reads (λ list. list.items) (defs_of tokens.now stop) result }
+    ensures { IsReadAs (λ list. list.items) (defs_of tokens.now stop) result }
 {
     let mut list = Vec::new(alloc);
     let mut rest = tokens;

@@ -1,6 +1,6 @@
 //! The definitions of a grammar file.
 ghost use Rattle.std.specs.Prelude.{◌≡◌};
-ghost use Rattle.spec_lbnf.specs.Limits.{AreWithinLimits};
+ghost use Rattle.spec_lbnf.specs.Limits.{AreFewAndSmall};
 
 use spec_lbnf::Def;
 use std::marker::Model;
@@ -15,18 +15,18 @@ pub struct Defs {
 impl Model for Defs {
     ghost use Rattle.std.specs.Prelude.{List};
     ghost use Rattle.spec_lbnf.specs.declared.definition.Def.{Def};
-    ghost use Rattle.spec_lbnf.specs.Limits.{AreWithinLimits};
+    ghost use Rattle.spec_lbnf.specs.Limits.{AreFewAndSmall};
 
     ghost Value = { List Def };
 
     ghost view = { λ defs. defs.list.items };
 
-    ghost invariant = { λ defs. AreWithinLimits defs.list.items };
+    ghost invariant = { λ defs. AreFewAndSmall defs.list.items };
 }
 
 impl Defs {
     pub(crate) fn of(list: Vec<Def>) -> Defs
-        requires { AreWithinLimits list.items }
+        requires { AreFewAndSmall list.items }
         ensures { result ≡ list.items }
     {
         Defs { list }
@@ -35,7 +35,7 @@ impl Defs {
     /// The definitions, in file order. It takes no memory.
     pub fn as_slice(&self) -> &[Def]
         ensures list { result.now ≡ self.now }
-        ensures within { AreWithinLimits self.now }
+        ensures within { AreFewAndSmall self.now }
     {
         self.list.as_slice()
     }

@@ -3,7 +3,8 @@ ghost use Rattle.std.specs.Prelude.{◌≡◌, ℕ, [], None, bytes_eq};
 ghost use Rattle.std.specs.List.{list_any};
 ghost use Rattle.std.specs.Option.{option_copied};
 ghost use Rattle.spec_lbnf.specs.declared.token.FileToken.TheVariants.{Identifier};
-ghost use Rattle.spec_lbnf.specs.Faults.{bare, unbuilt_words, word_fault, piece_fault};
+ghost use Rattle.spec_lbnf.specs.Faults.{bare, unbuilt_words};
+ghost use Rattle.lbnf_readers.specs.FileFaults.{word_fault, piece_fault};
 ghost use Rattle.lbnf_readers.specs.FileDefinitions.{offset_of, stuck_fault};
 ghost use Rattle.lbnf_text.specs.Faulting.{identifier, second_fault, third_fault, IsFault, IsStart};
 

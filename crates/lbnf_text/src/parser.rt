@@ -1,12 +1,12 @@
 //! The tokens of one definition, read from left to right.
 ghost use Rattle.std.specs.Prelude.{◌≡◌, ◌<◌, ◌↔◌, [], length, IfOk, OnOk, IsTrue};
 ghost use Rattle.std.specs.Option.{option_copied};
-ghost use Rattle.spec_lbnf.specs.FileBytes.{starts_upper};
+ghost use Rattle.spec_lbnf.specs.GrammarFile.{starts_upper};
 ghost use Rattle.spec_lbnf.specs.FileTokens.{sign_bytes};
 ghost use Rattle.lbnf_readers.specs.FileReading.{is_sign, is_word};
 ghost use Rattle.lbnf_readers.specs.FileReading.{upper_name, text_value, number_value};
 ghost use Rattle.lbnf_readers.specs.FileReading.{sign_at, name_at, text_at, number_at};
-ghost use Rattle.lbnf_text.specs.Parsing.{Gives, IsFirst, Splits};
+ghost use Rattle.lbnf_text.specs.Parsing.{Gives, IsFirstToken, Splits};
 
 use crate::texts::copy_name;
 use spec_lbnf::{FileToken, PlacedToken, Sign};
@@ -150,7 +150,7 @@ impl<'a> Parser<'a> {
 
 /// The first of the tokens, and the tokens behind it.
 pub fn first_of(tokens: &[PlacedToken]) -> Option<(&PlacedToken, &[PlacedToken])>
-    ensures { IsFirst tokens.now result }
+    ensures { IsFirstToken tokens.now result }
 {
     tokens.split_first()
 }

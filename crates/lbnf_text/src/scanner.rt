@@ -4,8 +4,9 @@ ghost use Rattle.std.specs.Prelude.{Some, None, IfOk, IfSome, MatchOption, encod
 ghost use Rattle.std.specs.Char.{IsScalar};
 ghost use Rattle.std.specs.List.{prefix_len};
 ghost use Rattle.std.specs.Option.{option_map};
-ghost use Rattle.spec_lbnf.specs.FileBytes.{is_name_byte};
-ghost use Rattle.spec_lbnf.specs.FileTokens.{Begins, is_letter, is_digit, escaped, longer_by};
+ghost use Rattle.spec_text.specs.Bytes.{is_name_byte};
+ghost use Rattle.spec_lbnf.specs.FileTokens.{FirstIs, escaped, longer_by};
+ghost use Rattle.spec_text.specs.Bytes.{is_letter, is_digit};
 ghost use Rattle.spec_lbnf.specs.FileTokens.{Skips, IsScan};
 ghost use Rattle.lbnf_readers.specs.Scanning.{behind_line, behind_closing, behind_white, behind_space};
 ghost use Rattle.lbnf_readers.specs.Scanning.{is_escape, string_at, character_at, identifier_at};
@@ -207,7 +208,7 @@ fn name_len(bytes: &[u8]) -> usize
 /// The identifier at the front of a text that begins with a letter, and what is behind it.
 #[tactic(auto, unfolding(lbnf_readers::specs::Scanning::identifier_at))]
 fn identifier(alloc: Global, text: &str) -> Result<Option<(FileToken, &str)>, AllocError>
-    requires { Begins is_letter text.now }
+    requires { FirstIs is_letter text.now }
     ensures { IfOk result (λ read. option_map (λ x. (x.0, x.1.now)) read ≡ identifier_at text.now) }
 {
     let (name, rest) = text.split_at(name_len(text.as_bytes()));
@@ -231,7 +232,7 @@ fn digit_count(bytes: &[u8]) -> usize
 /// The number at the front of a text that begins with a digit, and what is behind it.
 #[tactic(auto, unfolding(lbnf_readers::specs::Scanning::number_token_at))]
 fn number(text: &str) -> Option<(FileToken, &str)>
-    requires { Begins is_digit text.now }
+    requires { FirstIs is_digit text.now }
     ensures { option_map (λ x. (x.0, x.1.now)) result ≡ number_token_at text.now }
 {
     let (digits, rest) = text.split_at(digit_count(text.as_bytes()));

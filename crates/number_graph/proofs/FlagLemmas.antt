@@ -7,7 +7,7 @@ use Rattle.std.proofs.lemmas.Bool.{false≢true, cases_eq}
 use Rattle.std.proofs.lemmas.Grind.{get_or-set_at}
 use Rattle.std.proofs.lemmas.List.{length-replicate}
 use Rattle.std.proofs.lemmas.List.Elements.{Contains-append_left, Contains-append_right, Contains-append_cases}
-use Rattle.number_graph.specs.Graphs.{HasLink, ReachesBy, stay, step, IsSet, AreReachedFlags}
+use Rattle.number_graph.specs.Graphs.{HasLink, ReachesBy, stay, step, IsSet, AreReachedFlags, AreFlagsFromAny}
 use Rattle.number_graph.specs.Flags.{clear_count, SetsFlags, IsSearch}
 use Rattle.number_graph.proofs.LinkLemmas.{Contains-one}
 
@@ -110,45 +110,43 @@ flags_more targets others old flags new start waiting rest before behind = recor
   less = omega (arith, before.less, behind.less);
 }
 
-module _ (links : List (List ℕ)) (from : ℕ) where
-  -- a search begins at its number
-  pub search_starts : from < length links
-      → IsSearch links from (slice_set (replicate (length links) false) from true) (from ∷ [])
-  search_starts within = record {
-    count = length-set (replicate (length links) false) from true ∙ length-replicate (length links) false;
-    start = set_here clear from from is_flag refl;
-    sound = λ n is. elim (set_before clear from n is) [
-      | inl old ↦ absurd (none n old)
-      | inr same ↦ let P : ℕ → Type 0 = λ m. ReachesBy (HasLink links) from m in subst P (sym same) stay
+module _ (links : List (List ℕ)) (starts : List ℕ) where
+  -- a search begins at its numbers
+  pub search_starts :
+      (flags : List Bool) (waiting : List ℕ)
+      → SetsFlags starts (replicate (length links) false) flags [] waiting
+      → IsSearch links starts flags waiting
+  search_starts flags waiting first = record {
+    count = first.count ∙ length-replicate (length links) false;
+    begun = first.set;
+    sound = λ n is. (n, (first_set n is).0, stay);
+    all_set = λ n is. elim (first.all_set n is) [
+      | inl past ↦ absurd (omega (arith, past.1))
+      | inr start ↦ first.set n start
     ];
-    all_set = λ n is. set_here clear from n is_flag (Contains-one from n is);
-    closed = λ n is. elim (set_before clear from n is) [
-      | inl old ↦ absurd (none n old)
-      | inr same ↦ inl (0, omega arith, sym same)
-    ];
+    closed = λ n is. inl (first_set n is).1;
   }
     where
-      clear : List Bool
-      clear = replicate (length links) false
-
-      is_flag : from < length clear
-      is_flag = omega (arith, length-replicate (length links) false)
-
-      none : (n : ℕ) → IsSet clear n → ⊥
-      none n is = none_set (length links) n is
+      first_set : (n : ℕ) → IsSet flags n → Contains starts n × Contains waiting n
+      first_set n is = elim (first.sound n is) [
+        | inl past ↦ absurd (none_set (length links) n past)
+        | inr start ↦ start
+      ]
 
   -- a search goes on behind the number that was looked at
   pub search_goes_on :
       (number : ℕ) (flags new : List Bool) (waiting rest : List ℕ)
-      → IsSearch links from flags (waiting ++ number ∷ [])
+      → IsSearch links starts flags (waiting ++ number ∷ [])
       → SetsFlags (slice_index_or links number []) flags new waiting rest
-      → IsSearch links from new rest
+      → IsSearch links starts new rest
   search_goes_on number flags new waiting rest search added = record {
     count = added.count ∙ search.count;
-    start = added.kept from search.start;
+    begun = λ n start. added.kept n (search.begun n start);
     sound = λ n is. elim (added.sound n is) [
       | inl old ↦ search.sound n old
-      | inr (linked, waits) ↦ step (search.sound number is_set) linked
+      | inr (linked, waits) ↦
+          let before = search.sound number is_set in
+          (before.0, before.1, step before.2 linked)
     ];
     all_set = λ n is. elim (added.all_set n is) [
       | inl old ↦ added.kept n (search.all_set n (Contains-append_left waiting (number ∷ []) n old))
@@ -173,19 +171,19 @@ module _ (links : List (List ℕ)) (from : ℕ) where
 
   -- what waits is a number that has links
   pub next_within : (number : ℕ) (flags : List Bool) (waiting : List ℕ)
-      → IsSearch links from flags (waiting ++ number ∷ []) → number < length links
+      → IsSearch links starts flags (waiting ++ number ∷ []) → number < length links
   next_within number flags waiting search =
       let is : IsSet flags number =
       search.all_set number (Contains-append_right waiting (number ∷ []) number (0, omega arith, refl)) in
       omega (arith, search.count, set_within flags number is)
 
-  -- where nothing waits, what is reached has its flag
+  -- where nothing waits, what is reached from a number that has its flag has its flag
   reached_is_set :
-      (flags : List Bool) (n : ℕ)
-      → IsSearch links from flags [] → ReachesBy (HasLink links) from n → IsSet flags n
-  reached_is_set flags n search stay = search.start
-  reached_is_set flags n search (step {b = m} before last) =
-      elim (search.closed m (reached_is_set flags m search before)) [
+      (flags : List Bool) (m n : ℕ)
+      → IsSearch links starts flags [] → IsSet flags m → ReachesBy (HasLink links) m n → IsSet flags n
+  reached_is_set flags m n search is stay = is
+  reached_is_set flags m n search is (step {b = l} before last) =
+      elim (search.closed l (reached_is_set flags m l search is before)) [
         | inl waits ↦ absurd (omega (arith, waits.1))
         | inr all ↦ all n last
       ]
@@ -193,8 +191,26 @@ module _ (links : List (List ℕ)) (from : ℕ) where
   -- a search where nothing waits has found what is reached
   pub search_ends :
       (flags : List Bool)
-      → IsSearch links from flags [] → AreReachedFlags links from flags
+      → IsSearch links starts flags [] → AreFlagsFromAny links starts flags
   search_ends flags search = record {
     count = search.count;
-    exact = λ n. (search.sound n, reached_is_set flags n search);
+    exact = λ n. (
+      search.sound n,
+      (λ reached. reached_is_set flags reached.0 n search (search.begun reached.0 reached.1) reached.2),
+    );
   }
+
+-- what is reached from a list of one number is what is reached from the number
+pub reached_from_one :
+    (links : List (List ℕ)) (from : ℕ) (flags : List Bool)
+    → AreFlagsFromAny links (from ∷ []) flags → AreReachedFlags links from flags
+reached_from_one links from flags are = record {
+  count = are.count;
+  exact = λ n. (
+    (λ is.
+        let reached = (are.exact n).0 is in
+        let P : ℕ → Type 0 = λ m. ReachesBy (HasLink links) m n in
+        subst P (Contains-one from reached.0 reached.1) reached.2),
+    (λ reached. (are.exact n).1 (from, (0, omega arith, refl), reached)),
+  );
+}

@@ -1,4 +1,7 @@
 pub mod LinkLemmas
 pub mod FlagLemmas
 pub mod ReachLemmas
-pub mod CycleLemmas
+pub mod DerivationLemmas
+pub mod ChainLemmas
+pub mod HeightLemmas
+pub mod ImplicationLemmas

@@ -3,24 +3,38 @@ use Rattle.std.proofs.Common.{◌≡◌, ◌≢◌, ℕ, zero, suc, ◌<◌, ◌
 use Rattle.std.proofs.Common.{slice_index_or, sym, ap, ◌∙◌, arith, length-set, get_or-set_other, subst}
 use Rattle.std.specs.List.{Contains}
 use Rattle.std.proofs.lemmas.Bool.{cases_eq, cases_lt}
-use Rattle.std.proofs.lemmas.List.{get_or_default, get_or_past}
+use Rattle.std.proofs.lemmas.List.{get_or_default, get_or_past, get_or_append_left, get_or_push, length_push}
+use Rattle.std.proofs.lemmas.List.Elements.{Contains-append_left, Contains-push, Contains-push_cases}
 use Rattle.std.proofs.lemmas.Grind.{get_or-set_at}
-use Rattle.std.proofs.lemmas.List.Elements.{Contains-append_left, Contains-append_right, Contains-append_cases}
-use Rattle.number_graph.specs.Graphs.{HasLink, AddsLinks, AddsLink, AreLinksWithin}
+use Rattle.cell_sets.specs.Cells.{AddsSymbol}
+use Rattle.number_graph.specs.Graphs.{HasLink, AddsLinks, AddsLink, AreLinksWithin, PushesLinks}
 
 -- the one member of a list of one
 pub Contains-one : (x y : ℕ) → Contains (x ∷ []) y → y ≡ x
 Contains-one x y (n, within, is) = grind (arith, is, within)
 
+-- what stands at a place of a list is in it
+pub stands_at : (xs : List ℕ) (place : ℕ) → place < length xs → Contains xs (slice_index_or xs place 0)
+stands_at xs place within =
+    (place, within, get_or_default xs place (slice_index_or xs place 0) 0 within)
+
 module _ (links : List (List ℕ)) (from to : ℕ) (old list : List ℕ) (within : from < length links)
-    (is_old : old ≡ slice_index_or links from old) (is : list ≡ old ++ to ∷ []) where
-  -- the number that gets a link has the longer list
-  own_list : (m : ℕ) → m ≡ from
-      → slice_index_or (slice_set links from list) m [] ≡ slice_index_or links m [] ++ to ∷ []
-  own_list m same =
+    (is_old : old ≡ slice_index_or links from old) (adds : AddsSymbol old list to) where
+  -- what the list of the number held before the link
+  old_has : (m n : ℕ) → m ≡ from → HasLink links m n ↔ Contains old n
+  old_has m n same =
       let is_at : old ≡ slice_index_or links m [] =
       is_old ∙ get_or_default links from old [] within ∙ ap (λ k. slice_index_or links k []) (sym same) in
-      get_or-set_at links from m list [] same within ∙ is ∙ ap (λ xs. xs ++ to ∷ []) is_at
+      let P : List ℕ → Type 0 = λ xs. Contains xs n in
+      ((λ has. subst P (sym is_at) has), (λ has. subst P is_at has))
+
+  -- what the list of the number holds with the link
+  new_has : (m n : ℕ) → m ≡ from → HasLink (slice_set links from list) m n ↔ Contains list n
+  new_has m n same =
+      let is_at : slice_index_or (slice_set links from list) m [] ≡ list =
+      get_or-set_at links from m list [] same within in
+      let P : List ℕ → Type 0 = λ xs. Contains xs n in
+      ((λ has. subst P is_at has), (λ has. subst P (sym is_at) has))
 
   -- any other number keeps its list
   other_list :
@@ -34,30 +48,23 @@ module _ (links : List (List ℕ)) (from to : ℕ) (old list : List ℕ) (within
       → HasLink (slice_set links from list) m n → HasLink links m n ⊎ ((m ≡ from) × (n ≡ to))
   new_link m n has = elim (cases_eq m from) [
     | inr differ ↦ let P : List ℕ → Type 0 = λ xs. Contains xs n in inl (subst P (other_list m differ) has)
-    | inl same ↦
-        let P : List ℕ → Type 0 = λ xs. Contains xs n in
-        elim (Contains-append_cases (slice_index_or links m []) (to ∷ []) n (subst P (own_list m same) has)) [
-          | inl old ↦ inl old
-          | inr new ↦ inr (same, Contains-one to n new)
-        ]
+    | inl same ↦ elim ((adds n).0 ((new_has m n same).0 has)) [
+      | inl before ↦ inl ((old_has m n same).1 before)
+      | inr added ↦ inr (same, added)
+    ]
   ]
 
   -- an old link, or the one that was added, is a link of the new ones
   kept_link :
       (m n : ℕ)
       → HasLink links m n ⊎ ((m ≡ from) × (n ≡ to)) → HasLink (slice_set links from list) m n
-  kept_link m n (inl old) = elim (cases_eq m from) [
-    | inr differ ↦ let P : List ℕ → Type 0 = λ xs. Contains xs n in subst P (sym (other_list m differ)) old
-    | inl same ↦
-        let P : List ℕ → Type 0 = λ xs. Contains xs n in
-        subst P (sym (own_list m same)) (Contains-append_left (slice_index_or links m []) (to ∷ []) n old)
+  kept_link m n (inl before) = elim (cases_eq m from) [
+    | inr differ ↦ let P : List ℕ → Type 0 = λ xs. Contains xs n in subst P (sym (other_list m differ)) before
+    | inl same ↦ (new_has m n same).1 ((adds n).1 (inl ((old_has m n same).0 before)))
   ]
-  kept_link m n (inr (same, new)) =
-      let P : List ℕ → Type 0 = λ xs. Contains xs n in
-      subst P (sym (own_list m same))
-      (Contains-append_right (slice_index_or links m []) (to ∷ []) n (0, omega arith, sym new))
+  kept_link m n (inr (same, added)) = (new_has m n same).1 ((adds n).1 (inr added))
 
-  -- one number more behind a list is one link more
+  -- one number more in a list is one link more
   pub adds_link : AddsLink links (slice_set links from list) from to
   adds_link = record {
     count = length-set links from list;
@@ -151,3 +158,52 @@ added_within old new from to adds below within m n has = elim ((adds.links m n).
       omega (arith, is, adds.count)
   | inr added ↦ omega (arith, added.1, below, adds.count)
 ]
+
+-- where a list of numbers is put behind the others, one number more is linked to these
+pub pushes_links :
+    (links : List (List ℕ)) (targets list : List ℕ)
+    → ((n : ℕ) → Contains list n ↔ Contains targets n) → PushesLinks links (links ++ list ∷ []) targets
+pushes_links links targets list alike = record {
+  count = length_push links list;
+  links = λ m n. (new_one m n, old_one m n);
+}
+  where
+    new_one :
+        (m n : ℕ) → HasLink (links ++ list ∷ []) m n
+        → HasLink links m n ⊎ ((m ≡ length links) × Contains targets n)
+    new_one m n has = elim (cases_lt m (length links)) [
+      | inl within ↦
+          let P : List ℕ → Type 0 = λ xs. Contains xs n in
+          inl (subst P (get_or_append_left links (list ∷ []) [] m within) has)
+      | inr past ↦
+          let P : List ℕ → Type 0 = λ xs. Contains xs n in
+          let short : m < length (links ++ list ∷ []) = link_within (links ++ list ∷ []) m n has in
+          let same : length links ≡ m = omega (arith, short, past, length_push links list) in
+          inr (sym same, (alike n).0 (subst P (get_or_push links list [] m same) has))
+    ]
+
+    old_one :
+        (m n : ℕ) → HasLink links m n ⊎ ((m ≡ length links) × Contains targets n)
+        → HasLink (links ++ list ∷ []) m n
+    old_one m n (inl has) =
+        let P : List ℕ → Type 0 = λ xs. Contains xs n in
+        subst P (sym (get_or_append_left links (list ∷ []) [] m (link_within links m n has))) has
+    old_one m n (inr (same, has)) =
+        let P : List ℕ → Type 0 = λ xs. Contains xs n in
+        subst P (sym (get_or_push links list [] m (sym same))) ((alike n).1 has)
+
+-- one number more in a list that has the same members as a front of another
+pub alike_more :
+    (targets old new : List ℕ) (target : ℕ)
+    → ((n : ℕ) → Contains old n ↔ Contains targets n) → AddsSymbol old new target
+    → (n : ℕ) → Contains new n ↔ Contains (targets ++ target ∷ []) n
+alike_more targets old new target alike adds n = (
+  (λ has. elim ((adds n).0 has) [
+    | inl before ↦ Contains-append_left targets (target ∷ []) n ((alike n).0 before)
+    | inr same ↦ subst (Contains (targets ++ target ∷ [])) (sym same) (Contains-push targets target)
+  ]),
+  (λ has. elim (Contains-push_cases targets target n has) [
+    | inl before ↦ (adds n).1 (inl ((alike n).1 before))
+    | inr same ↦ (adds n).1 (inr (sym same))
+  ]),
+)

@@ -1,2 +1,6 @@
 pub mod Graphs
 pub mod Flags
+pub mod Derivations
+pub mod Chains
+pub mod HeightSteps
+pub mod Implications

@@ -1,15 +1,21 @@
 //! What a number reaches by links.
 ghost use Rattle.std.specs.Prelude.{ℕ, ◌<◌, ◌∷◌, [], length, Contains, IfOk, OnOk};
-ghost use Rattle.number_graph.specs.Graphs.{AreLinksWithin, AreReachedFlags};
-ghost use Rattle.number_graph.specs.Flags.{SetsFlags};
+ghost use Rattle.number_graph.specs.Graphs.{AreFlagsFromAny, AreLinksWithin, AreReachedFlags};
+ghost use Rattle.number_graph.specs.Flags.{FlagsOne, SetsFlags};
 
 use crate::links::Links;
 use std::alloc::{AllocError, Global};
 
 /// Flags the number, which then waits to be looked at, unless it has its flag.
-fn flag(target: u16, flags: &mut Vec<bool>, waiting: &mut Vec<u16>) -> Result<(), AllocError>
+pub(crate) fn flag(
+    target: u16,
+    flags: &mut Vec<bool>,
+    waiting: &mut Vec<u16>,
+) -> Result<(), AllocError>
     requires { target < length flags.old.items }
-    ensures { OnOk result (SetsFlags (target ∷ [])
+    ensures sets { OnOk result (SetsFlags (target ∷ [])
+        flags.old.items flags.new.items waiting.old.items waiting.new.items) }
+    ensures one { OnOk result (FlagsOne target
         flags.old.items flags.new.items waiting.old.items waiting.new.items) }
 {
     if flags[target as usize] {
@@ -35,6 +41,26 @@ fn flag_all(
     Ok(())
 }
 
+/// For each number, whether links lead to it from one of these, which themselves count as reached.
+/// It looks at each number that is reached, and at each of its links, once.
+pub fn reached_from_any(
+    alloc: Global,
+    links: &Links,
+    starts: &[u16],
+) -> Result<Vec<bool>, AllocError>
+    requires starts { (n : ℕ) → Contains starts.now n → n < length links.now }
+    requires within { AreLinksWithin links.now }
+    ensures { IfOk result (λ flags. AreFlagsFromAny links.now starts.now flags.items) }
+{
+    let mut flags = vec![in alloc; false; links.count()]?;
+    let mut waiting = Vec::new(alloc);
+    flag_all(starts, &mut flags, &mut waiting)?;
+    while let Some(number) = waiting.pop() {
+        flag_all(links.from(number), &mut flags, &mut waiting)?;
+    }
+    Ok(flags)
+}
+
 /// For each number, whether links lead to it from this one, which itself counts as reached. It
 /// looks at each number that is reached, and at each of its links, once.
 pub fn reached_from(alloc: Global, links: &Links, from: u16) -> Result<Vec<bool>, AllocError>
@@ -42,11 +68,5 @@ pub fn reached_from(alloc: Global, links: &Links, from: u16) -> Result<Vec<bool>
     requires within { AreLinksWithin links.now }
     ensures { IfOk result (λ flags. AreReachedFlags links.now from flags.items) }
 {
-    let mut flags = vec![in alloc; false; links.count()]?;
-    flags[from as usize] = true;
-    let mut waiting = vec![in alloc; from]?;
-    while let Some(number) = waiting.pop() {
-        flag_all(links.from(number), &mut flags, &mut waiting)?;
-    }
-    Ok(flags)
+    reached_from_any(alloc, links, &[from])
 }

@@ -1,35 +1,57 @@
 //! Whether a number reaches itself.
-ghost use Rattle.std.specs.Prelude.{◌<◌, ◌↔◌, length, IsTrue, IfOk};
-ghost use Rattle.number_graph.specs.Graphs.{AreLinksWithin, HasLink, IsOnCycle, ReachesBy};
+ghost use Rattle.std.specs.Prelude.{◌<◌, ◌↔◌, ◌^◌, length, IsTrue, IfOk};
+ghost use Rattle.number_graph.specs.Chains.{AreHeights, FindsLeastOnCycle};
+ghost use Rattle.number_graph.specs.Graphs.{AreLinksWithin, IsOnCycle};
 
-use crate::closure::reached_from;
+use crate::closure::reached_from_any;
 use crate::links::Links;
 use std::alloc::{AllocError, Global};
 
-/// Whether links lead from the one number to the other, or they are the same.
-fn reaches(alloc: Global, links: &Links, from: u16, to: u16) -> Result<bool, AllocError>
-    requires within { AreLinksWithin links.now }
-    requires from { from < length links.now }
-    requires to { to < length links.now }
-    ensures { IfOk result
-        (λ answer. IsTrue answer ↔ ReachesBy (HasLink links.now) from to) }
-{
-    let flags = reached_from(alloc, links, from)?;
-    Ok(flags[to as usize])
-}
-
-/// Whether the number reaches itself by one link or more. It searches from each number that this
-/// one is linked to, up to the first that leads back.
+/// Whether the number reaches itself by one link or more. It is one search, from the numbers that
+/// this one is linked to.
 pub fn reaches_itself(alloc: Global, links: &Links, number: u16) -> Result<bool, AllocError>
     requires within { AreLinksWithin links.now }
     requires number { number < length links.now }
     ensures { IfOk result (λ answer. IsTrue answer ↔ IsOnCycle links.now number) }
 {
-    let targets = links.from(number);
-    for target in targets {
-        if reaches(alloc, links, *target, number)? {
-            return Ok(true);
+    let flags = reached_from_any(alloc, links, links.from(number))?;
+    Ok(flags[number as usize])
+}
+
+/// Whether the number reaches itself, where its height tells that it does not or tells nothing.
+fn is_on_cycle(
+    alloc: Global,
+    links: &Links,
+    heights: &[Option<u16>],
+    number: u16,
+) -> Result<bool, AllocError>
+    requires within { AreLinksWithin links.now }
+    requires heights { AreHeights links.now heights.now }
+    requires number { number < length links.now }
+    ensures { IfOk result (λ answer. IsTrue answer ↔ IsOnCycle links.now number) }
+{
+    match heights[number as usize] {
+        Some(_) => Ok(false),
+        None => reaches_itself(alloc, links, number),
+    }
+}
+
+/// The least number that reaches itself, and `None` where none does. It searches from each number
+/// whose height is not told, up to that one, and so from none where all heights are told.
+pub fn least_on_cycle(
+    alloc: Global,
+    links: &Links,
+    heights: &[Option<u16>],
+) -> Result<Option<u16>, AllocError>
+    requires within { AreLinksWithin links.now }
+    requires few { length links.now < 2 ^ 16 }
+    requires heights { AreHeights links.now heights.now }
+    ensures { IfOk result (FindsLeastOnCycle links.now) }
+{
+    for number in 0..links.count() as u16 {
+        if is_on_cycle(alloc, links, heights, number)? {
+            return Ok(Some(number));
         }
     }
-    Ok(false)
+    Ok(None)
 }

@@ -1,6 +1,7 @@
 //! Small graphs, with what their numbers reach by hand.
-ghost use Rattle.std.specs.Prelude.{◌≡◌, ◌<◌, length, IfOk, OnOk};
+ghost use Rattle.std.specs.Prelude.{◌≡◌, ℕ, ◌<◌, length, Contains, IsTrue, IfOk, OnOk};
 ghost use Rattle.number_graph.specs.Graphs.{AreLinksWithin};
+ghost use Rattle.number_graph.specs.Implications.{AreImplicationsWithin};
 
 use super::*;
 use std::alloc::{AllocError, Global};
@@ -41,6 +42,14 @@ fn reached(
     reached_from(alloc, &links, from)
 }
 
+/// Whether one of the starts reaches each number of a graph of four.
+fn reached_by(alloc: Global, pairs: &[(u16, u16)], starts: &[u16]) -> Result<Vec<bool>, AllocError>
+    requires { (n : ℕ) → Contains starts.now n → n < 4 }
+{
+    let links = links_of(alloc, 4, pairs)?;
+    reached_from_any(alloc, &links, starts)
+}
+
 /// Whether each number of a graph of four reaches itself.
 fn on_cycles(alloc: Global, pairs: &[(u16, u16)]) -> Result<Vec<bool>, AllocError> {
     let links = links_of(alloc, 4, pairs)?;
@@ -49,6 +58,57 @@ fn on_cycles(alloc: Global, pairs: &[(u16, u16)]) -> Result<Vec<bool>, AllocErro
         answers.push(reaches_itself(alloc, &links, number)?)?;
     }
     Ok(answers)
+}
+
+/// The heights of the numbers of a graph of five.
+fn heights_of(alloc: Global, pairs: &[(u16, u16)]) -> Result<Vec<Option<u16>>, AllocError> {
+    let links = links_of(alloc, 5, pairs)?;
+    heights(alloc, &links)
+}
+
+/// The least number of a graph of five that reaches itself.
+fn least(alloc: Global, pairs: &[(u16, u16)]) -> Result<Option<u16>, AllocError> {
+    let links = links_of(alloc, 5, pairs)?;
+    let told = heights(alloc, &links)?;
+    least_on_cycle(alloc, &links, told.as_slice())
+}
+
+fn are_below(numbers: &[u16], total: usize) -> bool
+    ensures { IsTrue result → (n : ℕ) → Contains numbers.now n → n < total }
+{
+    for number in numbers {
+        if *number as usize >= total {
+            return false;
+        }
+    }
+    true
+}
+
+/// Adds the implication where its numbers are below the total.
+fn add_within(
+    implications: &mut Implications,
+    total: usize,
+    premises: &[u16],
+    conclusion: u16,
+) -> Result<(), AllocError>
+    requires { AreImplicationsWithin total implications.old }
+    ensures { OnOk result (AreImplicationsWithin total implications.new) }
+{
+    if are_below(premises, total) {
+        if (conclusion as usize) < total {
+            implications.add(premises, conclusion)?;
+        }
+    }
+    Ok(())
+}
+
+/// For each of six numbers, whether it follows from the implications.
+fn following(alloc: Global, pairs: &[(&[u16], u16)]) -> Result<Vec<bool>, AllocError> {
+    let mut implications = Implications::new(alloc)?;
+    for pair in pairs {
+        add_within(&mut implications, 6, pair.0, pair.1)?;
+    }
+    consequences(alloc, 6, &implications)
 }
 
 /// The numbers that each number of a graph of three is linked to, one after another.
@@ -62,12 +122,13 @@ fn linked(alloc: Global, pairs: &[(u16, u16)]) -> Result<Vec<u16>, AllocError> {
 }
 
 #[test]
-fn links_stay_in_the_order_in_which_they_are_added(rt: HostRuntime) -> Result<(), Fail> {
-    let cases: [(&[(u16, u16)], &[u16]); 4] = [
+fn each_link_is_kept_once_in_rising_order(rt: HostRuntime) -> Result<(), Fail> {
+    let cases: [(&[(u16, u16)], &[u16]); 5] = [
         (&[], &[]),
-        (&[(1, 2), (1, 0)], &[2, 0]),
+        (&[(1, 2), (1, 0)], &[0, 2]),
         (&[(2, 0), (0, 1), (2, 2)], &[1, 0, 2]),
-        (&[(1, 1), (1, 1)], &[1, 1]),
+        (&[(1, 1), (1, 1)], &[1]),
+        (&[(0, 2), (0, 0), (0, 1), (0, 2), (0, 0)], &[0, 1, 2]),
     ];
     for (place, (pairs, want)) in cases.iter().enumerate() {
         let all = linked(rt.alloc(), pairs)?;
@@ -77,7 +138,7 @@ fn links_stay_in_the_order_in_which_they_are_added(rt: HostRuntime) -> Result<()
 }
 
 #[test]
-fn a_number_reaches_itself_and_what_links_lead_to(rt: HostRuntime) -> Result<(), Fail> {
+fn a_reaches_itself_and_what_links_lead_to(rt: HostRuntime) -> Result<(), Fail> {
     let chain: &[(u16, u16)] = &[(0, 1), (1, 2), (2, 3)];
     let ring: &[(u16, u16)] = &[(0, 1), (1, 2), (2, 0), (3, 0)];
     let fork: &[(u16, u16)] = &[(0, 3), (0, 2), (2, 2)];
@@ -98,6 +159,18 @@ fn a_number_reaches_itself_and_what_links_lead_to(rt: HostRuntime) -> Result<(),
 }
 
 #[test]
+fn what_any_of_the_starts_leads_to_is_reached(rt: HostRuntime) -> Result<(), Fail> {
+    let fork: &[(u16, u16)] = &[(0, 3), (0, 2), (2, 2)];
+    let none = reached_by(rt.alloc(), fork, &[])?;
+    assert_eq!(rt; none.as_slice(), [false, false, false, false].as_slice());
+    let both = reached_by(rt.alloc(), fork, &[1, 2])?;
+    assert_eq!(rt; both.as_slice(), [false, true, true, false].as_slice());
+    let twice = reached_by(rt.alloc(), fork, &[2, 0, 2])?;
+    assert_eq!(rt; twice.as_slice(), [true, false, true, true].as_slice());
+    Ok(())
+}
+
+#[test]
 fn a_number_on_a_cycle_reaches_itself(rt: HostRuntime) -> Result<(), Fail> {
     let cases: [(&[(u16, u16)], [bool; 4]); 5] = [
         (&[], [false, false, false, false]),
@@ -109,6 +182,70 @@ fn a_number_on_a_cycle_reaches_itself(rt: HostRuntime) -> Result<(), Fail> {
     for (place, (pairs, want)) in cases.iter().enumerate() {
         let answers = on_cycles(rt.alloc(), pairs)?;
         assert_eq!(rt; answers.as_slice(), want.as_slice(), "at {place}");
+    }
+    Ok(())
+}
+
+#[test]
+fn the_longest_chain_from_each_number_is_measured(rt: HostRuntime) -> Result<(), Fail> {
+    let cases: [(&[(u16, u16)], [Option<u16>; 5]); 5] = [
+        (&[], [Some(0), Some(0), Some(0), Some(0), Some(0)]),
+        (
+            &[(0, 1), (1, 2), (2, 3), (3, 4)],
+            [Some(4), Some(3), Some(2), Some(1), Some(0)],
+        ),
+        (
+            &[(4, 3), (4, 0), (3, 2), (2, 0), (1, 0), (4, 3)],
+            [Some(0), Some(1), Some(1), Some(2), Some(3)],
+        ),
+        (
+            &[(0, 1), (1, 2), (2, 1), (3, 4), (2, 3)],
+            [None, None, None, Some(1), Some(0)],
+        ),
+        (
+            &[(2, 2), (3, 2), (0, 4)],
+            [Some(1), Some(0), None, None, Some(0)],
+        ),
+    ];
+    for (place, (pairs, want)) in cases.iter().enumerate() {
+        let told = heights_of(rt.alloc(), pairs)?;
+        assert_eq!(rt; told.as_slice(), want.as_slice(), "at {place}");
+    }
+    Ok(())
+}
+
+#[test]
+fn the_least_number_on_a_cycle_is_told(rt: HostRuntime) -> Result<(), Fail> {
+    let cases: [(&[(u16, u16)], Option<u16>); 5] = [
+        (&[], None),
+        (&[(0, 1), (1, 2), (2, 3), (3, 4), (0, 4)], None),
+        (&[(0, 1), (1, 2), (2, 1), (4, 4)], Some(1)),
+        (&[(0, 3), (3, 4), (4, 3)], Some(3)),
+        (&[(4, 0), (0, 4)], Some(0)),
+    ];
+    for (pairs, want) in &cases {
+        let found = least(rt.alloc(), pairs)?;
+        assert_eq!(rt; found, *want);
+    }
+    Ok(())
+}
+
+#[test]
+fn a_conclusion_follows_once_all_its_premises_do(rt: HostRuntime) -> Result<(), Fail> {
+    let chain: &[(&[u16], u16)] = &[(&[4], 5), (&[3], 4), (&[2], 3), (&[], 2)];
+    let missing: &[(&[u16], u16)] = &[(&[], 0), (&[], 1), (&[0, 2, 1], 3), (&[1, 0, 1], 4)];
+    let circle: &[(&[u16], u16)] = &[(&[0], 1), (&[1], 0), (&[1, 2], 3), (&[], 2)];
+    let either: &[(&[u16], u16)] = &[(&[0], 5), (&[1], 5), (&[5, 1], 2), (&[], 1), (&[5], 0)];
+    let cases: [(&[(&[u16], u16)], [bool; 6]); 5] = [
+        (&[], [false, false, false, false, false, false]),
+        (chain, [false, false, true, true, true, true]),
+        (missing, [true, true, false, false, true, false]),
+        (circle, [false, false, true, false, false, false]),
+        (either, [true, true, true, false, false, true]),
+    ];
+    for (place, (pairs, want)) in cases.iter().enumerate() {
+        let flags = following(rt.alloc(), pairs)?;
+        assert_eq!(rt; flags.as_slice(), want.as_slice(), "at {place}");
     }
     Ok(())
 }

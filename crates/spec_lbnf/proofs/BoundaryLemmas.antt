@@ -13,15 +13,11 @@ use Rattle.spec_lbnf.specs.declared.token.FileToken.TheVariants.{Identifier}
 use Rattle.spec_lbnf.specs.declared.token.FileToken.TheVariants.{Sign as SignToken}
 use Rattle.spec_lbnf.specs.GrammarFile.{category_tokens}
 use Rattle.spec_lbnf.specs.Expansion.{category_text}
-use Rattle.spec_lbnf.specs.Faults.{EndsOpen, HasLongCategory}
+use Rattle.spec_lbnf.specs.Faults.{EndsOpen, HasLongCategory, LacksLong}
 
 -- the tokens begin with a close bracket
 abbrev pub BeginsClosed : List FileToken → Type 0
 BeginsClosed tokens = (behind : List FileToken) × (tokens ≡ SignToken CloseBracket ∷ behind)
-
--- no whole category among the tokens is too long
-abbrev pub LacksLong : List FileToken → Type 0
-LacksLong tokens = (before : List FileToken) → HasLongCategory tokens before → ⊥
 
 -- no category among the tokens is too long, and none can reach over their ends
 pub record IsClosed (tokens : List FileToken) : Type 0 where

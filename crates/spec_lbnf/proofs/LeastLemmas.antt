@@ -8,8 +8,10 @@ use Rattle.spec_lbnf.specs.declared.token.FileToken.{FileToken}
 use Rattle.spec_lbnf.specs.declared.token.FileToken.TheVariants.{Identifier, Number, Text, Character}
 use Rattle.spec_lbnf.specs.declared.token.FileToken.TheVariants.{Sign as SignToken}
 use Rattle.spec_lbnf.specs.declared.token.PlacedToken.{PlacedToken}
-use Rattle.spec_lbnf.specs.FileBytes.{is_name_byte, Stops}
-use Rattle.spec_lbnf.specs.FileTokens.{is_letter, Begins, Separates, Skips, nothing, goes_on, LiteralPart, plain, escape, part_bytes, part_value, IsLiteral, sign_bytes, BeginsWith, AreTokensTo}
+use Rattle.spec_lbnf.specs.FileTokens.{RunEnds}
+use Rattle.spec_text.specs.Bytes.{is_name_byte}
+use Rattle.spec_lbnf.specs.FileTokens.{FirstIs, Separates, Skips, nothing, goes_on, LiteralPart, plain, escape, part_bytes, part_value, IsLiteral, sign_bytes, IsTokenBefore, AreTokensTo}
+use Rattle.spec_text.specs.Bytes.{is_letter}
 use Rattle.spec_lbnf.specs.Faults.{bare}
 use Rattle.spec_lbnf.proofs.BoundaryLemmas.{is_name}
 
@@ -49,10 +51,10 @@ skips_len bytes rest (nothing b r e) = omega (arith, ap length e)
 skips_len bytes rest (goes_on b behind r first others) = omega (arith, separates_len bytes behind first, skips_len behind rest others)
 
 -- between what stops a name and a letter there is a byte
-skips_some : (bytes rest : List ℕ) → Skips bytes rest → Stops is_name_byte bytes → Begins is_letter rest → length rest < length bytes
+skips_some : (bytes rest : List ℕ) → Skips bytes rest → RunEnds is_name_byte bytes → FirstIs is_letter rest → length rest < length bytes
 skips_some bytes rest (nothing b r e) stops begins = absurd (by bytes rest e stops begins)
   where
-    by : (bytes rest : List ℕ) → bytes ≡ rest → Stops is_name_byte bytes → Begins is_letter rest → ⊥
+    by : (bytes rest : List ℕ) → bytes ≡ rest → RunEnds is_name_byte bytes → FirstIs is_letter rest → ⊥
     by [] [] e stops begins = begins
     by [] (c ∷ rest) e stops begins = cc e
     by (b ∷ bytes) [] e stops begins = begins
@@ -82,7 +84,7 @@ literal_least quote value bytes rest is =
     )
 
 -- a token takes its bytes
-token_takes : (token : FileToken) (bytes rest : List ℕ) → BeginsWith token bytes rest → token_least token + length rest ≤ length bytes
+token_takes : (token : FileToken) (bytes rest : List ℕ) → IsTokenBefore token bytes rest → token_least token + length rest ≤ length bytes
 token_takes (Identifier name) bytes rest is = omega (arith, ap length is.2, length-append name rest)
 token_takes (Number value) bytes rest is =
     omega (arith, ap length is.3, length-append is.0 rest, is.1.some)
@@ -91,7 +93,7 @@ token_takes (Character scalar) bytes rest is = omega (arith, literal_least 39 _ 
 token_takes (SignToken sign) bytes rest is = omega (arith, ap length is.1, length-append (sign_bytes sign) rest)
 
 -- behind a name stands no byte of a name
-token_stops : (token : FileToken) (bytes rest : List ℕ) → BeginsWith token bytes rest → is_name token ≡ true → Stops is_name_byte rest
+token_stops : (token : FileToken) (bytes rest : List ℕ) → IsTokenBefore token bytes rest → is_name token ≡ true → RunEnds is_name_byte rest
 token_stops (Identifier name) bytes rest is h = is.1
 token_stops (Number value) bytes rest is h = absurd (false≢true h)
 token_stops (Text value) bytes rest is h = absurd (false≢true h)
@@ -99,15 +101,15 @@ token_stops (Character scalar) bytes rest is h = absurd (false≢true h)
 token_stops (SignToken sign) bytes rest is h = absurd (false≢true h)
 
 -- an identifier begins with a letter
-begins_front : (name rest : List ℕ) → Begins is_letter name → Begins is_letter (name ++ rest)
+begins_front : (name rest : List ℕ) → FirstIs is_letter name → FirstIs is_letter (name ++ rest)
 begins_front [] rest begins = absurd begins
 begins_front (b ∷ name) rest begins = begins
 
 -- what stands before a token is as long as its gap
-gap_takes : (behind_name : Bool) (token : FileToken) (bytes here rest : List ℕ) → (behind_name ≡ true → Stops is_name_byte bytes)
-    → Skips bytes here → BeginsWith token here rest → gap behind_name token + length here ≤ length bytes
+gap_takes : (behind_name : Bool) (token : FileToken) (bytes here rest : List ℕ) → (behind_name ≡ true → RunEnds is_name_byte bytes)
+    → Skips bytes here → IsTokenBefore token here rest → gap behind_name token + length here ≤ length bytes
 gap_takes true (Identifier name) bytes here rest stops skips is =
-    let begins : Begins is_letter here = subst (Begins is_letter) (sym is.2) (begins_front name rest is.0.letter) in
+    let begins : FirstIs is_letter here = subst (FirstIs is_letter) (sym is.2) (begins_front name rest is.0.letter) in
     omega (arith, skips_some bytes here skips (stops refl) begins)
 gap_takes true (Number value) bytes here rest stops skips is = omega (arith, skips_len bytes here skips)
 gap_takes true (Text value) bytes here rest stops skips is = omega (arith, skips_len bytes here skips)
@@ -117,7 +119,7 @@ gap_takes false token bytes here rest stops skips is = omega (arith, skips_len b
 
 -- tokens take their bytes
 pub tokens_take : (size : ℕ) (bytes : List ℕ) (tokens : List PlacedToken) (stop : ℕ) (behind_name : Bool)
-    → AreTokensTo size bytes tokens stop → (behind_name ≡ true → Stops is_name_byte bytes) → least behind_name (bare tokens) ≤ length bytes
+    → AreTokensTo size bytes tokens stop → (behind_name ≡ true → RunEnds is_name_byte bytes) → least behind_name (bare tokens) ≤ length bytes
 tokens_take size bytes [] stop behind_name scan stops = omega arith
 tokens_take size bytes (token ∷ tokens) stop behind_name scan stops =
     let here : List ℕ = scan.0 in

@@ -17,12 +17,12 @@ use Rattle.spec_lbnf.specs.declared.token.FileToken.TheVariants.{Sign as SignTok
 use Rattle.spec_lbnf.specs.Expansion.{category_text}
 use Rattle.spec_lbnf.specs.Words.{is_empty, words_in}
 use Rattle.spec_lbnf.specs.GrammarFile.{IsCategory, category_tokens, label_tokens, WrittenItem, category, string, IsWritten, written_tokens, written_items, SpellsRule, entry_tokens, nonempty_tokens, keyword, SpellsDef, is_semicolon, pieces_of, AreSpelledBy}
-use Rattle.spec_lbnf.specs.Faults.{bare, EndsOpen, Spells}
+use Rattle.spec_lbnf.specs.Faults.{bare, EndsOpen, LacksLong, Spells}
 use Rattle.spec_lbnf.specs.Limits.{IsShallow, IsSmallItem, IsSmall}
 use Rattle.spec_lbnf.specs.Laws.{DefsWithinLimits}
 use Rattle.spec_lbnf.proofs.DefSizeLemmas.{two_bytes_for_each}
 use Rattle.spec_lbnf.proofs.BracketLemmas.{name_has_byte}
-use Rattle.spec_lbnf.proofs.BoundaryLemmas.{LacksLong, long_behind, long_before, nothing_of, nothing_closed, category_len}
+use Rattle.spec_lbnf.proofs.BoundaryLemmas.{long_behind, long_before, nothing_of, nothing_closed, category_len}
 use Rattle.spec_lbnf.proofs.BracketLemmas.{category_no_open}
 use Rattle.spec_lbnf.proofs.PieceLemmas.{cut_of}
 
@@ -206,6 +206,6 @@ small_defs bytes defs spelled =
 -- and within the limits
 pub defs_within_limits : DefsWithinLimits
 defs_within_limits bytes defs spelled = record {
-  few = omega (arith, spelled.few, two_bytes_for_each bytes defs spelled);
+  few = omega (arith, spelled.small.few, two_bytes_for_each bytes defs spelled);
   small = small_defs bytes defs spelled;
 }

@@ -1,6 +1,6 @@
 -- What a grammar file spells, or its first fault.
 use Rattle.std.specs.Prelude.{◌≡◌, ℕ, ◌<◌, ◌≤◌, List, [], ◌∷◌, ◌++◌, length, codes}
-use Rattle.std.specs.Prelude.{map, bytes_eq, cond, IsUtf8}
+use Rattle.std.specs.Prelude.{map, cond, false, ◌⊎◌, Contains, IsUtf8}
 use Rattle.std.specs.List.{list_any}
 use Rattle.std.specs.Str.Lossy.{utf8_valid_len}
 use Rattle.spec_lbnf.specs.declared.definition.CatName.{CatName}
@@ -13,11 +13,11 @@ use Rattle.spec_lbnf.specs.declared.token.FileToken.{FileToken}
 use Rattle.spec_lbnf.specs.declared.token.FileToken.TheVariants.{Identifier}
 use Rattle.spec_lbnf.specs.declared.token.FileToken.TheVariants.{Sign as SignToken}
 use Rattle.spec_lbnf.specs.declared.token.PlacedToken.{PlacedToken}
-use Rattle.spec_lbnf.specs.FileBytes.{starts_upper}
+use Rattle.spec_lbnf.specs.GrammarFile.{starts_upper}
 use Rattle.spec_lbnf.specs.Expansion.{category_text}
 use Rattle.spec_lbnf.specs.FileTokens.{IsScan}
-use Rattle.spec_lbnf.specs.GrammarFile.{SpellsDefs, IsCategory, category_tokens, is_semicolon}
-use Rattle.spec_lbnf.specs.GrammarFile.{pieces_of}
+use Rattle.spec_lbnf.specs.GrammarFile.{IsUpperName, IsCategory, category_tokens, keyword}
+use Rattle.spec_lbnf.specs.GrammarFile.{is_semicolon, pieces_of, SpellsDefs}
 
 -- the tokens without their offsets
 abbrev pub bare : List PlacedToken → List FileToken
@@ -40,15 +40,23 @@ pub record HasLongCategory (tokens before : List FileToken) : Type 0 where
   pub whole : EndsOpen before → ⊥
   pub long : 128 < length (category_text cat)
 
--- the file spells the definitions: it is UTF-8 of at most 65,536 bytes, its tokens reach its end
--- and spell them, and no category has more than 128 bytes
-pub record Spells (bytes : List ℕ) (defs : List Def) : Type 0 where
+-- no whole category among the tokens has more than 128 bytes
+abbrev pub LacksLong : List FileToken → Type 0
+LacksLong tokens = (before : List FileToken) → HasLongCategory tokens before → ⊥
+
+-- the file has at most 65,536 bytes and is UTF-8, so that its tokens are looked at
+pub record IsSmallText (bytes : List ℕ) : Type 0 where
   pub few : length bytes ≤ 65536
   pub utf8 : IsUtf8 bytes
+
+-- the file spells the definitions: it is a small text, its tokens reach its end and spell them, and
+-- no category is too long
+pub record Spells (bytes : List ℕ) (defs : List Def) : Type 0 where
+  pub small : IsSmallText bytes
   pub tokens : List PlacedToken
   pub scan : IsScan bytes tokens (length bytes)
   pub spelled : SpellsDefs defs (bare tokens)
-  pub short : (before : List FileToken) → HasLongCategory (bare tokens) before → ⊥
+  pub short : LacksLong (bare tokens)
 
 -- the tokens behind the last semicolon, those of the definition that is read
 abbrev pub last_piece : List FileToken → List FileToken
@@ -61,48 +69,31 @@ last_piece (token ∷ tokens) =
 abbrev pub unbuilt_words : List (List ℕ)
 unbuilt_words = codes "token" ∷ codes "position" ∷ codes "comment" ∷ []
 
--- the fault of a word that cannot begin a definition, at this offset behind so many definitions
-abbrev pub word_fault : ℕ → List ℕ → ℕ → TextFault
-word_fault number word at =
-    cond (list_any (bytes_eq word) unbuilt_words) (Unbuilt number) (Unsupported word at)
+-- the tokens are a label that is a name, alone or behind `internal`
+abbrev pub IsNamedLabel : List FileToken → Type 0
+IsNamedLabel piece =
+    (label : List ℕ)
+    × ((IsUpperName label × (piece ≡ Identifier label ∷ []))
+    ⊎ (piece ≡ keyword (codes "internal") ∷ Identifier label ∷ []))
 
--- the fault of a token at which a definition that has begun with these cannot go on: a lower-case
--- word at its beginning is not built or not supported; a lower-case label behind `internal` and a
--- bracket behind a label's name are not supported; all else is a fault of syntax
-abbrev pub piece_fault : ℕ → List FileToken → FileToken → ℕ → TextFault
-piece_fault number [] (Identifier word) at =
-    cond (starts_upper word) (Syntax at) (word_fault number word at)
-piece_fault number (Identifier first ∷ []) (Identifier word) at =
-    cond (bytes_eq first (codes "internal"))
-    (cond (starts_upper word) (Syntax at) (Unsupported word at))
-    (Syntax at)
-piece_fault number (Identifier first ∷ []) (SignToken OpenParen) at =
-    cond (starts_upper first) (Unsupported (codes "(") at) (Syntax at)
-piece_fault number (Identifier first ∷ Identifier label ∷ []) (SignToken OpenParen) at =
-    cond (bytes_eq first (codes "internal")) (Unsupported (codes "(") at) (Syntax at)
-piece_fault number piece token at = Syntax at
-
--- the fault of a token at which the file cannot go on behind these
-abbrev pub token_fault : List FileToken → FileToken → ℕ → TextFault
-token_fault front token at =
-    piece_fault (length (pieces_of front)) (last_piece front) token at
-
--- the file goes on no further than this front of its tokens, and what comes next is this fault
-pub data StopsBehind (bytes : List ℕ) (tokens : List PlacedToken) (stop : ℕ)
-    (front : List PlacedToken) (fault : TextFault) : Type 0 where
-  -- a token cannot go on
-  at_token : (token : PlacedToken) (behind : List PlacedToken) →
-      tokens ≡ front ++ token ∷ behind →
-      (CanGoOn (bare front ++ token.token ∷ []) → ⊥) →
-      fault ≡ token_fault (bare front) token.token token.offset →
-      StopsBehind bytes tokens stop front fault
-  -- the tokens end before the file, at bytes that begin no token
-  at_bytes : tokens ≡ front → stop < length bytes → fault ≡ Syntax stop →
-      StopsBehind bytes tokens stop front fault
-  -- the file ends within a definition
-  at_end : tokens ≡ front → stop ≡ length bytes → fault ≡ Syntax stop →
-      ((defs : List Def) → SpellsDefs defs (bare tokens) → ⊥) →
-      StopsBehind bytes tokens stop front fault
+-- behind so many definitions, and behind what the next has begun with, the token at this offset is
+-- labelled BNF that this profile leaves out, and this is its fault
+pub data IsLeftOut (number : ℕ) (piece : List FileToken) (token : FileToken) (at : ℕ)
+    (fault : TextFault) : Type 0 where
+  -- the first word of a form of definition that is not built
+  unbuilt_form : (word : List ℕ) → piece ≡ [] → token ≡ Identifier word →
+      Contains unbuilt_words word → fault ≡ Unbuilt number → IsLeftOut number piece token at fault
+  -- another lower-case word, as the first of a definition
+  first_word : (word : List ℕ) → piece ≡ [] → token ≡ Identifier word →
+      starts_upper word ≡ false → (Contains unbuilt_words word → ⊥) →
+      fault ≡ Unsupported word at → IsLeftOut number piece token at fault
+  -- a label behind `internal` that begins in lower case
+  lower_label : (word : List ℕ) → piece ≡ keyword (codes "internal") ∷ [] →
+      token ≡ Identifier word → starts_upper word ≡ false → fault ≡ Unsupported word at →
+      IsLeftOut number piece token at fault
+  -- a bracket behind a label that is a name
+  label_bracket : IsNamedLabel piece → token ≡ SignToken OpenParen →
+      fault ≡ Unsupported (codes "(") at → IsLeftOut number piece token at fault
 
 -- the first whole category of more than 128 bytes among the tokens begins at this offset
 pub record IsFirstLong (tokens : List PlacedToken) (offset : ℕ) : Type 0 where
@@ -115,27 +106,50 @@ pub record IsFirstLong (tokens : List PlacedToken) (offset : ℕ) : Type 0 where
   pub earlier : (other : List FileToken) → HasLongCategory (bare tokens) other
       → length before ≤ length other
 
--- the front of the tokens can go on, and there is a fault in it or behind it: its first category
--- that is too long, or else what comes next, which cannot go on
-pub data FaultsAt (bytes : List ℕ) (tokens : List PlacedToken) (stop : ℕ)
-    (front : List PlacedToken) (fault : TextFault) : Type 0 where
-  -- a category is too long
-  at_long : (offset : ℕ) → IsFirstLong front offset → fault ≡ Syntax offset →
-      FaultsAt bytes tokens stop front fault
-  -- what comes next cannot go on
-  behind : ((before : List FileToken) → HasLongCategory (bare front) before → ⊥) →
-      StopsBehind bytes tokens stop front fault → FaultsAt bytes tokens stop front fault
-
--- the first fault of the tokens of a file
-pub record IsTokenFault (bytes : List ℕ) (fault : TextFault) : Type 0 where
-  pub tokens : List PlacedToken
-  pub stop : ℕ
-  pub scan : IsScan bytes tokens stop
-  pub front : List PlacedToken
+-- the front of the tokens can go on
+pub record IsFront (tokens front : List PlacedToken) : Type 0 where
   pub behind : List PlacedToken
   pub split : tokens ≡ front ++ behind
   pub viable : CanGoOn (bare front)
-  pub faults : FaultsAt bytes tokens stop front fault
+
+-- no category in the front of the tokens is too long, and it cannot go on with the next token, this
+pub record StopsAt (tokens front : List PlacedToken) (token : PlacedToken) : Type 0 where
+  pub behind : List PlacedToken
+  pub split : tokens ≡ front ++ token ∷ behind
+  pub short : LacksLong (bare front)
+  pub stuck : CanGoOn (bare front ++ token.token ∷ []) → ⊥
+
+-- the front is all of the tokens, and no category in it is too long
+pub record ReachesEnd (tokens front : List PlacedToken) : Type 0 where
+  pub whole : tokens ≡ front
+  pub short : LacksLong (bare front)
+
+-- behind the front the next token is left out of this profile, and this is its fault
+abbrev pub LeavesOut : List PlacedToken → PlacedToken → TextFault → Type 0
+LeavesOut front token fault =
+    IsLeftOut (length (pieces_of (bare front))) (last_piece (bare front)) token.token token.offset
+    fault
+
+-- of the tokens, which reach to the stop, this is the fault at a front that can go on
+pub data FaultAt (bytes : List ℕ) (tokens : List PlacedToken) (stop : ℕ)
+    (front : List PlacedToken) (fault : TextFault) : Type 0 where
+  -- a category in the front is too long
+  long_category : (offset : ℕ) → IsFirstLong front offset → fault ≡ Syntax offset →
+      FaultAt bytes tokens stop front fault
+  -- the next token cannot stand there, and this profile leaves it out
+  left_out : (token : PlacedToken) → StopsAt tokens front token → LeavesOut front token fault →
+      FaultAt bytes tokens stop front fault
+  -- the next token cannot stand there
+  misplaced : (token : PlacedToken) → StopsAt tokens front token →
+      ((other : TextFault) → LeavesOut front token other → ⊥) → fault ≡ Syntax token.offset →
+      FaultAt bytes tokens stop front fault
+  -- the next bytes begin no token
+  no_token : ReachesEnd tokens front → stop < length bytes → fault ≡ Syntax stop →
+      FaultAt bytes tokens stop front fault
+  -- the file ends within a definition
+  early_end : ReachesEnd tokens front → stop ≡ length bytes →
+      ((defs : List Def) → SpellsDefs defs (bare tokens) → ⊥) → fault ≡ Syntax stop →
+      FaultAt bytes tokens stop front fault
 
 -- the first fault of a file: its size, then its encoding, then the least offset at which it cannot
 -- go on
@@ -143,5 +157,6 @@ pub data IsFirstFault (bytes : List ℕ) (fault : TextFault) : Type 0 where
   is_large : 65536 < length bytes → fault ≡ TooLarge (length bytes) → IsFirstFault bytes fault
   is_not_utf8 : length bytes ≤ 65536 → utf8_valid_len bytes < length bytes →
       fault ≡ NotUtf8 (utf8_valid_len bytes) → IsFirstFault bytes fault
-  in_tokens : length bytes ≤ 65536 → IsUtf8 bytes → IsTokenFault bytes fault →
-      IsFirstFault bytes fault
+  in_tokens : IsSmallText bytes → (tokens : List PlacedToken) → (stop : ℕ) →
+      IsScan bytes tokens stop → (front : List PlacedToken) → IsFront tokens front →
+      FaultAt bytes tokens stop front fault → IsFirstFault bytes fault

@@ -4,8 +4,7 @@ use Rattle.std.specs.Prelude.{true, false, ◌||◌, ◌&&◌, nat_le, All, Cont
 use Rattle.std.specs.Prelude.{Option, Some, None, nat_eq, not, IfSome}
 use Rattle.std.specs.Char.{IsScalar, encode_utf8}
 use Rattle.std.specs.Str.Parse.{digits_value}
-use Rattle.spec_text.specs.Bytes.{is_white}
-pub use Rattle.spec_text.specs.Bytes.{is_letter, is_digit}
+use Rattle.spec_text.specs.Bytes.{is_white, is_letter, is_digit, is_name_byte}
 use Rattle.spec_lbnf.specs.declared.token.Sign.{Sign}
 use Rattle.spec_lbnf.specs.declared.token.Sign.TheVariants.{Dot, Semicolon, Gives, Colon}
 use Rattle.spec_lbnf.specs.declared.token.Sign.TheVariants.{OpenBracket, CloseBracket}
@@ -17,16 +16,20 @@ use Rattle.spec_lbnf.specs.declared.token.FileToken.TheVariants.{Identifier, Num
 use Rattle.spec_lbnf.specs.declared.token.FileToken.TheVariants.{Character}
 use Rattle.spec_lbnf.specs.declared.token.FileToken.TheVariants.{Sign as SignToken}
 use Rattle.spec_lbnf.specs.declared.token.PlacedToken.{PlacedToken}
-use Rattle.spec_lbnf.specs.FileBytes.{is_upper, is_name_byte, Stops}
 
--- the bytes begin with one that passes
-abbrev pub Begins : (ℕ → Bool) → List ℕ → Type 0
-Begins passes [] = ⊥
-Begins passes (byte ∷ bytes) = passes byte ≡ true
+-- the first of the bytes passes
+abbrev pub FirstIs : (ℕ → Bool) → List ℕ → Type 0
+FirstIs passes [] = ⊥
+FirstIs passes (byte ∷ bytes) = passes byte ≡ true
 
--- the bytes begin with these
-abbrev pub BeginsAs : List ℕ → List ℕ → Type 0
-BeginsAs front bytes = (rest : List ℕ) × (bytes ≡ front ++ rest)
+-- a run of bytes that pass ends before these: there are none, or the first does not pass
+abbrev pub RunEnds : (ℕ → Bool) → List ℕ → Type 0
+RunEnds passes [] = Unit {0}
+RunEnds passes (byte ∷ bytes) = passes byte ≡ false
+
+-- these are a front of the bytes
+abbrev pub HasFront : List ℕ → List ℕ → Type 0
+HasFront front bytes = (rest : List ℕ) × (bytes ≡ front ++ rest)
 
 -- the closing text stands at the end of the bytes, and nowhere before
 pub record EndsFirst (bytes closing : List ℕ) : Type 0 where
@@ -42,7 +45,7 @@ IsWhiteBefore bytes rest = (byte : ℕ) × (is_white byte ≡ true) × (bytes �
 pub record IsLineComment (bytes rest : List ℕ) : Type 0 where
   pub line : List ℕ
   pub on_line : All (λ byte. nat_eq byte 10 ≡ false) line
-  pub stops : Stops (λ byte. not (nat_eq byte 10)) rest
+  pub stops : RunEnds (λ byte. not (nat_eq byte 10)) rest
   pub whole : bytes ≡ codes "--" ++ (line ++ rest)
 
 -- a block comment stands before the rest: from its opening text to the next closing text
@@ -67,7 +70,7 @@ pub data Skips : List ℕ → List ℕ → Type 0 where
 -- the bytes are an identifier: a letter, and letters, digits, underscores and apostrophes behind
 -- it, at most 64 bytes together
 pub record IsIdentifier (bytes : List ℕ) : Type 0 where
-  pub letter : Begins is_letter bytes
+  pub letter : FirstIs is_letter bytes
   pub each : All (λ byte. is_name_byte byte ≡ true) bytes
   pub short : length bytes ≤ 64
 
@@ -138,24 +141,24 @@ longer_by other = None
 
 -- no longer sign and no comment begins with the sign and goes on with the rest
 abbrev pub IsLongestSign : Sign → List ℕ → Type 0
-IsLongestSign sign rest = IfSome (longer_by sign) (λ more. BeginsAs more rest → ⊥)
+IsLongestSign sign rest = IfSome (longer_by sign) (λ more. HasFront more rest → ⊥)
 
 -- the longest token at the front of the bytes is this one, and the rest is behind it
-abbrev pub BeginsWith : FileToken → List ℕ → List ℕ → Type 0
-BeginsWith (Identifier name) bytes rest =
-    IsIdentifier name × Stops is_name_byte rest × (bytes ≡ name ++ rest)
-BeginsWith (Number value) bytes rest =
-    (digits : List ℕ) × IsNumber digits × Stops is_digit rest × (bytes ≡ digits ++ rest)
+abbrev pub IsTokenBefore : FileToken → List ℕ → List ℕ → Type 0
+IsTokenBefore (Identifier name) bytes rest =
+    IsIdentifier name × RunEnds is_name_byte rest × (bytes ≡ name ++ rest)
+IsTokenBefore (Number value) bytes rest =
+    (digits : List ℕ) × IsNumber digits × RunEnds is_digit rest × (bytes ≡ digits ++ rest)
     × (value ≡ digits_value 10 digits)
-BeginsWith (Text value) bytes rest = IsLiteral 34 value bytes rest
-BeginsWith (Character scalar) bytes rest =
+IsTokenBefore (Text value) bytes rest = IsLiteral 34 value bytes rest
+IsTokenBefore (Character scalar) bytes rest =
     IsScalar scalar × IsLiteral 39 (encode_utf8 scalar) bytes rest
-BeginsWith (SignToken sign) bytes rest =
+IsTokenBefore (SignToken sign) bytes rest =
     IsLongestSign sign rest × (bytes ≡ sign_bytes sign ++ rest)
 
 -- neither a token nor what separates tokens is at the front of the bytes
 pub record IsStuck (bytes : List ℕ) : Type 0 where
-  pub no_token : (token : FileToken) (rest : List ℕ) → BeginsWith token bytes rest → ⊥
+  pub no_token : (token : FileToken) (rest : List ℕ) → IsTokenBefore token bytes rest → ⊥
   pub no_space : (rest : List ℕ) → Separates bytes rest → ⊥
 
 -- the tokens of these bytes, the last of a text of so many, are these, up to the offset at which
@@ -165,7 +168,7 @@ AreTokensTo size bytes [] stop =
     (rest : List ℕ) × Skips bytes rest × IsStuck rest × (size ≡ stop + length rest)
 AreTokensTo size bytes (token ∷ tokens) stop =
     (here rest : List ℕ) × Skips bytes here × (size ≡ token.offset + length here)
-    × BeginsWith token.token here rest × AreTokensTo size rest tokens stop
+    × IsTokenBefore token.token here rest × AreTokensTo size rest tokens stop
 
 -- the tokens of the file are these, up to the offset where it ends or no token begins
 abbrev pub IsScan : List ℕ → List PlacedToken → ℕ → Type 0

@@ -2,6 +2,7 @@
 use Rattle.std.specs.Prelude.{◌≡◌, ℕ, ◌<◌, List, [], ◌∷◌, ◌++◌, length, codes, Bool, true}
 use Rattle.std.specs.Prelude.{false, not, All, filter, map, flat_map, replicate}
 use Rattle.std.specs.List.{slice_split}
+use Rattle.spec_text.specs.Bytes.{is_upper}
 use Rattle.spec_grammar.specs.declared.rule.Label.{Label}
 use Rattle.spec_grammar.specs.declared.rule.Label.TheVariants.{Named, Wild, Nil, Cons, One}
 use Rattle.spec_lbnf.specs.declared.definition.CatName.{CatName}
@@ -18,7 +19,11 @@ use Rattle.spec_lbnf.specs.declared.token.FileToken.{FileToken}
 use Rattle.spec_lbnf.specs.declared.token.FileToken.TheVariants.{Identifier, Number, Text}
 use Rattle.spec_lbnf.specs.declared.token.FileToken.TheVariants.{Sign as SignToken}
 use Rattle.spec_lbnf.specs.Words.{is_empty, words_in}
-use Rattle.spec_lbnf.specs.FileBytes.{starts_upper}
+
+-- the name begins with an upper-case letter
+abbrev pub starts_upper : List ℕ → Bool
+starts_upper [] = false
+starts_upper (byte ∷ bytes) = is_upper byte
 
 -- the identifier begins with an upper-case letter, as a label's and a category's name does
 abbrev pub IsUpperName : List ℕ → Type 0

@@ -6,7 +6,7 @@ use Rattle.spec_grammar.specs.Cycles.{IsAcyclic}
 use Rattle.spec_lbnf.specs.declared.definition.Def.{Def}
 use Rattle.spec_lbnf.specs.declared.fault.GrammarFault.{GrammarFault}
 use Rattle.spec_lbnf.specs.Faults.{Spells}
-use Rattle.spec_lbnf.specs.Limits.{size_of, AreWithinLimits}
+use Rattle.spec_lbnf.specs.Limits.{size_of, AreFewAndSmall}
 use Rattle.spec_grammar.specs.Grammars.{Grammar, name_number, HasOwnSymbols}
 use Rattle.spec_lbnf.specs.Expansion.{distinct, expansion_of}
 use Rattle.spec_grammar.specs.Grammars.{IsSymbolOf}
@@ -64,4 +64,4 @@ TwoBytesForEach =
 
 -- what a file spells is within the limits
 abbrev pub DefsWithinLimits : Type 0
-DefsWithinLimits = (bytes : List ℕ) (defs : List Def) → Spells bytes defs → AreWithinLimits defs
+DefsWithinLimits = (bytes : List ℕ) (defs : List Def) → Spells bytes defs → AreFewAndSmall defs

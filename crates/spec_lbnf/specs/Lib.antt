@@ -1,4 +1,3 @@
-pub mod FileBytes
 pub mod FileTokens
 pub mod Words
 pub mod GrammarFile

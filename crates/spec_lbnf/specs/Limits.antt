@@ -40,6 +40,6 @@ IsSmall (Coercions name levels) = Unit {0}
 IsSmall (Entry cats) = All IsShallow cats
 
 -- the definitions have at most 32,768 parts together, and each is small
-pub record AreWithinLimits (defs : List Def) : Type 0 where
+pub record AreFewAndSmall (defs : List Def) : Type 0 where
   pub few : size_of defs ≤ 32768
   pub small : All IsSmall defs

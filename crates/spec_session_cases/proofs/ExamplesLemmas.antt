@@ -134,7 +134,7 @@ faulty_block : IsFirstFault (codes ")") (Syntax 0)
 unfolding encode_utf8 chars is_utf8 behind_closing behind_space identifier_at number_token_at literal_from string_at character_at sign_token_at token_at tokens_from next_on take_token sign_at name_at text_at number_at closes_at bracketed_at category_at nil_at one_at colon_label_at paren_label_at sign_label_at label_at item_at items_at side_at rule_at macro_at list_macro_at coercions_at more_entries_at entries_at to_end def_by def_at piece_def defs_at
 faulty_block =
     let bytes : List ℕ = codes ")" in
-    fault_is bytes (scan_of bytes).0 (scan_of bytes).1 (scanned bytes) (Syntax 0) (omega arith) (IsUtf8-from_is_utf8 bytes refl) refl
+    fault_is bytes (scan_of bytes).0 (scan_of bytes).1 (scanned bytes) (Syntax 0) (record { few = omega arith; utf8 = IsUtf8-from_is_utf8 bytes refl }) refl
 
 pub faulty_refused : IsRefused (codes ")") (refusal_line (with_number (codes "syntax") 0))
 faulty_refused = (fault_reason (Syntax 0), faulty (Syntax 0) faulty_block refl, refl)
@@ -147,7 +147,7 @@ wild_block : Spells (codes "_.S::=") (wild_rule ∷ [])
 unfolding encode_utf8 chars is_utf8 behind_closing behind_space identifier_at number_token_at literal_from string_at character_at sign_token_at token_at tokens_from next_on take_token sign_at name_at text_at number_at closes_at bracketed_at category_at nil_at one_at colon_label_at paren_label_at sign_label_at label_at item_at items_at side_at rule_at macro_at list_macro_at coercions_at more_entries_at entries_at to_end def_by def_at piece_def defs_at
 wild_block =
     let bytes : List ℕ = codes "_.S::=" in
-    defs_are bytes (scan_of bytes).0 (scan_of bytes).1 (scanned bytes) (wild_rule ∷ []) (omega arith) (IsUtf8-from_is_utf8 bytes refl) refl refl
+    defs_are bytes (scan_of bytes).0 (scan_of bytes).1 (scanned bytes) (wild_rule ∷ []) (record { few = omega arith; utf8 = IsUtf8-from_is_utf8 bytes refl }) refl refl
 
 -- which is a bad coercion
 wild_unfit : IsUnfit (wild_rule ∷ []) (BadCoercion 0)

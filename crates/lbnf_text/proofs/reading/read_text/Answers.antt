@@ -16,16 +16,16 @@ pub returns-in_err-defs : goal.returns-in_err-defs
 returns-in_err-defs c =
     let p = err_from_is_err_and c.from_residual-in_err-defs.result c.from_residual-in_err-defs.ensures.1 in
     let scan : IsScan c.args.text.now c.in_ok-scan.scan.tokens.items c.in_ok-scan.scan.stop = search rules in
-    rw (p.1, p.2) (told_fault (λ (list : Vec Def Global). list.items) c.args.text.now (defs_of c.in_ok-scan.scan.tokens.items c.in_ok-scan.scan.stop) c.in_err-defs.field-0.0 (c.requires, c.utf8.text) (rw (← c.as_slice.ensures.value) c.in_err-defs.ensures) (λ fault is. fault_is c.args.text.now c.in_ok-scan.scan.tokens.items c.in_ok-scan.scan.stop scan fault c.requires c.utf8.text is))
+    rw (p.1, p.2) (told_fault (λ (list : Vec Def Global). list.items) c.args.text.now (defs_of c.in_ok-scan.scan.tokens.items c.in_ok-scan.scan.stop) c.in_err-defs.field-0.0 (record { few = c.requires; utf8 = c.utf8.text }) (rw (← c.as_slice.ensures.value) c.in_err-defs.ensures) (λ fault is. fault_is c.args.text.now c.in_ok-scan.scan.tokens.items c.in_ok-scan.scan.stop scan fault (record { few = c.requires; utf8 = c.utf8.text }) is))
 
 pub returns-then-scan-text : goal.returns-then-scan-text
 returns-then-scan-text c =
     let scan : IsScan c.args.text.now c.in_ok-scan.scan.tokens.items c.in_ok-scan.scan.stop = search rules in
     let early : c.in_ok-scan.scan.stop < length c.args.text.now = omega arith in
-    inr (stop_is c.args.text.now c.in_ok-scan.scan.tokens.items c.in_ok-scan.scan.stop scan c.in_ok-defs.defs.items c.requires c.utf8.text early (rw (← c.as_slice.ensures.value) c.in_ok-defs.ensures))
+    inr (stop_is c.args.text.now c.in_ok-scan.scan.tokens.items c.in_ok-scan.scan.stop scan c.in_ok-defs.defs.items (record { few = c.requires; utf8 = c.utf8.text }) early (rw (← c.as_slice.ensures.value) c.in_ok-defs.ensures))
 
 pub returns : goal.returns
 returns c =
     let scan : IsScan c.args.text.now c.in_ok-scan.scan.tokens.items c.in_ok-scan.scan.stop = search rules in
     let end : c.in_ok-scan.scan.stop ≡ length c.args.text.now = omega (arith, stop_within c.args.text.now c.in_ok-scan.scan.tokens.items c.in_ok-scan.scan.stop scan) in
-    defs_are c.args.text.now c.in_ok-scan.scan.tokens.items c.in_ok-scan.scan.stop scan c.in_ok-defs.defs.items c.requires c.utf8.text end (rw (← c.as_slice.ensures.value) c.in_ok-defs.ensures)
+    defs_are c.args.text.now c.in_ok-scan.scan.tokens.items c.in_ok-scan.scan.stop scan c.in_ok-defs.defs.items (record { few = c.requires; utf8 = c.utf8.text }) end (rw (← c.as_slice.ensures.value) c.in_ok-defs.ensures)

@@ -3,7 +3,7 @@ use Rattle.std.proofs.Common.{◌≡◌, ◌≤◌, ℕ, List, take, length, sym
 use Rattle.std.specs.List.{prefix_len}
 use Rattle.std.specs.Result.{result_ok}
 use Rattle.std.proofs.lemmas.Option.{none-some}
-use Rattle.spec_lbnf.specs.FileTokens.{is_digit}
+use Rattle.spec_text.specs.Bytes.{is_digit}
 use Rattle.lbnf_text.proofs.RunTextLemmas.{digit_boundary, digits_parse}
 use Rattle.lbnf_text.proofs.scanner.number.Goals as goal
 

@@ -18,4 +18,4 @@ loop-target-preserved c =
     rw (take_more targets place 0 c.loop-target-test.true)
     (flags_more (take place targets) (slice_index_or targets place 0 ∷ []) c.args.flags.now.items
     c.loop-target.flags.items c.flag.new.flags.items c.args.waiting.now.items c.loop-target.waiting.items
-    c.flag.new.waiting.items c.loop-target.invariant c.in_ok-flag.ensures)
+    c.flag.new.waiting.items c.loop-target.invariant c.in_ok-flag.ensures.sets)

@@ -20,19 +20,19 @@ use Rattle.spec_lbnf_cases.proofs.laws.small_readings.Goals as goal
 spelled : (bytes : List ℕ) (defs : List Def) → length bytes ≤ 65536 → is_utf8 bytes ≡ true → (scan_of bytes).1 ≡ length bytes
     → defs_of (scan_of bytes).0 (scan_of bytes).1 ≡ Ok defs → Spells bytes defs
 spelled bytes defs few utf8 end read =
-    defs_are bytes (scan_of bytes).0 (scan_of bytes).1 (scanned bytes) defs few (IsUtf8-from_is_utf8 bytes utf8) end read
+    defs_are bytes (scan_of bytes).0 (scan_of bytes).1 (scanned bytes) defs (record { few = few; utf8 = IsUtf8-from_is_utf8 bytes utf8 }) end read
 
 -- and where they have a fault
 faulty : (bytes : List ℕ) (fault : TextFault) → length bytes ≤ 65536 → is_utf8 bytes ≡ true
     → defs_of (scan_of bytes).0 (scan_of bytes).1 ≡ Err fault → IsFirstFault bytes fault
 faulty bytes fault few utf8 read =
-    fault_is bytes (scan_of bytes).0 (scan_of bytes).1 (scanned bytes) fault few (IsUtf8-from_is_utf8 bytes utf8) read
+    fault_is bytes (scan_of bytes).0 (scan_of bytes).1 (scanned bytes) fault (record { few = few; utf8 = IsUtf8-from_is_utf8 bytes utf8 }) read
 
 -- and where the tokens end before the file
 cut_off : (bytes : List ℕ) (defs : List Def) → length bytes ≤ 65536 → is_utf8 bytes ≡ true → (scan_of bytes).1 < length bytes
     → defs_of (scan_of bytes).0 (scan_of bytes).1 ≡ Ok defs → IsFirstFault bytes (Syntax (scan_of bytes).1)
 cut_off bytes defs few utf8 early read =
-    stop_is bytes (scan_of bytes).0 (scan_of bytes).1 (scanned bytes) defs few (IsUtf8-from_is_utf8 bytes utf8) early read
+    stop_is bytes (scan_of bytes).0 (scan_of bytes).1 (scanned bytes) defs (record { few = few; utf8 = IsUtf8-from_is_utf8 bytes utf8 }) early read
 
 pub returns : goal.returns
 unfolding encode_utf8 chars is_utf8 behind_closing behind_space identifier_at number_token_at literal_from string_at character_at sign_token_at token_at tokens_from next_on take_token sign_at name_at text_at number_at closes_at bracketed_at category_at nil_at one_at colon_label_at paren_label_at sign_label_at label_at item_at items_at side_at rule_at macro_at list_macro_at coercions_at more_entries_at entries_at to_end def_by def_at piece_def defs_at utf8_valid_len

@@ -1,0 +1,6 @@
+pub mod DigitLemmas
+pub mod HeightLemmas
+pub mod PartLemmas
+pub mod ItemLemmas
+pub mod OpeningLemmas
+pub mod EditLemmas
