@@ -114,7 +114,8 @@ abbrev pub EndsAtText : Grammar → List ℕ → Option (List ℕ) → Option (L
 EndsAtText g text old new WriteFault =
     (line : List ℕ) × IsReply g no_texts (opens text) line × GrowsByPrefix old new line
 EndsAtText g text old new OutOfMemory =
-    Stays old new ⊎ ((line : List ℕ) × IsReply g no_texts (opens text) line × GrowsByPrefix old new line)
+    Stays old new
+    ⊎ ((line : List ℕ) × IsReply g no_texts (opens text) line × GrowsByPrefix old new line)
 EndsAtText g text old new Ended = ⊥
 EndsAtText g text old new BadGrammar = ⊥
 EndsAtText g text old new BadScript = ⊥

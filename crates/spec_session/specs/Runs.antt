@@ -1,5 +1,5 @@
--- The run of a session behind its grammar: its steps in turn. What the session replies, and the texts
--- that it leaves, are read off the run.
+-- The run of a session behind its grammar: its steps in turn. What the session replies, and the
+-- texts that it leaves, are read off the run.
 use Rattle.std.specs.Prelude.{◌≡◌, ℕ, List, [], ◌∷◌, ◌++◌}
 use Rattle.spec_grammar.specs.Grammars.{Grammar}
 use Rattle.spec_script.specs.Script.{Command}

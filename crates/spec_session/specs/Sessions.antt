@@ -33,7 +33,8 @@ AreAllReplies commands out = ⊥
 -- is refused, with its line alone and status 2; else it goes to the script's end
 pub data IsSession (input out : List ℕ) (status : ℕ) : Type 0 where
   refused : (block rest : List ℕ) (at : ℕ)
-      → BeginsWithCommands 0 input (header ∷ grammar block ∷ []) at rest → IsRefused block out → status ≡ 2 → IsSession input out status
+      → BeginsWithCommands 0 input (header ∷ grammar block ∷ []) at rest → IsRefused block out
+      → status ≡ 2 → IsSession input out status
   whole : (commands : List Command) (ending : Ending) (replies : List ℕ)
       → IsScript input commands ending → AreAllReplies commands replies
       → out ≡ replies ++ last_line ending → status ≡ last_status ending → IsSession input out status

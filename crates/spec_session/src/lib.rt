@@ -1,5 +1,5 @@
-//! Sessions: the reply to each command of a script, and what a session writes. There is no other code
-//! here than laws of these.
+//! Sessions: the reply to each command of a script, and what a session writes. There is no other
+//! code here than laws of these.
 #![tactic(auto)]
 
 mod existence;
