@@ -6,7 +6,7 @@ use Rattle.spec_grammar.specs.declared.rule.Symbol.{Symbol}
 use Rattle.spec_grammar.specs.declared.rule.Symbol.TheVariants.{Kind}
 use Rattle.spec_grammar.specs.Grammars.{Grammar, symbol_count}
 use Rattle.cell_sets.specs.Cells.{Adds}
-use Rattle.binary_form.specs.declared.build.TheConstants.{MAX_SYMBOLS}
+use Rattle.spec_text.specs.declared.limits.TheConstants.{MAX_SYMBOLS}
 use Rattle.binary_form.specs.declared.fault.BinaryFault.{BinaryFault}
 use Rattle.binary_form.specs.declared.fault.BinaryFault.TheVariants.{Memory, TooManySymbols}
 use Rattle.binary_form.specs.Symbols.{BinarySymbol, plain, suffix, BinaryDerives, IsBinarySymbolOf}

@@ -1,7 +1,7 @@
 -- What a binary form keeps of its grammar. Serves the proofs alone.
 use Rattle.std.specs.Prelude.{◌≡◌, ℕ, ◌≤◌, List, Some, Bool, length, slice_get}
 use Rattle.spec_grammar.specs.Grammars.{Grammar, HasOwnSymbols, symbol_count}
-use Rattle.binary_form.specs.declared.build.TheConstants.{MAX_SYMBOLS}
+use Rattle.spec_text.specs.declared.limits.TheConstants.{MAX_SYMBOLS}
 use Rattle.binary_form.specs.BinaryForm.{IsClosureOf}
 use Rattle.binary_form.specs.FirstSuffixes.{AreFirstSuffixes}
 use Rattle.binary_form.specs.NullableNumbers.{AreNullableNumbers}

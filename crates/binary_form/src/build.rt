@@ -16,10 +16,8 @@ use crate::steps::{longer_suffixes_of, unit_steps};
 use cell_sets::Cell;
 use number_graph::{Links, reached_from};
 use numbered_grammar::Grammar;
+use spec_text::MAX_SYMBOLS;
 use std::alloc::{AllocError, Global};
-
-/// The most symbols that a binary form has.
-pub const MAX_SYMBOLS: u32 = 2_048;
 
 /// The cell with the number, if its flag is set.
 fn with_number<C: Cell>(

@@ -5,7 +5,7 @@ ghost use Rattle.binary_form.specs.Symbols.{plain, suffix, IsBinarySymbolOf, sym
 ghost use Rattle.binary_form.specs.BinaryForm.{IsNullableNumber, IsClosureOf, IsTokenCell};
 ghost use Rattle.binary_form.specs.BinaryForm.{IsProductOf, AddsProductOf, HasProduct};
 ghost use Rattle.binary_form.specs.Forms.{AreParts};
-ghost use Rattle.binary_form.specs.declared.build.TheConstants.{MAX_SYMBOLS};
+ghost use Rattle.spec_text.specs.declared.limits.TheConstants.{MAX_SYMBOLS};
 
 use crate::product::{is_met, product_of};
 use cell_sets::Cell;

@@ -12,7 +12,7 @@ mod product;
 mod rows;
 mod steps;
 
-pub use build::{MAX_SYMBOLS, binary};
+pub use build::binary;
 pub use fault::BinaryFault;
 pub use form::Binary;
 pub use laws::{closure_is_derivation, each_symbol_has_its_number, products_agree};

@@ -1,7 +1,7 @@
 //! The product of two cells: look-ups and unions alone.
 ghost use Rattle.std.specs.Prelude.{◌≡◌, ◌+◌, ◌<◌, ◌≤◌, ◌↔◌, ℕ, length, Contains, IsTrue, IfOk};
 ghost use Rattle.cell_sets.specs.Cells.{Adds};
-ghost use Rattle.binary_form.specs.declared.build.TheConstants.{MAX_SYMBOLS};
+ghost use Rattle.spec_text.specs.declared.limits.TheConstants.{MAX_SYMBOLS};
 ghost use Rattle.binary_form.specs.Products.{AreBelow, GoesOn, GoOnBelow, IsItemMet};
 ghost use Rattle.binary_form.specs.Products.{IsNextBelow};
 ghost use Rattle.binary_form.specs.Products.{ItemGives, LinksGoOnBelow, OneGives, SuffixGives};

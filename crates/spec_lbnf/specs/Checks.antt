@@ -2,6 +2,7 @@
 use Rattle.std.specs.Prelude.{◌≡◌, ℕ, ◌<◌, ◌≤◌, ◌⊎◌, List, [], ◌∷◌, ◌++◌, length, map, flat_map}
 use Rattle.std.specs.Prelude.{slice_get, Some, All, Contains, ◌≢◌, cond, bytes_eq, codes}
 use Rattle.std.specs.List.{list_any}
+use Rattle.spec_text.specs.declared.limits.TheConstants.{MAX_RULES}
 use Rattle.spec_grammar.specs.Cycles.{IsCyclic, IsAcyclic}
 use Rattle.spec_grammar.specs.declared.rule.Label.{Label}
 use Rattle.spec_grammar.specs.declared.rule.Label.TheVariants.{Named, Wild, Nil, Cons, One}
@@ -90,7 +91,7 @@ IsIllLabelled def = IsBadCoercion def ⊎ IsBadList def
 
 -- the definitions give at most 1,024 rules
 abbrev pub HasFewRules : List Def → Type 0
-HasFewRules defs = length (rules_of defs) ≤ 1024
+HasFewRules defs = length (rules_of defs) ≤ MAX_RULES
 
 -- the categories that the definition gives rules for, in order, internal ones among them
 abbrev pub own_categories : Def → List (List ℕ)
@@ -162,7 +163,7 @@ AtLabels defs fault =
 -- the number of rules is at fault
 abbrev pub AtCount : List Def → GrammarFault → Type 0
 AtCount defs fault =
-    (1024 < length (rules_of defs)) × (fault ≡ TooManyRules (length (rules_of defs)))
+    (MAX_RULES < length (rules_of defs)) × (fault ≡ TooManyRules (length (rules_of defs)))
 
 -- the first predefined name that a definition gives rules for is at fault
 abbrev pub AtOwnName : List Def → GrammarFault → Type 0

@@ -3,6 +3,7 @@ use Rattle.std.specs.Prelude.{◌≡◌, ℕ, ◌<◌, ◌≤◌, List, [], ◌�
 use Rattle.std.specs.Prelude.{map, cond, false, ◌⊎◌, Contains, IsUtf8}
 use Rattle.std.specs.List.{list_any}
 use Rattle.std.specs.Str.Lossy.{utf8_valid_len}
+use Rattle.spec_text.specs.declared.limits.TheConstants.{MAX_FILE, MAX_CATEGORY}
 use Rattle.spec_lbnf.specs.declared.definition.CatName.{CatName}
 use Rattle.spec_lbnf.specs.declared.definition.Def.{Def}
 use Rattle.spec_lbnf.specs.declared.fault.TextFault.{TextFault}
@@ -38,7 +39,7 @@ pub record HasLongCategory (tokens before : List FileToken) : Type 0 where
   pub behind : List FileToken
   pub stands : tokens ≡ before ++ (category_tokens cat ++ behind)
   pub whole : EndsOpen before → ⊥
-  pub long : 128 < length (category_text cat)
+  pub long : MAX_CATEGORY < length (category_text cat)
 
 -- no whole category among the tokens has more than 128 bytes
 abbrev pub LacksLong : List FileToken → Type 0
@@ -46,7 +47,7 @@ LacksLong tokens = (before : List FileToken) → HasLongCategory tokens before �
 
 -- the file has at most 65,536 bytes and is UTF-8, so that its tokens are looked at
 pub record IsSmallText (bytes : List ℕ) : Type 0 where
-  pub few : length bytes ≤ 65536
+  pub few : length bytes ≤ MAX_FILE
   pub utf8 : IsUtf8 bytes
 
 -- the file spells the definitions: it is a small text, its tokens reach its end and spell them, and
@@ -154,8 +155,8 @@ pub data FaultAt (bytes : List ℕ) (tokens : List PlacedToken) (stop : ℕ)
 -- the first fault of a file: its size, then its encoding, then the least offset at which it cannot
 -- go on
 pub data IsFirstFault (bytes : List ℕ) (fault : TextFault) : Type 0 where
-  is_large : 65536 < length bytes → fault ≡ TooLarge (length bytes) → IsFirstFault bytes fault
-  is_not_utf8 : length bytes ≤ 65536 → utf8_valid_len bytes < length bytes →
+  is_large : MAX_FILE < length bytes → fault ≡ TooLarge (length bytes) → IsFirstFault bytes fault
+  is_not_utf8 : length bytes ≤ MAX_FILE → utf8_valid_len bytes < length bytes →
       fault ≡ NotUtf8 (utf8_valid_len bytes) → IsFirstFault bytes fault
   in_tokens : IsSmallText bytes → (tokens : List PlacedToken) → (stop : ℕ) →
       IsScan bytes tokens stop → (front : List PlacedToken) → IsFront tokens front →

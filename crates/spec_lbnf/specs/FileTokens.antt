@@ -4,6 +4,7 @@ use Rattle.std.specs.Prelude.{true, false, ◌||◌, ◌&&◌, nat_le, All, Cont
 use Rattle.std.specs.Prelude.{Option, Some, None, nat_eq, not, IfSome}
 use Rattle.std.specs.Char.{IsScalar, encode_utf8}
 use Rattle.std.specs.Str.Parse.{digits_value}
+use Rattle.spec_text.specs.declared.limits.TheConstants.{MAX_IDENTIFIER}
 use Rattle.spec_text.specs.Bytes.{is_white, is_letter, is_digit, is_name_byte}
 use Rattle.spec_lbnf.specs.declared.token.Sign.{Sign}
 use Rattle.spec_lbnf.specs.declared.token.Sign.TheVariants.{Dot, Semicolon, Gives, Colon}
@@ -72,7 +73,7 @@ pub data Skips : List ℕ → List ℕ → Type 0 where
 pub record IsIdentifier (bytes : List ℕ) : Type 0 where
   pub letter : FirstIs is_letter bytes
   pub each : All (λ byte. is_name_byte byte ≡ true) bytes
-  pub short : length bytes ≤ 64
+  pub short : length bytes ≤ MAX_IDENTIFIER
 
 -- the bytes are one to four digits
 pub record IsNumber (bytes : List ℕ) : Type 0 where

@@ -1,5 +1,6 @@
 -- The reply to a grammar, as one line with its LF: it is accepted, or refused for one reason.
 use Rattle.std.specs.Prelude.{◌≡◌, ℕ, ◌<◌, ◌≤◌, List, [], ◌++◌, length, codes, decimal}
+use Rattle.spec_text.specs.declared.limits.TheConstants.{MAX_SYMBOLS}
 use Rattle.spec_lbnf.specs.declared.definition.Def.{Def}
 use Rattle.spec_lbnf.specs.declared.fault.TextFault.{TextFault}
 use Rattle.spec_lbnf.specs.declared.fault.TextFault.TheVariants as file
@@ -14,7 +15,7 @@ use Rattle.spec_session.specs.Lines.{as_line, with_number, with_name, with_both}
 -- the definitions are accepted: they pass all checks, and have at most 2,048 symbols
 pub record AreAccepted (defs : List Def) : Type 0 where
   pub fit : AreFit defs
-  pub few : symbol_count (expansion_of defs) ≤ 2048
+  pub few : symbol_count (expansion_of defs) ≤ MAX_SYMBOLS
 
 -- the block is accepted as this grammar
 abbrev pub IsAccepted : List ℕ → Grammar → Type 0
@@ -64,7 +65,7 @@ pub data IsRefusedFor (block reason : List ℕ) : Type 0 where
   unfit : (defs : List Def) (why : GrammarFault) → Spells block defs → IsUnfit defs why
       → reason ≡ unfit_reason why → IsRefusedFor block reason
   too_many_symbols : (defs : List Def) → Spells block defs → AreFit defs
-      → 2048 < symbol_count (expansion_of defs)
+      → MAX_SYMBOLS < symbol_count (expansion_of defs)
       → reason ≡ symbols_reason (symbol_count (expansion_of defs)) → IsRefusedFor block reason
 
 -- the block is refused with this line
