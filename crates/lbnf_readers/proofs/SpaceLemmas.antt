@@ -8,7 +8,8 @@ use Rattle.std.proofs.lemmas.Slice.Eq.{bytes_eq-Decides}
 use Rattle.std.proofs.lemmas.List.{take_at}
 use Rattle.std.proofs.lemmas.List.Elements.{All-from_recursion, recursion_from_All}
 use Rattle.spec_text.specs.Bytes.{is_white}
-use Rattle.spec_lbnf.specs.FileTokens.{HasFront, EndsFirst, IsWhiteBefore, IsLineComment, IsBlockComment, Separates}
+use Rattle.spec_lexing.specs.Kinds.{EndsFirst}
+use Rattle.spec_lbnf.specs.FileTokens.{HasFront, IsWhiteBefore, IsLineComment, IsBlockComment, Separates}
 use Rattle.lbnf_readers.specs.Scanning.{has_front, is_in_line, behind_line, behind_closing, behind_white, behind_space}
 use Rattle.lbnf_readers.proofs.RunLemmas.{run_passes, run_stops, run_whole, run_drop}
 

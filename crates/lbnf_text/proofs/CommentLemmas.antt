@@ -8,7 +8,7 @@ use Rattle.std.proofs.lemmas.List.Sums.{prefix_len_is}
 use Rattle.std.proofs.lemmas.Str.{IsCharBoundary-after_ascii}
 use Rattle.std.specs.Str.{IsCharBoundary}
 use Rattle.spec_text.specs.Bytes.{is_white}
-use Rattle.spec_lbnf.specs.FileTokens.{EndsFirst}
+use Rattle.spec_lexing.specs.Kinds.{EndsFirst}
 use Rattle.lbnf_readers.specs.Scanning.{is_in_line, behind_line, behind_closing}
 use Rattle.lbnf_readers.proofs.SpaceLemmas.{closing_read, closing_again}
 

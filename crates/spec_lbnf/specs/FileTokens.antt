@@ -6,6 +6,7 @@ use Rattle.std.specs.Char.{IsScalar, encode_utf8}
 use Rattle.std.specs.Str.Parse.{digits_value}
 use Rattle.spec_text.specs.declared.limits.TheConstants.{MAX_IDENTIFIER}
 use Rattle.spec_text.specs.Bytes.{is_white, is_letter, is_digit, is_name_byte}
+use Rattle.spec_lexing.specs.Kinds.{EndsFirst}
 use Rattle.spec_lbnf.specs.declared.token.Sign.{Sign}
 use Rattle.spec_lbnf.specs.declared.token.Sign.TheVariants.{Dot, Semicolon, Gives, Colon}
 use Rattle.spec_lbnf.specs.declared.token.Sign.TheVariants.{OpenBracket, CloseBracket}
@@ -31,12 +32,6 @@ RunEnds passes (byte ∷ bytes) = passes byte ≡ false
 -- these are a front of the bytes
 abbrev pub HasFront : List ℕ → List ℕ → Type 0
 HasFront front bytes = (rest : List ℕ) × (bytes ≡ front ++ rest)
-
--- the closing text stands at the end of the bytes, and nowhere before
-pub record EndsFirst (bytes closing : List ℕ) : Type 0 where
-  pub inside : List ℕ
-  pub whole : bytes ≡ inside ++ closing
-  pub first : (before behind : List ℕ) → bytes ≡ before ++ (closing ++ behind) → behind ≡ []
 
 -- one white byte stands before the rest
 abbrev pub IsWhiteBefore : List ℕ → List ℕ → Type 0
