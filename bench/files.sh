@@ -1,18 +1,25 @@
 #!/usr/bin/env bash
 # Counts the instructions of `lbnfchart serve` on grammar files of 8,192 to 65,536 bytes, by
 # valgrind, in a session that ends behind its grammar, less those of an empty grammar: a file takes
-# one or two milliseconds, which are too few to be timed. Two files of each size are read: one of
-# internal rules, which are read whole, and one that is refused at its last byte. The last line says
-# whether the largest file takes at most nine times what the one of an eighth of its size takes. The
-# status is 1 where it is not so, and 2 where the program gives a wrong answer.
+# one or two milliseconds, which are too few to be timed. Each family of files has one of each size.
+# The last line says whether in each family a byte of the largest file takes at most 1.3 times the
+# instructions of a byte of the smallest. The status is 1 where it is not so, and 2 where the
+# program gives a wrong answer.
+#
+#     bench/files.sh [PROGRAM]
+#
+# measures another build of the program in place of the one that stands here.
 set -eu
 
 root=$(cd -- "$(dirname -- "${BASH_SOURCE[0]}")/.." && pwd)
+program=${1:-$root/crates/lbnfchart/out/lbnfchart}
 
 # The first run builds the program, where it has to be built. With no word it writes a line.
-"$root/bin/lbnfchart" </dev/null >/dev/null || [[ $? -eq 1 ]] || exit 2
+if [[ $# -eq 0 ]]; then
+    "$root/bin/lbnfchart" </dev/null >/dev/null || [[ $? -eq 1 ]] || exit 2
+fi
 
-exec python3 - "$root/crates/lbnfchart/out/lbnfchart" <<'PROGRAM'
+exec python3 - "$program" <<'PROGRAM'
 import re
 import subprocess
 import sys
@@ -20,38 +27,109 @@ import sys
 PROGRAM = sys.argv[1]
 COUNTED = ['valgrind', '--tool=callgrind', '--callgrind-out-file=/dev/null', PROGRAM, 'serve']
 SIZES = (8_192, 16_384, 32_768, 65_536)
-RULE = b'internal Add. Exp ::= Exp "+" [Exp1] ; -- a rule\n'
+MOST = 1.3
 
 
-def whole(size):
-    """Internal rules, and spaces to the size: all are known, and none gives a rule."""
-    return (RULE * (size // len(RULE))).ljust(size), b'grammar rules 0 categories 1 kinds 0\n'
+def padded(lines, size):
+    """The lines, and spaces up to the size."""
+    text = ''.join(line + '\n' for line in lines).encode()
+    assert len(text) <= size, len(text)
+    return text.ljust(size)
+
+
+def internal(size):
+    """Internal rules, which are read whole: all categories are known, and none gives a rule."""
+    rule = 'internal Add. Exp ::= Exp "+" [Exp1] ; -- a rule'
+    return padded([rule] * (size // (len(rule) + 1)), size), 'rules 0 categories 1 kinds 0'
 
 
 def refused(size):
     """The same, with a sign at the last byte that begins no definition."""
-    return whole(size - 1)[0] + b']', b'grammar refused syntax %d\n' % (size - 1)
+    return internal(size - 1)[0] + b']', 'refused syntax %d' % (size - 1)
+
+
+def name(number):
+    """A name of 24 bytes."""
+    return f'A_category_of_number_{number:03d}' if number < 1000 else 'A_category_of_a_number_z'
+
+
+def chain(size):
+    """Categories of which each is the next one, and the last one is empty: all are nullable."""
+    count = size // 66
+    rules = [f'R{n:03d}. {name(n)} ::= {name(n + 1)} ;' for n in range(count)]
+    rules.append(f'End. {name(count)} ::= ;')
+    return padded(rules, size), f'rules {count + 1} categories {count + 1} kinds 0'
+
+
+def rising(size):
+    """The same chain, written from its empty end on."""
+    block, reply = chain(size)
+    return padded(reversed(block.decode().strip().split('\n')), size), reply
+
+
+def copies(size):
+    """A chain of 26 categories, each of which is many of the next one: all are nullable, and the
+    items are more than a grammar may have."""
+    count = size // (26 * 2) - 16
+    rules = [f'R. {chr(65 + n)} ::= {chr(66 + n) + " " if n < 25 else ""}' for n in range(26)]
+    rules = [rule + (rule[-2] + ' ') * (count - 1) * (n < 25) + ';' for n, rule in enumerate(rules)]
+    symbols = 26 + 25 * count
+    return padded(rules, size), None if symbols <= 2048 else f'refused symbols {symbols}'
+
+
+def empty(size):
+    """Categories that are empty, all of which the first rule has."""
+    count = min(size // 64, 1000)
+    rules = ['First. First ::= ' + ' '.join(name(n) for n in range(count)) + ' ;']
+    rules += [f'R{n:03d}. {name(n)} ::= ;' for n in range(count)]
+    return padded(rules, size), f'rules {count + 1} categories {count + 1} kinds 0'
+
+
+def kinds(size):
+    """Rules with a word each, all different."""
+    count = min(size // 64, 1000)
+    rules = [f'R{n:03d}. Word ::= "a_word_of_the_number_{n:03d}_and_more" ;' for n in range(count)]
+    return padded(rules, size), f'rules {count} categories 1 kinds {count}'
+
+
+def categories(size):
+    """Rules of as many categories, each with a word and a category of a greater number."""
+    count = size // 100
+    rules = [f'R{n:03d}. {name(n)} ::= "{n % 10}" {name(n + 1)} ;' for n in range(count)]
+    rules.append(f'End. {name(count)} ::= "0" ;')
+    return padded(rules, size), f'rules {count + 1} categories {count + 1} kinds 10'
 
 
 def instructions(block, reply):
     given = b'script 1\ngrammar %d\n' % len(block) + block + b'\n'
     done = subprocess.run(COUNTED, input=given, capture_output=True)
     found = re.search(rb'Collected : (\d+)', done.stderr)
-    if not done.stdout.startswith(reply) or not found:
+    wanted = b'' if reply is None else b'grammar ' + reply.encode() + b'\n'
+    if not done.stdout.startswith(wanted) or not found:
         print(f'bench: a wrong answer: {done.stdout[:80]!r}', file=sys.stderr)
         sys.exit(2)
     return int(found.group(1))
 
 
-base = instructions(b'', b'grammar rules 0 categories 0 kinds 0\n')
+FAMILIES = (
+    ('internal rules, read whole', internal),
+    ('the same, refused at the last byte', refused),
+    ('a chain of nullable categories', chain),
+    ('the same, from its end', rising),
+    ('26 categories, each many of the next', copies),
+    ('all nullable, in one rule', empty),
+    ('1,000 kinds', kinds),
+    ('1,000 categories', categories),
+)
+
+base = instructions(b'', 'rules 0 categories 0 kinds 0')
 fine = True
-for name, made in (('whole', whole), ('refused at its last byte', refused)):
-    counts = [instructions(*made(size)) - base for size in SIZES]
-    for size, count in zip(SIZES, counts):
-        print(f'{name}, {size} bytes: {count / size:.0f} instructions a byte')
-    ratio = counts[-1] / counts[0]
-    print(f'{name}: {ratio:.2f} times for 8 times the bytes')
-    fine = fine and ratio <= 9
-print('within 9 times' if fine else 'NOT within 9 times')
+for title, made in FAMILIES:
+    costs = [(instructions(*made(size)) - base) / size for size in SIZES]
+    ratio = costs[-1] / costs[0]
+    fine = fine and ratio <= MOST
+    told = ', '.join(f'{size} bytes {cost:.0f}' for size, cost in zip(SIZES, costs))
+    print(f'{title}: instructions a byte at {told}; {ratio:.2f} times', flush=True)
+print(f'within {MOST} times' if fine else f'NOT within {MOST} times')
 sys.exit(0 if fine else 1)
 PROGRAM

@@ -66,8 +66,8 @@ fn heights_along(
 }
 
 /// For each number its height, or `None` where links lead from it to a number that reaches itself.
-/// It removes numbers without links left, one after the other, and looks at each link at most three
-/// times.
+/// It finds numbers one after the other, each behind those that it is linked to, and looks at each
+/// link at most three times.
 pub fn heights(alloc: Global, links: &Links) -> Result<Vec<Option<u16>>, AllocError>
     requires within { AreLinksWithin links.now }
     requires few { length links.now < 2 ^ 16 }

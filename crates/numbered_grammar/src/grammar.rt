@@ -27,7 +27,6 @@ impl Model for Grammar {
     ghost use Rattle.spec_grammar.specs.Grammars.{Grammar};
     ghost use Rattle.numbered_grammar.specs.Nullable.{AreNullableFlags};
     ghost use Rattle.numbered_grammar.specs.Ranks.{AreRanks};
-
     ghost use Rattle.std.specs.Coded.{codes};
     ghost use Rattle.spec_lexing.specs.contracts.expression.Expr as expr;
 

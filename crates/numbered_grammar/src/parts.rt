@@ -22,7 +22,6 @@ impl Model for GrammarParts {
     ghost use Rattle.std.specs.Prelude.{◌<◌, ◌^◌, length, IfSome};
     ghost use Rattle.spec_grammar.specs.Grammars.{Grammar, HasOwnSymbols, IsSymbolOf, item_count};
     ghost use Rattle.numbered_grammar.specs.Making.{grammar_of_parts};
-
     ghost use Rattle.std.specs.Coded.{codes};
     ghost use Rattle.spec_lexing.specs.contracts.expression.Expr as expr;
 

@@ -1,8 +1,7 @@
 -- Grammars with numbers in place of names, and the symbols that are theirs.
-use Rattle.std.specs.Prelude.{◌≡◌, ℕ, ◌+◌, ◌<◌, List, [], length, Option, Some, All, slice_get}
+use Rattle.std.specs.Prelude.{◌≡◌, ℕ, ◌+◌, ◌<◌, List, length, Option, Some, All, slice_get}
 use Rattle.std.specs.Prelude.{bytes_eq}
 use Rattle.std.specs.List.{position_or_len, sum_by}
-use Rattle.spec_lexing.specs.declared.kind_def.KindDef.{KindDef}
 use Rattle.spec_lexing.specs.Lexicon.{Lexicon}
 use Rattle.spec_grammar.specs.declared.rule.Label.TheVariants.{Wild}
 use Rattle.spec_grammar.specs.declared.rule.Symbol.{Symbol}

@@ -1,6 +1,6 @@
 -- The tokens of a grammar file, by longest match, and what separates them.
 use Rattle.std.specs.Prelude.{◌≡◌, ℕ, ◌+◌, ◌<◌, ◌≤◌, ◌⊎◌, List, [], ◌∷◌, ◌++◌, length, codes, Bool}
-use Rattle.std.specs.Prelude.{true, false, ◌||◌, ◌&&◌, nat_le, All, Contains, map, flat_map, cond}
+use Rattle.std.specs.Prelude.{true, false, All, Contains, map, flat_map, cond}
 use Rattle.std.specs.Prelude.{Option, Some, None, nat_eq, not, IfSome}
 use Rattle.std.specs.Char.{IsScalar, encode_utf8}
 use Rattle.std.specs.Str.Parse.{digits_value}

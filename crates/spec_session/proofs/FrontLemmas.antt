@@ -1,7 +1,6 @@
 -- A session as it goes: its replies with one reply more, and bytes that are a front of what it writes.
 use Rattle.std.proofs.Common.{◌≡◌, ℕ, List, [], ◌∷◌, ◌++◌, length, refl, sym, ◌∙◌, ap, subst, append_assoc, append-nil}
 use Rattle.spec_lexing.specs.declared.token.Token.{Token}
-use Rattle.spec_lexing.specs.Lexicon.{lexicon_of}
 use Rattle.spec_lexing.specs.Tokens.{AreTokensOf}
 use Rattle.spec_grammar.specs.Grammars.{Grammar}
 use Rattle.spec_script.specs.Script.{Query, Command, header, grammar, opens, ask, AreQuestions, IsInOrder}

@@ -1,7 +1,6 @@
 -- A command has one reply: a grammar is accepted in one way or refused by one line, and so on.
 use Rattle.std.proofs.Common.{◌≡◌, ℕ, ◌≤◌, inl, inr, List, [], ◌∷◌, ◌++◌, length, drop, get_or, sym, subst, ◌∙◌, ap, arith, length-append}
 use Rattle.spec_lexing.specs.declared.token.Token.{Token}
-use Rattle.spec_lexing.specs.Lexicon.{lexicon_of}
 use Rattle.spec_lexing.specs.Kinds.{MatchesKind, token_kind, lex_kinds}
 use Rattle.spec_lexing.specs.Tokens.{AreTokensOf}
 use Rattle.spec_lexing.proofs.TokensLemmas.{one_token_list}

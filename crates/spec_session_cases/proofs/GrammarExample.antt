@@ -16,7 +16,6 @@ use Rattle.spec_grammar.specs.Cycles.{StepsTo}
 use Rattle.spec_grammar.proofs.DerivationLemmas.{AreFull, derives_grows}
 use Rattle.spec_lexing.specs.declared.token.Token.{Token}
 use Rattle.spec_lexing.specs.Tokens.{AreTokensOf, kinds_of}
-use Rattle.spec_lexing.specs.Lexicon.{lexicon_of}
 use Rattle.spec_lexing.proofs.KindsLemmas.{tokens_of_is}
 use Rattle.spec_lbnf.specs.declared.definition.RawItem.TheVariants.{Word}
 use Rattle.spec_lbnf.specs.declared.definition.Def.{Def}
