@@ -32,7 +32,6 @@ pub struct Binary<C: Cell> {
 impl<C: Cell> Model for Binary<C> {
     ghost use Rattle.std.specs.Prelude.{◌≡◌, []};
     ghost use Rattle.spec_grammar.specs.Grammars.{Grammar};
-
     ghost use Rattle.std.specs.Coded.{codes};
     ghost use Rattle.spec_lexing.specs.contracts.expression.Expr as expr;
 

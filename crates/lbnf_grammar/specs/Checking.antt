@@ -13,7 +13,6 @@ use Rattle.spec_lbnf.specs.Checks.{IsWellLabelled, IsBadCoercion, IsBadList}
 use Rattle.spec_lbnf.specs.Checks.{IsList, IsBadWild, IsBadListRule}
 use Rattle.lbnf_grammar.specs.declared.labels.LabelFault.{LabelFault}
 use Rattle.lbnf_grammar.specs.declared.labels.LabelFault.TheVariants.{Coercion, List as ListFault}
-use Rattle.numbered_grammar.specs.Making.{IsWellFormed}
 use Rattle.lbnf_grammar.specs.Grammars.{IsSuchOrMemory}
 
 -- the check is passed with what it gives, or the fault is such a one, or memory ran out
