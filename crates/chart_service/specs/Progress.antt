@@ -1,5 +1,5 @@
 -- Serves the proofs alone: how far a session has come, and how it ended.
-use Rattle.std.specs.Prelude.{◌≡◌, ℕ, ◌⊎◌, List, [], ◌∷◌, ◌++◌, length, Option, Some, None}
+use Rattle.std.specs.Prelude.{◌≡◌, ℕ, ◌⊎◌, List, ◌∷◌, ◌++◌, length, Option, Some, None}
 use Rattle.std.specs.Prelude.{Result, Ok, Err}
 use Rattle.spec_lexing.specs.declared.token.Token.{Token}
 use Rattle.spec_script.specs.Script.{Command, header, grammar, opens, AreQuestions}

@@ -8,9 +8,7 @@ ghost use Rattle.spec_lbnf.specs.Checks.{HasFewRules, AtCount};
 ghost use Rattle.lbnf_grammar.specs.Checking.{ChecksWithoutMemory};
 
 use spec_lbnf::{Def, GrammarFault};
-
-/// The most rules of a grammar file.
-const MAX_RULES: usize = 1_024;
+use spec_text::MAX_RULES;
 
 /// Whether the string has no words.
 fn is_wordless(text: &[u8]) -> bool
