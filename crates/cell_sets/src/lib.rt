@@ -1,15 +1,18 @@
 //! Sets of symbol numbers behind one trait, and the set that is a list in rising order.
 #![tactic(auto)]
 
+mod bits;
 mod cell;
 mod comparing;
 mod laws;
 mod list_cell;
 mod merging;
 mod places;
+mod words;
 #[cfg(test)]
 mod tests;
 
+pub use bits::{Bits, Width, Words};
 pub use cell::{Cell, Room, union_into};
 pub use laws::{entries_are_values, rising_lists_are_sets};
 pub use list_cell::ListCell;
