@@ -115,17 +115,19 @@ pub none_set :
 none_set words zero_each =
     rising_lists_are_sets (symbols_of words) [] (symbols_rise words)
     (λ i j order within. absurd (omega (arith, within)))
-    (λ s. ((λ has. absurd (none s ((is_symbol words s).0 has))),
-    (λ has. let within : has.0 < 0 = has.1 in absurd (omega (arith, within))))) where
-  none : (s : ℕ) → bit_of words s ≡ 1 → ⊥
-  none s set = elim (cases_lt s (64 * length words)) [
-    | inl within ↦
-        let clear : bit_of words s ≡ 0 =
-        ap (λ x. bit_at x (s % 64)) (zero_each (s / 64) (omega (arith, within)))
-        ∙ bit_at-zero (s % 64) in
-        omega (arith, set, clear)
-    | inr behind ↦ omega (arith, set, bit_behind words s behind)
-  ]
+    (λ s. (
+      (λ has. absurd (none s ((is_symbol words s).0 has))),
+      (λ has. let within : has.0 < 0 = has.1 in absurd (omega (arith, within))),
+    )) where
+      none : (s : ℕ) → bit_of words s ≡ 1 → ⊥
+      none s set = elim (cases_lt s (64 * length words)) [
+        | inl within ↦
+            let clear : bit_of words s ≡ 0 =
+            ap (λ x. bit_at x (s % 64)) (zero_each (s / 64) (omega (arith, within)))
+            ∙ bit_at-zero (s % 64) in
+            omega (arith, set, clear)
+        | inr behind ↦ omega (arith, set, bit_behind words s behind)
+      ]
 
 -- words of which each is the union of two others have the symbols of both
 pub bits_united :
@@ -139,14 +141,31 @@ bits_united left right both each s =
     let l = is_symbol left s in let r = is_symbol right s in let b = is_symbol both s in (
       (λ has. elim (cases_eq (bit_of left s) 1) [
         | inl set ↦ inl (l.1 set)
-        | inr clear ↦ inr (r.1 (omega (arith, at, of, b.0 has, clear,
-            bit_at-lt (get_or left (s / 64) 0) (s % 64), bit_at-lt (get_or right (s / 64) 0) (s % 64))))
+        | inr clear ↦ inr (r.1 (omega (
+          arith,
+          at,
+          of,
+          b.0 has,
+          clear,
+          bit_at-lt (get_or left (s / 64) 0) (s % 64),
+          bit_at-lt (get_or right (s / 64) 0) (s % 64),
+        )))
       ]),
       (elim [
-        | inl has ↦ b.1 (omega (arith, at, of, l.0 has,
-            bit_at-lt (get_or right (s / 64) 0) (s % 64)))
-        | inr has ↦ b.1 (omega (arith, at, of, r.0 has,
-            bit_at-lt (get_or left (s / 64) 0) (s % 64)))
+        | inl has ↦ b.1 (omega (
+          arith,
+          at,
+          of,
+          l.0 has,
+          bit_at-lt (get_or right (s / 64) 0) (s % 64),
+        ))
+        | inr has ↦ b.1 (omega (
+          arith,
+          at,
+          of,
+          r.0 has,
+          bit_at-lt (get_or left (s / 64) 0) (s % 64),
+        ))
       ]),
     )
 
@@ -162,8 +181,10 @@ bits_common left right common each s =
     let low_left = bit_at-lt (get_or left (s / 64) 0) (s % 64) in
     let low_right = bit_at-lt (get_or right (s / 64) 0) (s % 64) in
     let l = is_symbol left s in let r = is_symbol right s in let b = is_symbol common s in (
-      (λ has. (l.1 (omega (arith, at, of, b.0 has, low_left, low_right)),
-      r.1 (omega (arith, at, of, b.0 has, low_left, low_right)))),
+      (λ has. (
+        l.1 (omega (arith, at, of, b.0 has, low_left, low_right)),
+        r.1 (omega (arith, at, of, b.0 has, low_left, low_right)),
+      )),
       (λ both. b.1 (omega (arith, at, of, l.0 both.0, r.0 both.1))),
     )
 
@@ -312,9 +333,11 @@ next_found words k from bit symbol behind small set before low none = (
     | inl less ↦
         let far : 64 * k + from ≤ s = none s has above in
         let place : 64 * k + (s - 64 * k) ≡ s = omega (arith, far) in
-        absurd (omega (arith,
-        bit_at_symbol words k (s - 64 * k) (omega (arith, less, small)) (rw place has),
-        before (s - 64 * k) (omega (arith, far)) (omega (arith, less, far))))
+        absurd (omega (
+          arith,
+          bit_at_symbol words k (s - 64 * k) (omega (arith, less, small)) (rw place has),
+          before (s - 64 * k) (omega (arith, far)) (omega (arith, less, far)),
+        ))
     | inr reached ↦ reached
   ]),
 )
@@ -330,9 +353,11 @@ next_behind words k from symbol clear none s has above =
     elim (cases_lt s (64 * (k + 1) + 0)) [
       | inl less ↦
           let place : 64 * k + (s - 64 * k) ≡ s = omega (arith, far) in
-          absurd (omega (arith,
-          bit_at_symbol words k (s - 64 * k) (omega (arith, less, far)) (rw place has),
-          clear (s - 64 * k) (omega (arith, far))))
+          absurd (omega (
+            arith,
+            bit_at_symbol words k (s - 64 * k) (omega (arith, less, far)) (rw place has),
+            clear (s - 64 * k) (omega (arith, far)),
+          ))
       | inr reached ↦ reached
     ]
 
@@ -369,8 +394,11 @@ bit_kept :
 bit_kept words symbol s within other = elim (cases_eq (s / 64) (symbol / 64)) [
   | inl same ↦
       let place : s % 64 ≡ symbol % 64 → ⊥ = λ e. other (omega (arith, same, e)) in
-      rw (same, get_or-set_same words (symbol / 64)
-      (bit_or (get_or words (symbol / 64) 0) (1 * 2 ^ (symbol % 64) % 2 ^ 64)) 0 (omega (arith, within)))
+      rw (
+        same,
+        get_or-set_same words (symbol / 64)
+            (bit_or (get_or words (symbol / 64) 0) (1 * 2 ^ (symbol % 64) % 2 ^ 64)) 0 (omega (arith, within)),
+      )
       (bit_at_set_other w64 (get_or words (symbol / 64) 0) (symbol % 64) (omega arith) (s % 64) place)
   | inr apart ↦ ap (λ x. bit_at x (s % 64))
       (get_or-set_other words (symbol / 64) (s / 64)

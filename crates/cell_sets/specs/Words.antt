@@ -1,5 +1,5 @@
 -- Serves the proofs alone. Sets of symbols as the bits of words, 64 symbols to a word.
-use Rattle.std.specs.Prelude.{ℕ, ◌*◌, ◌/◌, ◌%◌, List, length, slice_index, Bool, nat_eq, Option, MatchOption, ◌≡◌, ◌≤◌, ◌<◌, ◌+◌}
+use Rattle.std.specs.Prelude.{ℕ, ◌*◌, ◌/◌, ◌%◌, List, length, slice_index, Bool, nat_eq, Option, MatchOption, ◌≡◌, ◌≤◌, ◌<◌}
 use Rattle.std.specs.List.{filter, range_with_len}
 use Rattle.std.specs.Int.{bit_at}
 
@@ -16,4 +16,4 @@ abbrev pub IsFirstBit : ℕ → ℕ → Option ℕ → Type 0
 IsFirstBit word from first = MatchOption first
     ((k : ℕ) → from ≤ k → bit_at word k ≡ 0)
     (λ n. (from ≤ n) × (n < 64) × (bit_at word n ≡ 1)
-        × ((k : ℕ) → from ≤ k → k < n → bit_at word k ≡ 0))
+    × ((k : ℕ) → from ≤ k → k < n → bit_at word k ≡ 0))

@@ -8,9 +8,9 @@ mod laws;
 mod list_cell;
 mod merging;
 mod places;
-mod words;
 #[cfg(test)]
 mod tests;
+mod words;
 
 pub use bits::{Bits, Width, Words};
 pub use cell::{Cell, Room, union_into};

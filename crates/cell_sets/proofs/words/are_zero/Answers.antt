@@ -12,6 +12,6 @@ returns-then-words-k-ne0 c = (
 pub returns : goal.returns
 returns c = (
   (λ _. none_set c.args.words.now
-  (λ k within. c.loop-k.invariant k (omega (arith, within, c.loop-k-test.false)))),
+      (λ k within. c.loop-k.invariant k (omega (arith, within, c.loop-k-test.false)))),
   (λ _. refl),
 )

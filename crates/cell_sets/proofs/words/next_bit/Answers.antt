@@ -13,7 +13,7 @@ loop-k-preserved c = (
   omega arith,
   omega (arith, c.loop-k.invariant.0, c.loop-k.invariant.1),
   next_behind c.args.words.now c.loop-k.k c.loop-k.from c.args.symbol c.in_default.ensures
-  c.loop-k.invariant.2,
+      c.loop-k.invariant.2,
 )
 
 pub returns : goal.returns

@@ -1,4 +1,4 @@
-use Rattle.std.proofs.Common.{◌≡◌, ℕ, ◌+◌, ◌-◌, ◌*◌, ◌<◌, ◌≤◌, length}
+use Rattle.std.proofs.Common.{ℕ, ◌+◌, ◌-◌, ◌*◌, ◌<◌, ◌≤◌, length}
 use Rattle.std.specs.List.{Contains}
 use Rattle.cell_sets.specs.Words.{symbols_of}
 use Rattle.cell_sets.proofs.words.next_bit.Given as goal

@@ -1,4 +1,4 @@
-use Rattle.std.proofs.Common.{ℕ, replicate, length, arith}
+use Rattle.std.proofs.Common.{ℕ, replicate, arith}
 use Rattle.std.proofs.lemmas.List.{get_or-replicate, length-replicate}
 use Rattle.cell_sets.proofs.WordsLemmas.{none_set, symbols_rise}
 use Rattle.cell_sets.proofs.bits.BitsCell.empty.Goals as goal
