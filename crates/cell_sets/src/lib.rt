@@ -1,4 +1,4 @@
-//! Sets of symbol numbers behind one trait, and the set that is a list in rising order.
+//! Sets of symbol numbers behind one trait, as lists in rising order and as rows of bits.
 #![tactic(auto)]
 
 mod bits;
