@@ -305,6 +305,17 @@ fn told_in(
 fn rows_of_bits_tell_what_they_have(rt: HostRuntime) -> Result<(), Fail> {
     let cases = [
         (1, &[][..], 63, &[false, true, false, false][..]),
+        (2, &[], 64, &[false, true, false, false]),
+        (4, &[], 64, &[false, true, false, false]),
+        (8, &[], 64, &[false, true, false, false]),
+        (16, &[], 64, &[false, true, false, false]),
+        (32, &[], 64, &[false, true, false, false]),
+        (1, &[63, 64], 64, &[true, false, false, false, false]),
+        (2, &[127, 128], 128, &[true, false, false, false, false]),
+        (4, &[255, 256], 256, &[true, false, false, false, false]),
+        (8, &[511, 512], 512, &[true, false, false, false, false]),
+        (16, &[1023, 1024], 1024, &[true, false, false, false, false]),
+        (32, &[2047, 2048], 2048, &[true, false, false, false, false]),
         (1, &[63, 63], 63, &[true, false, true, false, true, true]),
         (2, &[127, 63], 64, &[true, true, false, false, false, false]),
         (4, &[255, 64], 255, &[true, true, true, false, true, false]),
