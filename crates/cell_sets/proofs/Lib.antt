@@ -4,3 +4,4 @@ pub mod PlacesLemmas
 pub mod MergingLemmas
 pub mod CommonLemmas
 pub mod GridLemmas
+pub mod WordsLemmas

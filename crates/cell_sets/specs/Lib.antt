@@ -2,3 +2,4 @@ pub mod Cells
 pub mod Grids
 pub mod Places
 pub mod ListCells
+pub mod Words

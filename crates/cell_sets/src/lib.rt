@@ -1,6 +1,7 @@
-//! Sets of symbol numbers behind one trait, and the set that is a list in rising order.
+//! Sets of symbol numbers behind one trait, as lists in rising order and as rows of bits.
 #![tactic(auto)]
 
+mod bits;
 mod cell;
 mod comparing;
 mod laws;
@@ -9,7 +10,9 @@ mod merging;
 mod places;
 #[cfg(test)]
 mod tests;
+mod words;
 
+pub use bits::{Bits, Width, Words};
 pub use cell::{Cell, Room, union_into};
 pub use laws::{entries_are_values, rising_lists_are_sets};
 pub use list_cell::ListCell;

@@ -1,7 +1,7 @@
-//! Each call succeeds where there is memory. A list cell is called through the trait alone.
+//! Each call succeeds where there is memory. The cells are called through the trait alone.
 ghost use Rattle.std.specs.Prelude.{◌≡◌};
 
-use crate::{Cell, ListCell, union_into};
+use crate::{Bits, Cell, ListCell, union_into};
 use std::alloc::{AllocError, Global};
 use std::test::Fail;
 
@@ -11,14 +11,14 @@ fn room_of<C: Cell>() -> u32
     C::ROOM
 }
 
-/// A cell with these symbols, and whether each was new.
-fn filled<C: Cell>(alloc: Global, symbols: &[u16]) -> Result<(C, Vec<bool>), AllocError>
-    requires { C.ROOM ≡ 65536 }
-{
+/// A cell with those of these symbols that it has room for, and whether each was new.
+fn filled<C: Cell>(alloc: Global, symbols: &[u16]) -> Result<(C, Vec<bool>), AllocError> {
     let mut cell = C::empty();
     let mut answers = Vec::new(alloc);
     for symbol in symbols {
-        answers.push(cell.insert(alloc, *symbol)?)?;
+        if (*symbol as u32) < C::ROOM {
+            answers.push(cell.insert(alloc, *symbol)?)?;
+        }
     }
     Ok((cell, answers))
 }
@@ -41,18 +41,21 @@ fn members_of<C: Cell>(alloc: Global, cell: &C) -> Result<Vec<u16>, AllocError> 
     Ok(members)
 }
 
+/// Whether the cell has room for the symbol, and has it.
+fn has_in_room<C: Cell>(cell: &C, symbol: u16) -> bool {
+    (symbol as u32) < C::ROOM && cell.has(symbol)
+}
+
 /// Which of the asked symbols a cell has that holds the inserted ones.
 fn membership<C: Cell>(
     alloc: Global,
     inserted: &[u16],
     asked: &[u16],
-) -> Result<Vec<bool>, AllocError>
-    requires { C.ROOM ≡ 65536 }
-{
+) -> Result<Vec<bool>, AllocError> {
     let (cell, _) = filled::<C>(alloc, inserted)?;
     let mut answers = Vec::new(alloc);
     for symbol in asked {
-        answers.push(cell.has(*symbol))?;
+        answers.push(has_in_room(&cell, *symbol))?;
     }
     Ok(answers)
 }
@@ -62,9 +65,7 @@ fn united<C: Cell>(
     alloc: Global,
     left: &[u16],
     right: &[u16],
-) -> Result<(Vec<u16>, Vec<u16>), AllocError>
-    requires { C.ROOM ≡ 65536 }
-{
+) -> Result<(Vec<u16>, Vec<u16>), AllocError> {
     let (mut left, _) = filled::<C>(alloc, left)?;
     let (right, _) = filled::<C>(alloc, right)?;
     let both = left.union(alloc, &right)?;
@@ -73,12 +74,10 @@ fn united<C: Cell>(
 }
 
 /// Whether a cell without symbols is empty and has none, and whether it is empty with one.
-fn emptiness<C: Cell>(alloc: Global) -> Result<(bool, bool, bool), AllocError>
-    requires { C.ROOM ≡ 65536 }
-{
+fn emptiness<C: Cell>(alloc: Global) -> Result<(bool, bool, bool), AllocError> {
     let empty = C::empty();
     let (one, _) = filled::<C>(alloc, &[0])?;
-    Ok((empty.is_empty(), empty.has(0), one.is_empty()))
+    Ok((empty.is_empty(), has_in_room(&empty, 0), one.is_empty()))
 }
 
 #[test]
@@ -193,9 +192,7 @@ fn compared<C: Cell>(
     alloc: Global,
     left: &[u16],
     right: &[u16],
-) -> Result<(bool, Vec<u16>, bool), AllocError>
-    requires { C.ROOM ≡ 65536 }
-{
+) -> Result<(bool, Vec<u16>, bool), AllocError> {
     let (left, _) = filled::<C>(alloc, left)?;
     let (right, _) = filled::<C>(alloc, right)?;
     let common = left.common(alloc, &right)?;
@@ -225,6 +222,120 @@ fn cells_meet_where_they_have_a_common_symbol(rt: HostRuntime) -> Result<(), Fai
         assert_eq!(rt; meet, !members.is_empty(), "at {left:?} and {right:?}");
         assert_eq!(rt; common.as_slice(), members, "at {left:?} and {right:?}");
         assert_eq!(rt; are_same, same, "at {left:?} and {right:?}");
+    }
+    Ok(())
+}
+
+/// The members of the union of two cells with these symbols, and of what they have in common.
+fn united_and_common<C: Cell>(
+    alloc: Global,
+    left: &[u16],
+    right: &[u16],
+) -> Result<(Vec<u16>, Vec<u16>), AllocError> {
+    let (both, _) = united::<C>(alloc, left, right)?;
+    let (_, common, _) = compared::<C>(alloc, left, right)?;
+    Ok((both, common))
+}
+
+/// The same of rows of so many words.
+fn united_and_common_in(
+    alloc: Global,
+    words: u32,
+    left: &[u16],
+    right: &[u16],
+) -> Result<(Vec<u16>, Vec<u16>), AllocError> {
+    match words {
+        1 => united_and_common::<Bits<1>>(alloc, left, right),
+        2 => united_and_common::<Bits<2>>(alloc, left, right),
+        4 => united_and_common::<Bits<4>>(alloc, left, right),
+        8 => united_and_common::<Bits<8>>(alloc, left, right),
+        16 => united_and_common::<Bits<16>>(alloc, left, right),
+        _ => united_and_common::<Bits<32>>(alloc, left, right),
+    }
+}
+
+#[test]
+fn rows_of_bits_give_their_symbols_in_rising_order(rt: HostRuntime) -> Result<(), Fail> {
+    let cases = [
+        (1, &[63, 0][..], &[63][..], &[0, 63][..], &[63][..]),
+        (2, &[127, 0, 64], &[64, 63], &[0, 63, 64, 127], &[64]),
+        (4, &[255, 0, 64], &[64, 63], &[0, 63, 64, 255], &[64]),
+        (8, &[511, 63, 0], &[511, 64], &[0, 63, 64, 511], &[511]),
+        (16, &[1023, 64, 0], &[0, 63], &[0, 63, 64, 1023], &[0]),
+        (32, &[2047, 64, 63], &[63, 0], &[0, 63, 64, 2047], &[63]),
+    ];
+    for (words, left, right, both, common) in cases {
+        let (all, shared) = united_and_common_in(rt.alloc(), words, left, right)?;
+        assert_eq!(rt; all.as_slice(), both, "of {words} words");
+        assert_eq!(rt; shared.as_slice(), common, "of {words} words");
+    }
+    Ok(())
+}
+
+/// Whether each of these symbols was new when it was inserted, and then whether the cell has the
+/// asked one, whether it is empty, and whether it meets the cell of the asked one and is the same.
+fn told<C: Cell>(alloc: Global, inserted: &[u16], asked: u16) -> Result<Vec<bool>, AllocError> {
+    let (cell, mut answers) = filled::<C>(alloc, inserted)?;
+    let (other, _) = filled::<C>(alloc, &[asked])?;
+    answers.push(has_in_room(&cell, asked))?;
+    answers.push(cell.is_empty())?;
+    answers.push(cell.meets(&other))?;
+    answers.push(cell.same(&other))?;
+    Ok(answers)
+}
+
+/// The same of a row of so many words.
+fn told_in(
+    alloc: Global,
+    words: u32,
+    inserted: &[u16],
+    asked: u16,
+) -> Result<Vec<bool>, AllocError> {
+    match words {
+        1 => told::<Bits<1>>(alloc, inserted, asked),
+        2 => told::<Bits<2>>(alloc, inserted, asked),
+        4 => told::<Bits<4>>(alloc, inserted, asked),
+        8 => told::<Bits<8>>(alloc, inserted, asked),
+        16 => told::<Bits<16>>(alloc, inserted, asked),
+        _ => told::<Bits<32>>(alloc, inserted, asked),
+    }
+}
+
+#[test]
+fn rows_of_bits_tell_what_they_have(rt: HostRuntime) -> Result<(), Fail> {
+    let cases = [
+        (1, &[][..], 63, &[false, true, false, false][..]),
+        (2, &[], 64, &[false, true, false, false]),
+        (4, &[], 64, &[false, true, false, false]),
+        (8, &[], 64, &[false, true, false, false]),
+        (16, &[], 64, &[false, true, false, false]),
+        (32, &[], 64, &[false, true, false, false]),
+        (1, &[63, 64], 64, &[true, false, false, false, false]),
+        (2, &[127, 128], 128, &[true, false, false, false, false]),
+        (4, &[255, 256], 256, &[true, false, false, false, false]),
+        (8, &[511, 512], 512, &[true, false, false, false, false]),
+        (16, &[1023, 1024], 1024, &[true, false, false, false, false]),
+        (32, &[2047, 2048], 2048, &[true, false, false, false, false]),
+        (1, &[63, 63], 63, &[true, false, true, false, true, true]),
+        (2, &[127, 63], 64, &[true, true, false, false, false, false]),
+        (4, &[255, 64], 255, &[true, true, true, false, true, false]),
+        (8, &[511, 511], 511, &[true, false, true, false, true, true]),
+        (
+            16,
+            &[1023, 0],
+            64,
+            &[true, true, false, false, false, false],
+        ),
+        (
+            32,
+            &[2047, 0],
+            2047,
+            &[true, true, true, false, true, false],
+        ),
+    ];
+    for (words, inserted, asked, answers) in cases {
+        let told = told_in(rt.alloc(), words, inserted, asked)?;
+        assert_eq!(rt; told.as_slice(), answers, "of {words} words");
     }
     Ok(())
 }
