@@ -1,5 +1,5 @@
 -- A file has one first fault, or spells one list of definitions.
-use Rattle.std.proofs.Common.{◌≡◌, ℕ, zero, suc, ◌≤◌, ◌<◌, List, [], ◌∷◌, ◌++◌, length, take, Bool, true, false, cond, Result, Ok, Err, ◌⊎◌, inl, inr, refl, sym, ap, subst, ◌∙◌, append_assoc, arith, length-append}
+use Rattle.std.proofs.Common.{◌≡◌, ℕ, zero, suc, ◌+◌, ◌≤◌, ◌<◌, List, [], ◌∷◌, ◌++◌, length, take, Bool, true, false, cond, Result, Ok, Err, ◌⊎◌, inl, inr, refl, sym, ap, subst, ◌∙◌, append_assoc, arith, length-append}
 use Rattle.std.specs.Prelude.{IsUtf8}
 use Rattle.std.specs.Str.{is_utf8}
 use Rattle.std.specs.Str.Lossy.{utf8_valid_len, valid_len_up_to}
@@ -12,7 +12,7 @@ use Rattle.spec_lbnf.specs.declared.token.FileToken.{FileToken}
 use Rattle.spec_lbnf.specs.declared.token.FileToken.TheVariants.{Identifier, Number, Text, Character}
 use Rattle.spec_lbnf.specs.declared.token.FileToken.TheVariants.{Sign as SignToken}
 use Rattle.spec_lbnf.specs.declared.token.PlacedToken.{PlacedToken}
-use Rattle.spec_lbnf.specs.FileTokens.{IsScan, AreTokensTo, IsTokenBefore}
+use Rattle.spec_lbnf.specs.FileTokens.{IsScan, AreTokensFrom, IsTokenBefore}
 use Rattle.spec_lbnf.specs.GrammarFile.{category_tokens, SpellsDefs, AreSpelledBy, pieces_of}
 use Rattle.spec_lbnf.specs.declared.fault.TextFault.{TextFault}
 use Rattle.spec_lbnf.specs.declared.fault.TextFault.TheVariants.{NotUtf8, Syntax, TooLarge}
@@ -26,7 +26,7 @@ use Rattle.lbnf_readers.proofs.ReaderLemmas.{HaveShortNames, bare-append}
 use Rattle.spec_lbnf.proofs.BracketLemmas.{category_begins}
 use Rattle.lbnf_readers.proofs.DefLemmas.{one_def}
 use Rattle.lbnf_readers.proofs.DefsLemmas.{Outcome, HasFault, defs_tell}
-use Rattle.lbnf_readers.proofs.ScanLemmas.{one_list, scanned}
+use Rattle.lbnf_readers.proofs.ScanLemmas.{one_scan, rises, scanned}
 use Rattle.lbnf_readers.specs.Scanning.{scan_of}
 
 -- pieces spell at most one list of definitions
@@ -191,22 +191,17 @@ stops_early (byte ∷ bytes) none =
     rw whole (omega (arith, valid_within (byte ∷ bytes) n))
 
 -- no identifier of a scan has more than 64 bytes
-scan_short : (size : ℕ) (bytes : List ℕ) (tokens : List PlacedToken) (stop : ℕ) → AreTokensTo size bytes tokens stop → HaveShortNames tokens
-scan_short size bytes [] stop scan = tt
-scan_short size bytes (token ∷ tokens) stop scan =
-    (short token.token scan.0 scan.1 scan.4, scan_short size scan.1 tokens stop scan.5)
+scan_short : (start : ℕ) (bytes : List ℕ) (tokens : List PlacedToken) (stop : ℕ) → AreTokensFrom start bytes tokens stop → HaveShortNames tokens
+scan_short start bytes [] stop scan = tt
+scan_short start bytes (token ∷ tokens) stop (skipped, written, rest, whole, skips, offset, begins, more) =
+    (short token.token written rest begins, scan_short (token.offset + length written) rest tokens stop more)
   where
     short : (t : FileToken) (here rest : List ℕ) → IsTokenBefore t here rest → IsShort t
-    short (Identifier name) here rest is = is.0.short
+    short (Identifier name) here rest is = subst (λ l. length l ≤ 64) (sym is.2) is.0.short
     short (Number value) here rest is = tt
     short (Text value) here rest is = tt
     short (Character value) here rest is = tt
     short (SignToken sign) here rest is = tt
-
--- a scan stops within the file
-scan_within : (size : ℕ) (bytes : List ℕ) (tokens : List PlacedToken) (stop : ℕ) → AreTokensTo size bytes tokens stop → stop ≤ size
-scan_within size bytes [] stop scan = omega (arith, scan.3)
-scan_within size bytes (token ∷ tokens) stop scan = scan_within size scan.1 tokens stop scan.5
 
 -- an offset within the file is before its end or at it
 before_or_at : (stop size : ℕ) → stop ≤ size → (stop < size) ⊎ (stop ≡ size)
@@ -219,8 +214,8 @@ module _ (bytes : List ℕ) (tokens : List PlacedToken) (stop : ℕ) (scan : IsS
   -- what is read of a file's tokens is the definitions that they spell, or their first fault
   pub scanned_tell : Outcome bytes tokens stop [] (defs_of tokens stop)
   scanned_tell =
-      defs_tell bytes tokens stop (before_or_at stop (length bytes) (scan_within (length bytes) bytes tokens stop scan))
-      (scan_short (length bytes) bytes tokens stop scan)
+      defs_tell bytes tokens stop (before_or_at stop (length bytes) (rises bytes tokens stop scan).1)
+      (scan_short 0 bytes tokens stop scan)
 
   -- the definitions that are read of tokens that reach the end of the file are those of the file
   pub defs_are : (defs : List Def) → IsSmallText bytes → stop ≡ length bytes → defs_of tokens stop ≡ Ok defs
@@ -255,7 +250,7 @@ module _ (bytes : List ℕ) (tokens : List PlacedToken) (stop : ℕ) (scan : IsS
 -- a file spells at most one list of definitions
 pub one_file_of_defs : OneFileOfDefs
 one_file_of_defs bytes a b first second =
-    let same = one_list (length bytes) first.tokens second.tokens bytes (length bytes) (length bytes) first.scan second.scan in
+    let same = one_scan bytes first.tokens second.tokens (length bytes) (length bytes) first.scan second.scan in
     one_list_of_defs (bare second.tokens) a b (subst (λ ts. SpellsDefs a (bare ts)) same.0 first.spelled) second.spelled
 
 -- bytes that stop being UTF-8 early are not UTF-8
@@ -277,7 +272,7 @@ has_fault bytes tokens stop front fault is at = record {
 one_token_fault : (bytes : List ℕ) (a b : TextFault) (xs ys : List PlacedToken) (m n : ℕ) → IsScan bytes xs m → IsScan bytes ys n
     → HasFault bytes xs m a → HasFault bytes ys n b → a ≡ b
 one_token_fault bytes a b xs ys m n scan again first second =
-    let same = one_list (length bytes) xs ys bytes m n scan again in
+    let same = one_scan bytes xs ys m n scan again in
     one_of_tokens bytes ys n a b
     (subst (λ k. HasFault bytes ys k a) same.1 (subst (λ ts. HasFault bytes ts m a) same.0 first)) second
 
@@ -315,7 +310,7 @@ pub spelled_or_faulty : SpelledOrFaulty
 spelled_or_faulty bytes defs fault spelled (is_large large is) = omega (arith, large, spelled.small.few)
 spelled_or_faulty bytes defs fault spelled (is_not_utf8 few early is) = utf8_whole bytes early spelled.small.utf8
 spelled_or_faulty bytes defs fault spelled (in_tokens small tokens stop scan front is at) =
-    let same = one_list (length bytes) spelled.tokens tokens bytes (length bytes) stop spelled.scan scan in
+    let same = one_scan bytes spelled.tokens tokens (length bytes) stop spelled.scan scan in
     no_fault_of_spelled bytes tokens stop defs fault (sym same.1)
     (subst (λ ts. SpellsDefs defs (bare ts)) same.0 spelled.spelled)
     (subst (λ ts. LacksLong (bare ts)) same.0 spelled.short) (has_fault bytes tokens stop front fault is at)
@@ -326,7 +321,7 @@ HasAnswer bytes = ((defs : List Def) × Spells bytes defs) ⊎ ((fault : TextFau
 
 -- a file of UTF-8 that is not too large has one of the two
 utf8_answer : (bytes : List ℕ) → IsSmallText bytes → HasAnswer bytes
-utf8_answer bytes small = by (defs_of tokens stop) refl (before_or_at stop (length bytes) (scan_within (length bytes) bytes tokens stop scan))
+utf8_answer bytes small = by (defs_of tokens stop) refl (before_or_at stop (length bytes) (rises bytes tokens stop scan).1)
   where
     tokens : List PlacedToken
     tokens = (scan_of bytes).0

@@ -1,5 +1,5 @@
 -- Strings and characters: a literal that stands before a rest is read, and what is read stands there.
-use Rattle.std.proofs.Common.{◌≡◌, ℕ, zero, suc, List, [], ◌∷◌, ◌++◌, map, flat_map, get_or, codes, Bool, true, false, eqb, Option, Some, None, option_map, option_and_then, Contains, refl, sym, ap, subst, ◌∙◌, inl, inr, arith, chars}
+use Rattle.std.proofs.Common.{◌≡◌, ℕ, zero, suc, List, [], ◌∷◌, ◌++◌, map, flat_map, get_or, codes, Bool, true, false, eqb, Option, Some, None, option_map, option_and_then, Contains, refl, sym, ap, subst, ◌∙◌, inl, inr, append_assoc, arith, chars}
 use Rattle.std.specs.Char.{IsScalar, encode_utf8}
 use Rattle.std.specs.List.{list_any, AllByRecursion}
 use Rattle.std.specs.Str.{all_scalars, bytes_eq}
@@ -12,8 +12,8 @@ use Rattle.std.proofs.lemmas.List.Elements.{All-from_recursion, recursion_from_A
 use Rattle.std.proofs.lemmas.Str.{chars-encodes}
 use Rattle.spec_lbnf.specs.declared.token.FileToken.{FileToken}
 use Rattle.spec_lbnf.specs.declared.token.FileToken.TheVariants.{Text, Character}
-use Rattle.spec_lbnf.specs.FileTokens.{LiteralPart, plain, escape, IsPart, part_bytes, part_value, escaped, IsLiteral, IsTokenBefore}
-use Rattle.lbnf_readers.specs.Scanning.{is_escape, byte_before, literal_from, string_of, string_at, is_encoded, character_of, character_at}
+use Rattle.spec_lbnf.specs.FileTokens.{LiteralPart, plain, escape, IsPart, part_bytes, part_value, escaped, IsLiteral}
+use Rattle.lbnf_readers.specs.Scanning.{is_escape, byte_before, literal_from, string_of, string_at, is_encoded, character_of, character_at, IsTokenAt}
 
 -- the bytes that an escape may have behind its backslash
 abbrev escapes : List ℕ
@@ -162,46 +162,52 @@ module _ (quote : ℕ) where
   ]
 
   -- a literal is read behind its opening quote
-  pub literal_again : (value bytes rest : List ℕ) → eqb 92 quote ≡ false → IsLiteral quote value bytes rest
+  pub literal_again : (value bytes written rest : List ℕ) → eqb 92 quote ≡ false → bytes ≡ written ++ rest
+      → IsLiteral quote value written
       → (behind : List ℕ) × (bytes ≡ quote ∷ behind) × (literal_from quote false behind ≡ Some (value, rest))
-  literal_again value bytes rest apart is =
+  literal_again value bytes written rest apart e is =
+      let parts : List ℕ = flat_map part_bytes is.parts in
       let each = recursion_from_All (IsPart quote) is.parts is.each in
       let read = parts_again is.parts rest apart each in
-      (flat_map part_bytes is.parts ++ quote ∷ rest, is.whole, read ∙ ap (λ v. Some (v, rest)) (sym is.means))
+      let whole : bytes ≡ quote ∷ (parts ++ quote ∷ rest) =
+      e ∙ ap (λ l. l ++ rest) is.whole ∙ ap (λ l. quote ∷ l) (append_assoc parts (quote ∷ []) rest) in
+      (parts ++ quote ∷ rest, whole, read ∙ ap (λ v. Some (v, rest)) (sym is.means))
 
   -- what is read is a literal behind its opening quote
   pub literal_read : (value bytes rest : List ℕ) → literal_from quote false bytes ≡ Some (value, rest)
-      → IsLiteral quote value (quote ∷ bytes) rest
+      → (written : List ℕ) × (quote ∷ bytes ≡ written ++ rest) × IsLiteral quote value written
   literal_read value bytes rest e =
       let reads = parts_read bytes false value rest e in
-      record {
+      let parts : List ℕ = flat_map part_bytes reads.parts in
+      let is : IsLiteral quote value (quote ∷ parts ++ quote ∷ []) = record {
         parts = reads.parts;
         each = All-from_recursion (IsPart quote) reads.parts reads.each;
-        whole = ap (λ l. quote ∷ l) reads.whole;
+        whole = refl;
         means = reads.means;
-      }
+      } in
+      (quote ∷ parts ++ quote ∷ [], ap (λ l. quote ∷ l) (reads.whole ∙ sym (append_assoc parts (quote ∷ []) rest)), is)
 
--- a string is read behind its opening quote
-pub string_again : (value bytes rest : List ℕ) → IsLiteral 34 value bytes rest
+-- a string before a rest is read behind its opening quote
+pub string_again : (value bytes rest : List ℕ) → IsTokenAt (Text value) bytes rest
     → (behind : List ℕ) × (bytes ≡ 34 ∷ behind) × (string_at behind ≡ Some (Text value, rest))
 unfolding string_at
-string_again value bytes rest is =
-    let read = literal_again 34 value bytes rest refl is in
+string_again value bytes rest (written, e, is) =
+    let read = literal_again 34 value bytes written rest refl e is in
     (read.0, read.1, ap (option_map string_of) read.2)
 
 -- what is read of a string is one behind its opening quote
 pub string_read : (bytes : List ℕ) (token : FileToken) (rest : List ℕ) → string_at bytes ≡ Some (token, rest)
-    → IsTokenBefore token (34 ∷ bytes) rest
+    → IsTokenAt token (34 ∷ bytes) rest
 unfolding string_at
 string_read bytes token rest e = of (literal_from 34 false bytes) refl e
   where
     of : (o : Option (List ℕ × List ℕ)) → literal_from 34 false bytes ≡ o → option_map string_of o ≡ Some (token, rest)
-        → IsTokenBefore token (34 ∷ bytes) rest
+        → IsTokenAt token (34 ∷ bytes) rest
     of None k e = absurd (none-some _ e)
     of (Some read) k e =
         let parts = some_pair_parts (Text read.0) token read.1 rest e in
         let reads = literal_read 34 read.0 bytes read.1 k in
-        subst (λ r. IsTokenBefore token (34 ∷ bytes) r) parts.1 (subst (λ t. IsTokenBefore t (34 ∷ bytes) read.1) parts.0 reads)
+        subst (λ r. IsTokenAt token (34 ∷ bytes) r) parts.1 (subst (λ t. IsTokenAt t (34 ∷ bytes) read.1) parts.0 reads)
 
 -- the bytes of a scalar are told to be its
 pub is_encoded_again : (scalar : ℕ) → IsScalar scalar → is_encoded scalar (encode_utf8 scalar) ≡ true
@@ -222,27 +228,27 @@ first_scalar scalar is =
     rw append-nil at (ap (λ l. get_or l 0 0) whole)
 
 -- a character is read behind its opening quote
-pub character_again : (scalar : ℕ) (bytes rest : List ℕ) → IsScalar scalar → IsLiteral 39 (encode_utf8 scalar) bytes rest
+pub character_again : (scalar : ℕ) (bytes rest : List ℕ) → IsTokenAt (Character scalar) bytes rest
     → (behind : List ℕ) × (bytes ≡ 39 ∷ behind) × (character_at behind ≡ Some (Character scalar, rest))
 unfolding character_at
-character_again scalar bytes rest scalar_is is =
-    let read = literal_again 39 (encode_utf8 scalar) bytes rest refl is in
+character_again scalar bytes rest (written, e, (scalar_is, is)) =
+    let read = literal_again 39 (encode_utf8 scalar) bytes written rest refl e is in
     (read.0, read.1, rw (read.2, first_scalar scalar scalar_is, is_encoded_again scalar scalar_is) refl)
 
 -- what is read of a character is one behind its opening quote
 pub character_read : (bytes : List ℕ) (token : FileToken) (rest : List ℕ) → character_at bytes ≡ Some (token, rest)
-    → IsTokenBefore token (39 ∷ bytes) rest
+    → IsTokenAt token (39 ∷ bytes) rest
 unfolding character_at
 character_read bytes token rest e = of (literal_from 39 false bytes) refl e
   where
     of : (o : Option (List ℕ × List ℕ)) → literal_from 39 false bytes ≡ o → option_and_then character_of o ≡ Some (token, rest)
-        → IsTokenBefore token (39 ∷ bytes) rest
+        → IsTokenAt token (39 ∷ bytes) rest
     of None k e = absurd (none-some _ e)
     of (Some read) k e =
         let scalar : ℕ = get_or (chars read.0) 0 0 in
         let split = cond_some (is_encoded scalar read.0) (Character scalar, read.1) (token, rest) e in
         let is = is_encoded_read scalar read.0 split.0 in
         let reads = literal_read 39 read.0 bytes read.1 k in
-        let begins : IsTokenBefore (Character scalar) (39 ∷ bytes) read.1 =
-        (is.0, subst (λ v. IsLiteral 39 v (39 ∷ bytes) read.1) (sym is.1) reads) in
-        subst (λ r. IsTokenBefore r.0 (39 ∷ bytes) r.1) split.1 begins
+        let begins : IsTokenAt (Character scalar) (39 ∷ bytes) read.1 =
+        (reads.0, reads.1, (is.0, subst (λ v. IsLiteral 39 v reads.0) (sym is.1) reads.2)) in
+        subst (λ r. IsTokenAt r.0 (39 ∷ bytes) r.1) split.1 begins

@@ -10,23 +10,24 @@ use Rattle.std.proofs.lemmas.List.Elements.{All-from_recursion, recursion_from_A
 use Rattle.spec_lbnf.specs.declared.token.FileToken.{FileToken}
 use Rattle.spec_lbnf.specs.declared.token.FileToken.TheVariants.{Identifier, Number}
 use Rattle.spec_text.specs.Bytes.{is_name_byte}
-use Rattle.spec_lbnf.specs.FileTokens.{FirstIs, IsIdentifier, IsNumber, IsTokenBefore}
+use Rattle.spec_lbnf.specs.FileTokens.{FirstIs, IsIdentifier, IsNumber}
 use Rattle.spec_text.specs.Bytes.{is_letter, is_digit}
-use Rattle.lbnf_readers.specs.Scanning.{identifier_at, number_token_at}
+use Rattle.lbnf_readers.specs.Scanning.{identifier_at, number_token_at, IsTokenAt}
 use Rattle.lbnf_readers.proofs.RunLemmas.{run_len, run_take, run_drop, run_passes, run_stops, run_whole}
 
 -- an identifier is read
-pub identifier_again : (name bytes rest : List ℕ) → IsTokenBefore (Identifier name) bytes rest
+pub identifier_again : (name bytes rest : List ℕ) → IsTokenAt (Identifier name) bytes rest
     → identifier_at bytes ≡ Some (Identifier name, rest)
 unfolding identifier_at
-identifier_again name bytes rest (is, stops, e) =
-    let each = recursion_from_All (λ b. is_name_byte b ≡ true) name is.each in
+identifier_again name bytes rest (written, e, (is, stops, same)) =
+    let each = recursion_from_All (λ b. is_name_byte b ≡ true) written is.each in
     rw (
       e,
-      run_take is_name_byte name rest each stops,
-      run_drop is_name_byte name rest each stops,
-      run_len is_name_byte name rest each stops,
-      le-leb (length name) 64 is.short,
+      run_take is_name_byte written rest each stops,
+      run_drop is_name_byte written rest each stops,
+      run_len is_name_byte written rest each stops,
+      le-leb (length written) 64 is.short,
+      same,
     ) refl
 
 -- a letter may stand in an identifier
@@ -40,7 +41,7 @@ begins_run byte bytes h = rw (letter_is_name_byte byte h, one-add) h
 
 -- what is read of an identifier is one
 pub identifier_read : (byte : ℕ) (bytes : List ℕ) (token : FileToken) (rest : List ℕ) → is_letter byte ≡ true
-    → identifier_at (byte ∷ bytes) ≡ Some (token, rest) → IsTokenBefore token (byte ∷ bytes) rest
+    → identifier_at (byte ∷ bytes) ≡ Some (token, rest) → IsTokenAt token (byte ∷ bytes) rest
 unfolding identifier_at
 identifier_read byte bytes token rest letter e =
     let here : List ℕ = byte ∷ bytes in
@@ -51,13 +52,13 @@ identifier_read byte bytes token rest letter e =
       each = All-from_recursion (λ b. is_name_byte b ≡ true) _ (run_passes is_name_byte here);
       short = omega (arith, length-take n here, leb-true n 64 split.0);
     } in
-    subst (λ r. IsTokenBefore r.0 here r.1) split.1 (is, run_stops is_name_byte here, sym (run_whole is_name_byte here))
+    subst (λ r. IsTokenAt r.0 here r.1) split.1 (take n here, sym (run_whole is_name_byte here), (is, run_stops is_name_byte here, refl))
 
 -- a number is read
-pub number_again : (value : ℕ) (bytes rest : List ℕ) → IsTokenBefore (Number value) bytes rest
+pub number_again : (value : ℕ) (bytes rest : List ℕ) → IsTokenAt (Number value) bytes rest
     → number_token_at bytes ≡ Some (Number value, rest)
 unfolding number_token_at
-number_again value bytes rest (digits, is, stops, e, means) =
+number_again value bytes rest (digits, e, (is, stops, means)) =
     let each = recursion_from_All (λ b. is_digit b ≡ true) digits is.each in
     rw (
       e,
@@ -75,7 +76,7 @@ some_run byte bytes h = rw (h, one-add) (omega arith)
 
 -- what is read of a number is one
 pub number_read : (byte : ℕ) (bytes : List ℕ) (token : FileToken) (rest : List ℕ) → is_digit byte ≡ true
-    → number_token_at (byte ∷ bytes) ≡ Some (token, rest) → IsTokenBefore token (byte ∷ bytes) rest
+    → number_token_at (byte ∷ bytes) ≡ Some (token, rest) → IsTokenAt token (byte ∷ bytes) rest
 unfolding number_token_at
 number_read byte bytes token rest digit e =
     let here : List ℕ = byte ∷ bytes in
@@ -86,4 +87,4 @@ number_read byte bytes token rest digit e =
       each = All-from_recursion (λ b. is_digit b ≡ true) _ (run_passes is_digit here);
       short = omega (arith, length-take n here, leb-true n 4 split.0);
     } in
-    subst (λ r. IsTokenBefore r.0 here r.1) split.1 (take n here, is, run_stops is_digit here, sym (run_whole is_digit here), refl)
+    subst (λ r. IsTokenAt r.0 here r.1) split.1 (take n here, sym (run_whole is_digit here), (is, run_stops is_digit here, refl))

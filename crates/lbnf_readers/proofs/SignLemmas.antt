@@ -6,8 +6,8 @@ use Rattle.spec_lbnf.specs.declared.token.Sign.{Sign}
 use Rattle.spec_lbnf.specs.declared.token.Sign.TheVariants.{Dot, Semicolon, Gives, Colon, OpenBracket, CloseBracket, OpenParen, CloseParen, OpenBrace, CloseBrace, Comma, Bar, Star, Plus, Question, Minus, Underscore}
 use Rattle.spec_lbnf.specs.declared.token.FileToken.{FileToken}
 use Rattle.spec_lbnf.specs.declared.token.FileToken.TheVariants.{Sign as SignToken}
-use Rattle.spec_lbnf.specs.FileTokens.{HasFront, IsTokenBefore, sign_bytes, longer_by, IsLongestSign}
-use Rattle.lbnf_readers.specs.Scanning.{has_front, byte_sign, has_more, longest_of, sign_token_at}
+use Rattle.spec_lbnf.specs.FileTokens.{HasFront, sign_bytes, longer_by, IsLongestSign}
+use Rattle.lbnf_readers.specs.Scanning.{has_front, byte_sign, has_more, longest_of, sign_token_at, IsTokenAt}
 use Rattle.lbnf_readers.proofs.SpaceLemmas.{front_read, front_not, not_found}
 
 -- what a sign would need to be longer is told
@@ -68,18 +68,18 @@ byte_sign_read byte sign =
 
 -- what is read of a sign is the longest one
 pub sign_read : (bytes : List ℕ) (token : FileToken) (rest : List ℕ) → sign_token_at bytes ≡ Some (token, rest)
-    → IsTokenBefore token bytes rest
+    → IsTokenAt token bytes rest
 unfolding sign_token_at
 sign_read [] token rest e = absurd (none-some _ e)
 sign_read (byte ∷ bytes) token rest e = elim (cases_Bool (has_front (codes "::=") (byte ∷ bytes))) [
   | inl h ↦
       let same = same_Some (SignToken Gives, drop 2 bytes) (token, rest) (rw h at e) in
-      let begins : IsTokenBefore (SignToken Gives) (byte ∷ bytes) (drop 2 bytes) =
-      (tt, front_read (codes "::=") (byte ∷ bytes) h) in
-      subst (λ r. IsTokenBefore r.0 (byte ∷ bytes) r.1) same begins
+      let begins : IsTokenAt (SignToken Gives) (byte ∷ bytes) (drop 2 bytes) =
+      (codes "::=", front_read (codes "::=") (byte ∷ bytes) h, (tt, refl)) in
+      subst (λ r. IsTokenAt r.0 (byte ∷ bytes) r.1) same begins
   | inr h ↦ option_and_then_some (longest_of bytes) (byte_sign byte) (token, rest) (rw h at e) (λ sign is read.
       let split = cond_some (not (has_more (longer_by sign) bytes)) (SignToken sign, bytes) (token, rest) read in
-      let begins : IsTokenBefore (SignToken sign) (byte ∷ bytes) bytes =
-      (more_not (longer_by sign) bytes (not-true _ split.0), ap (λ l. l ++ bytes) (sym (byte_sign_read byte sign is))) in
-      subst (λ r. IsTokenBefore r.0 (byte ∷ bytes) r.1) split.1 begins)
+      let begins : IsTokenAt (SignToken sign) (byte ∷ bytes) bytes =
+      (sign_bytes sign, ap (λ l. l ++ bytes) (sym (byte_sign_read byte sign is)), (more_not (longer_by sign) bytes (not-true _ split.0), refl)) in
+      subst (λ r. IsTokenAt r.0 (byte ∷ bytes) r.1) split.1 begins)
 ]

@@ -9,8 +9,8 @@ use Rattle.std.proofs.lemmas.List.{take_at}
 use Rattle.std.proofs.lemmas.List.Elements.{All-from_recursion, recursion_from_All}
 use Rattle.spec_text.specs.Bytes.{is_white}
 use Rattle.spec_lexing.specs.Kinds.{EndsFirst}
-use Rattle.spec_lbnf.specs.FileTokens.{HasFront, IsWhiteBefore, IsLineComment, IsBlockComment, Separates}
-use Rattle.lbnf_readers.specs.Scanning.{has_front, is_in_line, behind_line, behind_closing, behind_white, behind_space}
+use Rattle.spec_lbnf.specs.FileTokens.{HasFront, IsWhiteByte, IsLineComment, IsBlockComment}
+use Rattle.lbnf_readers.specs.Scanning.{has_front, is_in_line, behind_line, behind_closing, behind_white, behind_space, IsSpaceAt}
 use Rattle.lbnf_readers.proofs.RunLemmas.{run_passes, run_stops, run_whole, run_drop}
 
 -- what the test finds stands at the front
@@ -103,73 +103,76 @@ closing_again (byte ∷ inside) rest ends =
     }))
 
 -- behind a block comment is what is behind its opening text and the first closing text
-block_again : (bytes rest : List ℕ) → IsBlockComment bytes rest → behind_space bytes ≡ Some rest
+block_again : (bytes space rest : List ℕ) → bytes ≡ space ++ rest → IsBlockComment space
+    → behind_space bytes ≡ Some rest
 unfolding behind_space
-block_again bytes rest is =
+block_again bytes space rest e is =
     let ends : EndsFirst (is.closed.inside ++ codes "-}") (codes "-}") =
     subst (λ block. EndsFirst block (codes "-}")) is.closed.whole is.closed in
     let found = closing_again is.closed.inside rest ends in
-    rw (is.whole, is.closed.whole) found
+    rw (e, is.whole, is.closed.whole) found
 
 -- behind a line comment is what is behind its opening text and the first line
-line_again : (bytes rest : List ℕ) → IsLineComment bytes rest → behind_space bytes ≡ Some rest
+line_again : (bytes space rest : List ℕ) → bytes ≡ space ++ rest → IsLineComment space rest
+    → behind_space bytes ≡ Some rest
 unfolding behind_space
-line_again bytes rest is =
+line_again bytes space rest e is =
     let each : AllByRecursion (λ b. is_in_line b ≡ true) is.line =
     recursion_from_All (λ b. is_in_line b ≡ true) is.line (λ k d h. not_from_false _ (is.on_line k d h)) in
-    rw is.whole (ap Some (run_drop is_in_line is.line rest each is.stops))
+    rw (e, is.whole) (ap Some (run_drop is_in_line is.line rest each is.stops))
 
 -- a white byte does not begin a comment
-white_again : (bytes rest : List ℕ) → IsWhiteBefore bytes rest → behind_space bytes ≡ Some rest
+white_again : (bytes space rest : List ℕ) → bytes ≡ space ++ rest → IsWhiteByte space
+    → behind_space bytes ≡ Some rest
 unfolding behind_space
-white_again bytes rest (byte, white, e) =
+white_again bytes space rest e (byte, white, one) =
     let apart : eqb byte 45 ≡ false = grind (arith, nat_tests) in
     let apart' : eqb byte 123 ≡ false = grind (arith, nat_tests) in
-    rw (e, apart, apart', white) refl
+    rw (e, one, apart, apart', white) refl
 
 -- what separates tokens before a rest is read
-pub space_again : (bytes rest : List ℕ) → Separates bytes rest → behind_space bytes ≡ Some rest
-space_again bytes rest (inl is) = white_again bytes rest is
-space_again bytes rest (inr (inl is)) = line_again bytes rest is
-space_again bytes rest (inr (inr is)) = block_again bytes rest is
+pub space_again : (bytes rest : List ℕ) → IsSpaceAt bytes rest → behind_space bytes ≡ Some rest
+space_again bytes rest (space, e, inl is) = white_again bytes space rest e is
+space_again bytes rest (space, e, inr (inl is)) = line_again bytes space rest e is
+space_again bytes rest (space, e, inr (inr is)) = block_again bytes space rest e is
 
 -- what is read behind a white byte has one before it
-white_read : (bytes rest : List ℕ) → behind_white bytes ≡ Some rest → IsWhiteBefore bytes rest
+white_read : (bytes rest : List ℕ) → behind_white bytes ≡ Some rest → IsSpaceAt bytes rest
 white_read [] rest e = absurd (none-some rest e)
 white_read (byte ∷ bytes) rest e =
     let found = cond_some (is_white byte) bytes rest e in
-    (byte, found.0, ap (λ l. byte ∷ l) found.1)
+    (byte ∷ [], ap (λ l. byte ∷ l) found.1, inl (byte, found.0, refl))
 
 -- what is read behind a line has a line comment before it
 line_read : (bytes : List ℕ) → has_front (codes "--") bytes ≡ true
-    → IsLineComment bytes (behind_line (drop 2 bytes))
-line_read bytes h = record {
-  line = take (prefix_len is_in_line (drop 2 bytes)) (drop 2 bytes);
-  on_line = λ k d l. not-true _ (All-from_recursion (λ b. is_in_line b ≡ true) _ (run_passes is_in_line (drop 2 bytes)) k d l);
-  stops = run_stops is_in_line (drop 2 bytes);
-  whole = front_read (codes "--") bytes h ∙ ap (λ l. codes "--" ++ l) (sym (run_whole is_in_line (drop 2 bytes)));
-}
+    → IsSpaceAt bytes (behind_line (drop 2 bytes))
+line_read bytes h =
+    let line : List ℕ = take (prefix_len is_in_line (drop 2 bytes)) (drop 2 bytes) in
+    let is : IsLineComment (codes "--" ++ line) (behind_line (drop 2 bytes)) = record {
+      line = line;
+      on_line = λ k d l. not-true _ (All-from_recursion (λ b. is_in_line b ≡ true) _ (run_passes is_in_line (drop 2 bytes)) k d l);
+      stops = run_stops is_in_line (drop 2 bytes);
+      whole = refl;
+    } in
+    (codes "--" ++ line, front_read (codes "--") bytes h ∙ ap (λ l. codes "--" ++ l) (sym (run_whole is_in_line (drop 2 bytes))), inr (inl is))
 
 -- what is read behind a closing text has a block comment before it
 block_read : (bytes rest : List ℕ) → has_front (codes "{-") bytes ≡ true
-    → behind_closing (drop 2 bytes) ≡ Some rest → IsBlockComment bytes rest
+    → behind_closing (drop 2 bytes) ≡ Some rest → IsSpaceAt bytes rest
 block_read bytes rest h e =
     let found = closing_read (drop 2 bytes) rest e in
-    record {
-      block = found.0;
-      closed = found.1;
-      whole = front_read (codes "{-") bytes h ∙ ap (λ l. codes "{-" ++ l) found.2;
-    }
+    let is : IsBlockComment (codes "{-" ++ found.0) = record { block = found.0; closed = found.1; whole = refl } in
+    (codes "{-" ++ found.0, front_read (codes "{-") bytes h ∙ ap (λ l. codes "{-" ++ l) found.2, inr (inr is))
 
 -- what is read separates tokens before the rest
-pub space_read : (bytes rest : List ℕ) → behind_space bytes ≡ Some rest → Separates bytes rest
+pub space_read : (bytes rest : List ℕ) → behind_space bytes ≡ Some rest → IsSpaceAt bytes rest
 unfolding behind_space
 space_read bytes rest e = elim (cases_Bool (has_front (codes "--") bytes)) [
   | inl h ↦
       let same : behind_line (drop 2 bytes) ≡ rest = same_Some _ _ (rw h at e) in
-      inr (inl (subst (IsLineComment bytes) same (line_read bytes h)))
+      subst (IsSpaceAt bytes) same (line_read bytes h)
   | inr h ↦ elim (cases_Bool (has_front (codes "{-") bytes)) [
-    | inl k ↦ inr (inr (block_read bytes rest k (rw (h, k) at e)))
-    | inr k ↦ inl (white_read bytes rest (rw (h, k) at e))
+    | inl k ↦ block_read bytes rest k (rw (h, k) at e)
+    | inr k ↦ white_read bytes rest (rw (h, k) at e)
   ]
 ]

@@ -1,25 +1,27 @@
 -- What is true of the tokens of a grammar file: what stands at the front of bytes is one token or
 -- one space, so that a file has one scan, and the offsets of its tokens rise.
-use Rattle.std.specs.Prelude.{◌≡◌, ℕ, ◌+◌, ◌≤◌, List, [], ◌∷◌, length}
+use Rattle.std.specs.Prelude.{◌≡◌, ℕ, ◌+◌, ◌≤◌, List, [], ◌∷◌, ◌++◌, length}
 use Rattle.spec_lbnf.specs.declared.token.FileToken.{FileToken}
 use Rattle.spec_lbnf.specs.declared.token.PlacedToken.{PlacedToken}
 use Rattle.spec_lbnf.specs.FileTokens.{IsTokenBefore, Separates, IsScan}
 
--- bytes begin with at most one longest token, and one rest is behind it
+-- bytes begin with at most one longest token, which is written in one way
 abbrev pub HasOneToken : Type 0
 HasOneToken =
-    (bytes : List ℕ) (a b : FileToken) (r s : List ℕ) → IsTokenBefore a bytes r
-    → IsTokenBefore b bytes s
-    → (a ≡ b) × (r ≡ s)
+    (v w r s : List ℕ) (a b : FileToken) → v ++ r ≡ w ++ s → IsTokenBefore a v r
+    → IsTokenBefore b w s
+    → (a ≡ b) × (v ≡ w) × (r ≡ s)
 
--- bytes begin with at most one white byte or comment, so that one rest is behind it
+-- bytes begin with at most one white byte or comment
 abbrev pub HasOneSpace : Type 0
-HasOneSpace = (bytes r s : List ℕ) → Separates bytes r → Separates bytes s → r ≡ s
+HasOneSpace =
+    (v w r s : List ℕ) → v ++ r ≡ w ++ s → Separates v r → Separates w s → (v ≡ w) × (r ≡ s)
 
 -- no token begins where a white byte or a comment does
 abbrev pub HasTokenOrSpace : Type 0
 HasTokenOrSpace =
-    (token : FileToken) (bytes r s : List ℕ) → IsTokenBefore token bytes r → Separates bytes s → ⊥
+    (token : FileToken) (v w r s : List ℕ) → v ++ r ≡ w ++ s → IsTokenBefore token v r
+    → Separates w s → ⊥
 
 -- a file has tokens, up to some offset
 abbrev pub HasSomeScan : Type 0

@@ -1,6 +1,6 @@
 -- Scanning a grammar file: a function for each sort of token and of what separates tokens. Serves
 -- the proofs alone: what tokens are is said in FileTokens.
-use Rattle.std.specs.Prelude.{ℕ, zero, suc, ◌-◌, List, [], ◌∷◌, length, take, drop, codes, Bool}
+use Rattle.std.specs.Prelude.{◌≡◌, ◌++◌, ℕ, zero, suc, ◌-◌, List, [], ◌∷◌, length, take, drop, codes, Bool}
 use Rattle.std.specs.Prelude.{true, false, cond, not, ◌&&◌, nat_eq, nat_le, bytes_eq, Option, Some}
 use Rattle.std.specs.Prelude.{None, chars, option_map, option_and_then, slice_index}
 use Rattle.std.specs.Char.{encode_utf8}
@@ -20,8 +20,21 @@ use Rattle.spec_lbnf.specs.declared.token.FileToken.TheVariants.{Character}
 use Rattle.spec_lbnf.specs.declared.token.FileToken.TheVariants.{Sign as SignToken}
 use Rattle.spec_lbnf.specs.declared.token.PlacedToken.{PlacedToken}
 use Rattle.spec_text.specs.Bytes.{is_name_byte}
-use Rattle.spec_lbnf.specs.FileTokens.{escaped, longer_by}
+use Rattle.spec_lbnf.specs.FileTokens.{Separates, Skips, escaped, longer_by, IsTokenBefore}
 use Rattle.spec_text.specs.Bytes.{is_letter, is_digit}
+
+-- a white byte or a comment stands at the front of the bytes, and the rest is behind it
+abbrev pub IsSpaceAt : List ℕ → List ℕ → Type 0
+IsSpaceAt bytes rest = (space : List ℕ) × (bytes ≡ space ++ rest) × Separates space rest
+
+-- white bytes and comments stand at the front of the bytes, or none, and the rest is behind them
+abbrev pub SkipsTo : List ℕ → List ℕ → Type 0
+SkipsTo bytes rest = (skipped : List ℕ) × (bytes ≡ skipped ++ rest) × Skips skipped rest
+
+-- this token is the longest at the front of the bytes, and the rest is behind it
+abbrev pub IsTokenAt : FileToken → List ℕ → List ℕ → Type 0
+IsTokenAt token bytes rest =
+    (written : List ℕ) × (bytes ≡ written ++ rest) × IsTokenBefore token written rest
 
 -- the value, if the test passes
 abbrev pub only_if : {A : Type 0} → Bool → A → Option A

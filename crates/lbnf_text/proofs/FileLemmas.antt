@@ -6,7 +6,7 @@ use Rattle.spec_lbnf.specs.FileTokens.{IsScan}
 use Rattle.lbnf_readers.specs.FileLaws.{RiseTo}
 use Rattle.spec_lbnf.specs.declared.fault.TextFault.{TextFault}
 use Rattle.spec_lbnf.specs.Faults.{IsSmallText, IsFirstFault}
-use Rattle.lbnf_readers.proofs.ScanLemmas.{offsets_rise}
+use Rattle.lbnf_readers.proofs.ScanLemmas.{rises}
 use Rattle.lbnf_text.specs.Faulting.{IsReadAs}
 use Rattle.lbnf_text.specs.Reading.{ReadsFile}
 
@@ -26,10 +26,10 @@ told_fault view bytes read answer small (inr told) first = inr (first answer tol
 module _ (text : List ℕ) (tokens : List PlacedToken) (stop : ℕ) (scan : IsScan text tokens stop) where
   -- the tokens stop within the text
   pub stop_within : stop ≤ length text
-  stop_within = (offsets_rise (length text) tokens text 0 stop (omega arith) scan).1
+  stop_within = (rises text tokens stop scan).1
 
   -- a text has no more tokens than bytes
   pub few_tokens : length tokens ≤ length text
   few_tokens =
-      let rise = offsets_rise (length text) tokens text 0 stop (omega arith) scan in
+      let rise = rises text tokens stop scan in
       omega (arith, few_offsets 0 tokens stop rise.0, rise.1)

@@ -7,11 +7,11 @@ ghost use Rattle.std.specs.Option.{option_map};
 ghost use Rattle.spec_text.specs.Bytes.{is_name_byte};
 ghost use Rattle.spec_lbnf.specs.FileTokens.{FirstIs, escaped, longer_by};
 ghost use Rattle.spec_text.specs.Bytes.{is_letter, is_digit};
-ghost use Rattle.spec_lbnf.specs.FileTokens.{Skips, IsScan};
+ghost use Rattle.spec_lbnf.specs.FileTokens.{IsScan};
 ghost use Rattle.lbnf_readers.specs.Scanning.{behind_line, behind_closing, behind_white, behind_space};
 ghost use Rattle.lbnf_readers.specs.Scanning.{is_escape, string_at, character_at, identifier_at};
 ghost use Rattle.lbnf_readers.specs.Scanning.{number_token_at, byte_sign, has_more, sign_token_at};
-ghost use Rattle.lbnf_readers.specs.Scanning.{token_at};
+ghost use Rattle.lbnf_readers.specs.Scanning.{token_at, SkipsTo};
 ghost use Rattle.lbnf_text.specs.LiteralParts.{IsPartOf, IsScalarPart, LeavesFewer};
 
 use spec_lbnf::{FileToken, PlacedToken, Sign};
@@ -322,7 +322,7 @@ fn token(alloc: Global, text: &str) -> Result<Option<(FileToken, &str)>, AllocEr
 
 /// What is behind all white bytes and comments at the front.
 fn skip_spaces(text: &str) -> &str
-    ensures skips { Skips text.now result.now }
+    ensures skips { SkipsTo text.now result.now }
     ensures free { behind_space result.now ≡ None }
 {
     let mut rest = text;

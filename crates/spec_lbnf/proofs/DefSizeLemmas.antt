@@ -273,5 +273,5 @@ two_bytes_for_each bytes defs spelled =
       pieces_least parts,
       parts_sum parts,
       split_least tokens false,
-      tokens_take (length bytes) bytes spelled.tokens (length bytes) false spelled.scan (λ e. absurd (false≢true e)),
+      tokens_take 0 bytes spelled.tokens (length bytes) false spelled.scan (λ e. absurd (false≢true e)),
     )

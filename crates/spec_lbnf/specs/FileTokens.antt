@@ -33,35 +33,34 @@ RunEnds passes (byte ∷ bytes) = passes byte ≡ false
 abbrev pub HasFront : List ℕ → List ℕ → Type 0
 HasFront front bytes = (rest : List ℕ) × (bytes ≡ front ++ rest)
 
--- one white byte stands before the rest
-abbrev pub IsWhiteBefore : List ℕ → List ℕ → Type 0
-IsWhiteBefore bytes rest = (byte : ℕ) × (is_white byte ≡ true) × (bytes ≡ byte ∷ rest)
+-- the bytes are one white byte
+abbrev pub IsWhiteByte : List ℕ → Type 0
+IsWhiteByte bytes = (byte : ℕ) × (is_white byte ≡ true) × (bytes ≡ byte ∷ [])
 
--- a line comment stands before the rest: two hyphens, and what is left of the line
+-- the bytes are a line comment before the rest: two hyphens, and what is left of the line
 pub record IsLineComment (bytes rest : List ℕ) : Type 0 where
   pub line : List ℕ
   pub on_line : All (λ byte. nat_eq byte 10 ≡ false) line
   pub stops : RunEnds (λ byte. not (nat_eq byte 10)) rest
-  pub whole : bytes ≡ codes "--" ++ (line ++ rest)
+  pub whole : bytes ≡ codes "--" ++ line
 
--- a block comment stands before the rest: from its opening text to the next closing text
-pub record IsBlockComment (bytes rest : List ℕ) : Type 0 where
+-- the bytes are a block comment: an opening text, and all up to the next closing text
+pub record IsBlockComment (bytes : List ℕ) : Type 0 where
   pub block : List ℕ
   pub closed : EndsFirst block (codes "-}")
-  pub whole : bytes ≡ codes "{-" ++ (block ++ rest)
+  pub whole : bytes ≡ codes "{-" ++ block
 
--- what separates tokens stands before the rest: a white byte or a comment
+-- the bytes separate tokens before the rest: they are a white byte or a comment
 abbrev pub Separates : List ℕ → List ℕ → Type 0
-Separates bytes rest =
-    IsWhiteBefore bytes rest ⊎ (IsLineComment bytes rest ⊎ IsBlockComment bytes rest)
+Separates bytes rest = IsWhiteByte bytes ⊎ (IsLineComment bytes rest ⊎ IsBlockComment bytes)
 
--- any number of white bytes and comments stand before the rest
+-- the bytes are any number of white bytes and comments before the rest
 pub data Skips : List ℕ → List ℕ → Type 0 where
-  -- none does
-  nothing : (bytes rest : List ℕ) → bytes ≡ rest → Skips bytes rest
-  -- one does, and others behind it
-  goes_on : (bytes behind rest : List ℕ) → Separates bytes behind → Skips behind rest
-      → Skips bytes rest
+  -- they are none
+  nothing : (bytes rest : List ℕ) → bytes ≡ [] → Skips bytes rest
+  -- they are one, and others behind it
+  goes_on : (bytes first others rest : List ℕ) → bytes ≡ first ++ others
+      → Separates first (others ++ rest) → Skips others rest → Skips bytes rest
 
 -- the bytes are an identifier: a letter, and letters, digits, underscores and apostrophes behind
 -- it, at most 64 bytes together
@@ -101,11 +100,11 @@ abbrev pub part_value : LiteralPart → ℕ
 part_value (plain byte) = byte
 part_value (escape byte) = escaped byte
 
--- the parts, between two of this quote, stand before the rest, and the value is what they stand for
-pub record IsLiteral (quote : ℕ) (value bytes rest : List ℕ) : Type 0 where
+-- the bytes are parts between two of this quote, and the value is what the parts stand for
+pub record IsLiteral (quote : ℕ) (value bytes : List ℕ) : Type 0 where
   pub parts : List LiteralPart
   pub each : All (IsPart quote) parts
-  pub whole : bytes ≡ quote ∷ flat_map part_bytes parts ++ quote ∷ rest
+  pub whole : bytes ≡ quote ∷ flat_map part_bytes parts ++ quote ∷ []
   pub means : value ≡ map part_value parts
 
 -- the bytes of a sign
@@ -139,33 +138,35 @@ longer_by other = None
 abbrev pub IsLongestSign : Sign → List ℕ → Type 0
 IsLongestSign sign rest = IfSome (longer_by sign) (λ more. HasFront more rest → ⊥)
 
--- the longest token at the front of the bytes is this one, and the rest is behind it
+-- the bytes are this token, the longest that begins where they do and the rest is behind them
 abbrev pub IsTokenBefore : FileToken → List ℕ → List ℕ → Type 0
 IsTokenBefore (Identifier name) bytes rest =
-    IsIdentifier name × RunEnds is_name_byte rest × (bytes ≡ name ++ rest)
+    IsIdentifier bytes × RunEnds is_name_byte rest × (name ≡ bytes)
 IsTokenBefore (Number value) bytes rest =
-    (digits : List ℕ) × IsNumber digits × RunEnds is_digit rest × (bytes ≡ digits ++ rest)
-    × (value ≡ digits_value 10 digits)
-IsTokenBefore (Text value) bytes rest = IsLiteral 34 value bytes rest
+    IsNumber bytes × RunEnds is_digit rest × (value ≡ digits_value 10 bytes)
+IsTokenBefore (Text value) bytes rest = IsLiteral 34 value bytes
 IsTokenBefore (Character scalar) bytes rest =
-    IsScalar scalar × IsLiteral 39 (encode_utf8 scalar) bytes rest
-IsTokenBefore (SignToken sign) bytes rest =
-    IsLongestSign sign rest × (bytes ≡ sign_bytes sign ++ rest)
+    IsScalar scalar × IsLiteral 39 (encode_utf8 scalar) bytes
+IsTokenBefore (SignToken sign) bytes rest = IsLongestSign sign rest × (bytes ≡ sign_bytes sign)
 
 -- neither a token nor what separates tokens is at the front of the bytes
 pub record IsStuck (bytes : List ℕ) : Type 0 where
-  pub no_token : (token : FileToken) (rest : List ℕ) → IsTokenBefore token bytes rest → ⊥
-  pub no_space : (rest : List ℕ) → Separates bytes rest → ⊥
+  pub no_token : (token : FileToken) (written rest : List ℕ) → bytes ≡ written ++ rest
+      → IsTokenBefore token written rest → ⊥
+  pub no_space : (space rest : List ℕ) → bytes ≡ space ++ rest → Separates space rest → ⊥
 
--- the tokens of these bytes, the last of a text of so many, are these, up to the offset at which
--- no token begins and the bytes may be at their end
-abbrev pub AreTokensTo : ℕ → List ℕ → List PlacedToken → ℕ → Type 0
-AreTokensTo size bytes [] stop =
-    (rest : List ℕ) × Skips bytes rest × IsStuck rest × (size ≡ stop + length rest)
-AreTokensTo size bytes (token ∷ tokens) stop =
-    (here rest : List ℕ) × Skips bytes here × (size ≡ token.offset + length here)
-    × IsTokenBefore token.token here rest × AreTokensTo size rest tokens stop
+-- the tokens of bytes that begin at this offset are these, each at the offset behind all that is
+-- read before it, up to the offset of the end or of the first byte at which no token begins
+abbrev pub AreTokensFrom : ℕ → List ℕ → List PlacedToken → ℕ → Type 0
+AreTokensFrom start bytes [] stop =
+    (skipped rest : List ℕ) × (bytes ≡ skipped ++ rest) × Skips skipped rest
+    × (stop ≡ start + length skipped) × IsStuck rest
+AreTokensFrom start bytes (token ∷ tokens) stop =
+    (skipped written rest : List ℕ) × (bytes ≡ skipped ++ (written ++ rest))
+    × Skips skipped (written ++ rest) × (token.offset ≡ start + length skipped)
+    × IsTokenBefore token.token written rest
+    × AreTokensFrom (token.offset + length written) rest tokens stop
 
 -- the tokens of the file are these, up to the offset where it ends or no token begins
 abbrev pub IsScan : List ℕ → List PlacedToken → ℕ → Type 0
-IsScan bytes tokens stop = AreTokensTo (length bytes) bytes tokens stop
+IsScan bytes tokens stop = AreTokensFrom 0 bytes tokens stop
