@@ -14,7 +14,7 @@ use Rattle.binary_form.proofs.NumberLemmas.{number_is_one}
 use Rattle.valiant.specs.Charts.{ChartValue}
 use Rattle.spec_script.specs.Script.{Constituent}
 use Rattle.spec_script.specs.declared.question.Constituent.TheVariants.{EntryWhole, CategoryWhole, CategorySpan}
-use Rattle.spec_session.specs.Answers.{IsOfCategory, first_of, end_of, IsWithin, IsDerived, IsHasAnswer, yes_line, no_line, yes, no}
+use Rattle.spec_session.specs.Answers.{IsOfCategory, first_of, end_of, IsWithin, IsHasAnswer, yes_line, no_line, yes, no}
 use Rattle.chart_service.specs.Opening.{HasNamesAndWords, IsOpened}
 
 module _ (g : Grammar) (chart : ChartValue) (text : List ℕ) (tokens : List Token)

@@ -1,6 +1,6 @@
 -- Accepting a grammar or refusing it, and opening a text.
-use Rattle.std.proofs.Common.{◌≡◌, ℕ, inl, inr, List, [], length, Option, Some, None, Ok, Err, ◌<◌, map, refl}
-use Rattle.std.proofs.Common.{◌≤◌, arith, sym, ◌∙◌, ap, subst, option_map}
+use Rattle.std.proofs.Common.{◌≡◌, ℕ, inl, inr, List, length, Option, Some, Ok, Err, ◌<◌, map, refl}
+use Rattle.std.proofs.Common.{◌≤◌, arith, sym, ◌∙◌, ap, subst}
 use Rattle.std.proofs.lemmas.List.{length-map}
 use Rattle.std.proofs.lemmas.Option.{same_Some, none-some}
 use Rattle.std.proofs.lemmas.List.Elements.{All-map}
@@ -18,7 +18,7 @@ use Rattle.spec_lbnf.specs.declared.fault.TextFault.TheVariants.{TooLarge}
 use Rattle.spec_lbnf.specs.declared.fault.TextFault.TheVariants as file
 use Rattle.spec_lbnf.specs.declared.fault.GrammarFault.{GrammarFault}
 use Rattle.spec_lbnf.specs.declared.fault.GrammarFault.TheVariants as made
-use Rattle.spec_lbnf.specs.Faults.{Spells, IsFirstFault, is_large}
+use Rattle.spec_lbnf.specs.Faults.{Spells, is_large}
 use Rattle.spec_lbnf.specs.Checks.{AreFit}
 use Rattle.spec_script.specs.Script.{opens}
 use Rattle.spec_session.specs.Steps.{no_texts, IsReply}
