@@ -4,8 +4,9 @@ use Rattle.std.proofs.Common.{◌≡◌, ℕ, ◌+◌, ◌^◌, ◌<◌, ◌≤�
 use Rattle.std.proofs.Common.{None, Result, Ok, Err, OnOk, refl, sym, ◌∙◌, ap, subst, arith}
 use Rattle.std.proofs.Common.{append_assoc, append-nil, length-append}
 use Rattle.spec_grammar.specs.Grammars.{Grammar}
-use Rattle.spec_script.specs.Script.{Command, header, grammar, opens, ask, line_of, block_of}
-use Rattle.spec_script.specs.Script.{text_of, IsWithinLimits, IsInOrder, BeginsWithCommands, broken}
+use Rattle.spec_script.specs.Script.{opens, ask, Part, header, grammar, of_command, nothing, header_alone}
+use Rattle.spec_script.specs.Script.{with_grammar, parts_of, line_of, block_of, text_of, IsWithinLimits}
+use Rattle.spec_script.specs.Script.{MayFollow, BeginsWithScript, broken}
 use Rattle.spec_session.specs.GrammarReplies.{IsAccepted, grammar_reply}
 use Rattle.spec_session.specs.Steps.{no_texts, with_text, version_reply}
 use Rattle.spec_session.specs.Sessions.{last_line}
@@ -19,29 +20,29 @@ use Rattle.chart_service.specs.declared.status.Status.TheVariants.{BadScript}
 use Rattle.chart_service.specs.Statuses.{number_of}
 use Rattle.chart_service.specs.Writing.{EndsWith}
 use Rattle.chart_service.specs.Serving.{IsFaultStatus}
-use Rattle.script_reader.specs.Reading.{IsBlock, Finds, TakesCommand, NoneComes, IsHeader}
+use Rattle.script_reader.specs.Reading.{IsBlock, Finds, TakesPart, NoneComes, IsHeader}
 use Rattle.script_reader.specs.Reading.{IsGrammar, IsText, NextGrammar}
 use Rattle.chart_service.specs.Opening.{Accepts, EndsAtGrammar, HasOpened, OpensText}
 use Rattle.chart_service.specs.Progress.{Running, Ends, Begun}
 use Rattle.script_reader.proofs.ReadingLemmas.{found_grammar, found_none}
-use Rattle.chart_service.proofs.ProgressLemmas.{BeginsWithCommands-append, last, stopped_behind, ended_at_grammar, ended_at_text}
+use Rattle.chart_service.proofs.ProgressLemmas.{BeginsWithParts-append, last, stopped_behind, ended_at_grammar, ended_at_text}
 
--- a command is short
-text_is_short : (command : Command) → IsWithinLimits command → length (text_of command) ≤ 2 ^ 30
-text_is_short command w =
-    let size = length-append (line_of command) (10 ∷ block_of command) in
-    omega (arith, size, line_is_short command w, block_is_short command w)
+-- a part is short
+text_is_short : (part : Part) → IsWithinLimits part → length (text_of part) ≤ 2 ^ 30
+text_is_short part w =
+    let size = length-append (line_of part) (10 ∷ block_of part) in
+    omega (arith, size, line_is_short part w, block_is_short part w)
   where
-    block_is_short : (command : Command) → IsWithinLimits command → length (block_of command) ≤ 10 ^ 9
+    block_is_short : (part : Part) → IsWithinLimits part → length (block_of part) ≤ 10 ^ 9
     block_is_short header w = omega arith
     block_is_short (grammar block) w = omega (arith, w, length-append block (10 ∷ []))
-    block_is_short (opens text) w = omega (arith, w.0, length-append text (10 ∷ []))
-    block_is_short (ask query) w = omega arith
+    block_is_short (of_command (opens text)) w = omega (arith, w.0, length-append text (10 ∷ []))
+    block_is_short (of_command (ask query)) w = omega arith
 
 -- so its end is not far
-pub taken_early : (from to : ℕ) (old new : Option (List ℕ)) (command : Command)
-    → TakesCommand from to old new command → to < 2 ^ 50
-taken_early from to old new command t = omega (arith, t.early, t.offset, text_is_short command t.within_limits)
+pub taken_early : (from to : ℕ) (old new : Option (List ℕ)) (part : Part)
+    → TakesPart from to old new part → to < 2 ^ 50
+taken_early from to old new part t = omega (arith, t.early, t.offset, text_is_short part t.within_limits)
 
 -- nor is that of a grammar that was found
 pub grammar_early : (from to : ℕ) (old new : Option (List ℕ)) (found : Block)
@@ -50,30 +51,28 @@ grammar_early from to old new found finds =
     let f = found_grammar from to old new found finds in
     taken_early from to old new (grammar f.0) f.2
 
--- the command in its place
-is_header : (command : Command) → IsInOrder (command ∷ []) → IsHeader command
+-- the part in its place
+is_header : (part : Part) → MayFollow nothing part → IsHeader part
 is_header header h = tt
 is_header (grammar block) h = absurd h
-is_header (opens text) h = absurd h
-is_header (ask query) h = absurd h
+is_header (of_command command) h = absurd h
 
-is_grammar : (command : Command) → IsInOrder (header ∷ command ∷ []) → IsGrammar command
+is_grammar : (part : Part) → MayFollow header_alone part → IsGrammar part
 is_grammar header h = absurd h
 is_grammar (grammar block) h = tt
-is_grammar (opens text) h = absurd h
-is_grammar (ask query) h = absurd h
+is_grammar (of_command command) h = absurd h
 
-is_text : (block : List ℕ) (command : Command) → IsInOrder (header ∷ grammar block ∷ command ∷ []) → IsText command
+is_text : (block : List ℕ) (part : Part) → MayFollow (with_grammar block []) part → IsText part
 is_text block header h = absurd h
 is_text block (grammar other) h = absurd h
-is_text block (opens text) h = tt
-is_text block (ask query) h = absurd h
+is_text block (of_command (opens text)) h = tt
+is_text block (of_command (ask query)) h = absurd h
 
 -- the header was taken, and nothing was written
 pub record HasHeader (input before : List ℕ) (at : ℕ) (coming now : Option (List ℕ)) : Type 0 where
   pub rest : List ℕ
   pub comes : coming ≡ Some rest
-  pub begins : BeginsWithCommands 0 input (header ∷ []) at rest
+  pub begins : BeginsWithScript input header_alone at rest
   pub has_written : now ≡ Some before
 
 -- the header and the grammar that was found were taken, and nothing was written
@@ -83,7 +82,7 @@ pub record HasGrammar (input before : List ℕ) (found : Block) (at : ℕ)
   pub is_block : IsBlock 65536 found block
   pub rest : List ℕ
   pub comes : coming ≡ Some rest
-  pub begins : BeginsWithCommands 0 input (header ∷ grammar block ∷ []) at rest
+  pub begins : BeginsWithScript input (with_grammar block []) at rest
   pub has_written : now ≡ Some before
 
 -- the header and a grammar were taken, which was accepted, and its reply was written
@@ -93,7 +92,7 @@ pub record HasAccepted (input before : List ℕ) (g : Grammar) (at : ℕ)
   pub accepted : IsAccepted block g
   pub rest : List ℕ
   pub comes : coming ≡ Some rest
-  pub begins : BeginsWithCommands 0 input (header ∷ grammar block ∷ []) at rest
+  pub begins : BeginsWithScript input (with_grammar block []) at rest
   pub has_written : now ≡ Some (before ++ grammar_reply g)
 
 -- where nothing was taken or written yet
@@ -103,24 +102,24 @@ module _ {input before : List ℕ} {from : ℕ} {coming old : Option (List ℕ)}
   pub no_header : NoneComes IsHeader from coming → (new : Option (List ℕ)) (status : Status)
       → EndsWith old new (last_line (broken 0)) BadScript status → Ends input before new status
   no_header none new status says =
-      last input before [] 0 input [] tt (refl, refl) refl (broken 0) (
+      last input before nothing 0 input [] tt (refl, refl) refl (broken 0) (
         refl,
-        (λ go. none input comes (omega (arith, start)) go.command go.more
-            (is_header go.command go.in_order) go.within_limits go.spelled),
+        (λ go. none input comes (omega (arith, start)) go.part go.more
+            (is_header go.part go.in_place) go.within_limits go.spelled),
         (λ end. end.complete),
       )
       old new (written ∙ ap Some (sym (append-nil before))) BadScript status refl says
 
   -- the header is taken
-  pub with_header : {at : ℕ} {next : Option (List ℕ)} → TakesCommand from at coming next header
+  pub header_taken : {at : ℕ} {next : Option (List ℕ)} → TakesPart from at coming next header
       → HasHeader input before at next old
-  with_header {at} taken =
+  header_taken {at} taken =
       let t = taken.taken input comes in
       let offset : at ≡ 0 + length (text_of header) =
       taken.offset ∙ ap (λ n. n + length (text_of header)) start in record {
         rest = t.0;
         comes = t.1;
-        begins = BeginsWithCommands-append 0 input [] 0 input (refl, refl) header t.0 (omega arith) tt t.2 at offset;
+        begins = BeginsWithParts-append 0 input [] 0 input (refl, refl) header t.0 (omega arith) tt t.2 at offset;
         has_written = written;
       }
 
@@ -135,27 +134,27 @@ module _ {input before : List ℕ} {at : ℕ} {coming old : Option (List ℕ)}
   no_grammar behind later finds place e new status says =
       let none : NoneComes IsGrammar at coming =
       found_none 65536 (NextGrammar at behind coming later) finds in
-      last input before (header ∷ []) at h.rest [] tt h.begins refl (broken place) (
+      last input before header_alone at h.rest [] tt h.begins refl (broken place) (
         e,
-        (λ go. none h.rest h.comes go.early go.command go.more
-            (is_grammar go.command go.in_order) go.within_limits go.spelled),
+        (λ go. none h.rest h.comes go.early go.part go.more
+            (is_grammar go.part go.in_place) go.within_limits go.spelled),
         (λ end. end.complete),
       )
       old new (h.has_written ∙ ap Some (sym (append-nil before))) BadScript status refl says
 
   -- the grammar that was found is taken
-  pub with_grammar : (behind : ℕ) (later : Option (List ℕ)) (found : Block)
+  pub grammar_taken : (behind : ℕ) (later : Option (List ℕ)) (found : Block)
       → Finds 65536 (NextGrammar at behind coming later) (Some found)
       → HasGrammar input before found behind later old
-  with_grammar behind later found finds =
+  grammar_taken behind later found finds =
       let f = found_grammar at behind coming later found finds in
-      let taken : TakesCommand at behind coming later (grammar f.0) = f.2 in
+      let taken : TakesPart at behind coming later (grammar f.0) = f.2 in
       let t = taken.taken h.rest h.comes in record {
         block = f.0;
         is_block = f.1;
         rest = t.0;
         comes = t.1;
-        begins = BeginsWithCommands-append 0 input (header ∷ []) at h.rest h.begins (grammar f.0) t.0
+        begins = BeginsWithParts-append 0 input (parts_of header_alone) at h.rest h.begins (grammar f.0) t.0
             taken.early taken.within_limits t.2 behind taken.offset;
         has_written = h.has_written;
       }
@@ -189,7 +188,7 @@ module _ {input before : List ℕ} {g : Grammar} {at : ℕ} {coming now : Option
   -- a fault comes
   pub text_stopped : (status : Status) → IsFaultStatus (number_of status) → Ends input before now status
   text_stopped status fault =
-      stopped_behind input before (header ∷ grammar h.block ∷ []) at h.rest (grammar_reply g) tt h.begins
+      stopped_behind input before (with_grammar h.block []) at h.rest (grammar_reply g) tt h.begins
       (grammar_told g h.block h.accepted) now h.has_written status fault
 
   -- no text comes
@@ -197,26 +196,26 @@ module _ {input before : List ℕ} {g : Grammar} {at : ℕ} {coming now : Option
       → (new : Option (List ℕ)) (status : Status)
       → EndsWith now new (last_line (broken place)) BadScript status → Ends input before new status
   no_text none place e new status says =
-      last input before (header ∷ grammar h.block ∷ []) at h.rest (grammar_reply g) tt h.begins
+      last input before (with_grammar h.block []) at h.rest (grammar_reply g) tt h.begins
       (grammar_told g h.block h.accepted) (broken place) (
         e,
-        (λ go. none h.rest h.comes go.early go.command go.more
-            (is_text h.block go.command go.in_order) go.within_limits go.spelled),
+        (λ go. none h.rest h.comes go.early go.part go.more
+            (is_text h.block go.part go.in_place) go.within_limits go.spelled),
         (λ end. end.complete),
       )
       now new h.has_written BadScript status refl says
 
   -- a text is taken
   module _ {text : List ℕ} {end : ℕ} {later : Option (List ℕ)}
-      (taken : TakesCommand at end coming later (opens text)) where
+      (taken : TakesPart at end coming later (of_command (opens text))) where
     text_begins : (rest : List ℕ) × (later ≡ Some rest)
-        × BeginsWithCommands 0 input (header ∷ grammar h.block ∷ opens text ∷ []) end rest
+        × BeginsWithScript input (with_grammar h.block (opens text ∷ [])) end rest
     text_begins =
         let t = taken.taken h.rest h.comes in (
           t.0,
           t.1,
-          BeginsWithCommands-append 0 input (header ∷ grammar h.block ∷ []) at h.rest h.begins
-              (opens text) t.0 taken.early taken.within_limits t.2 end taken.offset,
+          BeginsWithParts-append 0 input (parts_of (with_grammar h.block [])) at h.rest h.begins
+              (of_command (opens text)) t.0 taken.early taken.within_limits t.2 end taken.offset,
         )
 
     -- and opened

@@ -6,16 +6,18 @@ use Rattle.std.proofs.lemmas.List.{take-append-drop}
 use Rattle.cyk_io.specs.Streams.{Takes, Grows, GrowsByPrefix}
 use Rattle.cyk_io.specs.Lines.{IsLine}
 use Rattle.spec_grammar.specs.Grammars.{Grammar}
-use Rattle.spec_script.specs.Script.{Constituent, Query, has, Command, header, grammar, opens, ask, line_of}
-use Rattle.spec_script.specs.Script.{block_of, text_of, IsWithinLimits, AreQuestions, IsInOrder}
-use Rattle.spec_script.specs.Script.{BeginsWithCommands, Ending, ended, broken, EndsAs, IsScript}
+use Rattle.spec_script.specs.Script.{Constituent, Query, has, Command, opens, ask, Part, header, grammar}
+use Rattle.spec_script.specs.Script.{of_command, Script, with_grammar, parts_of, line_of, block_of}
+use Rattle.spec_script.specs.Script.{text_of, IsWithinLimits, AreQuestions, IsInOrder, MayFollow}
+use Rattle.spec_script.specs.Script.{BeginsWithParts, BeginsWithScript, Ending, ended, broken, EndsAs, IsScript}
 use Rattle.spec_session.specs.GrammarReplies.{IsAccepted, grammar_reply}
 use Rattle.spec_session.specs.Steps.{no_texts, with_text, IsReply, version_reply}
 use Rattle.spec_session.specs.Runs.{AreReplies}
 use Rattle.spec_session.specs.Answers.{IsAnswer}
 use Rattle.spec_session.specs.Sessions.{AreAllReplies, IsSession, refused, whole, last_line, last_status}
 use Rattle.spec_script.proofs.ScriptLemmas.{tested, each_differs, lacks_if_each_differs, cut_same}
-use Rattle.spec_script.proofs.ScriptLemmas.{command_line, line_lacks_lf, line_is_short}
+use Rattle.spec_script.proofs.ScriptLemmas.{part_line, line_lacks_lf, line_is_short}
+use Rattle.spec_script.proofs.BeginningLemmas.{parts_more}
 use Rattle.spec_session.proofs.SessionsLemmas.{replies_come_first, replies_then_last_line, refusal_is_all}
 use Rattle.spec_session.proofs.FrontLemmas.{questions_more, replies_more, none_told, grammar_told, text_told}
 use Rattle.chart_service.specs.declared.opening.Opened.{Opened}
@@ -28,7 +30,7 @@ use Rattle.cyk_io.specs.declared.fault.IoFault.TheVariants.{Read, Write, Memory}
 use Rattle.chart_service.specs.Statuses.{number_of, status_at, IsWriteStop}
 use Rattle.chart_service.specs.Writing.{EndsWith}
 use Rattle.chart_service.specs.Serving.{IsFaultStatus, IsPrefixOfSession}
-use Rattle.script_reader.specs.Reading.{IsOfReading, NextLine, TakesCommand}
+use Rattle.script_reader.specs.Reading.{IsOfReading, NextLine, TakesPart}
 use Rattle.script_reader.specs.Forms.{ReadsHas, IsHas, ReadsQuestion}
 use Rattle.chart_service.specs.Opening.{IsGrammarLine, EndsAtGrammar, EndsAtText}
 use Rattle.chart_service.specs.Progress.{Running, Ends}
@@ -49,15 +51,15 @@ fault_stop Read h status e = subst (λ (s : Status). IsFaultStatus (number_of s)
 fault_stop Memory h status e = subst (λ (s : Status). IsFaultStatus (number_of s)) (sym e) (inr (inr refl))
 fault_stop Write h status e = absurd h
 
--- commands that are taken join those before them
-pub BeginsWithCommands-append : (at : ℕ) (bytes : List ℕ) (commands : List Command) (mid : ℕ) (rest : List ℕ)
-    → BeginsWithCommands at bytes commands mid rest → (command : Command) (more : List ℕ) → mid < 2 ^ 48
-    → IsWithinLimits command → rest ≡ text_of command ++ more → (end : ℕ)
-    → end ≡ mid + length (text_of command) → BeginsWithCommands at bytes (commands ++ command ∷ []) end more
-BeginsWithCommands-append at bytes [] mid rest h command more early w e end to =
-    (more, omega (arith, early, h.0), w, sym h.1 ∙ e, (to ∙ ap (λ n. n + length (text_of command)) h.0, refl))
-BeginsWithCommands-append at bytes (c ∷ commands) mid rest h command more early w e end to =
-    let behind = BeginsWithCommands-append (at + length (text_of c)) h.0 commands mid rest h.4 command more early w e end to in
+-- a part that is taken joins those before it
+pub BeginsWithParts-append : (at : ℕ) (bytes : List ℕ) (parts : List Part) (mid : ℕ) (rest : List ℕ)
+    → BeginsWithParts at bytes parts mid rest → (part : Part) (more : List ℕ) → mid < 2 ^ 48
+    → IsWithinLimits part → rest ≡ text_of part ++ more → (end : ℕ)
+    → end ≡ mid + length (text_of part) → BeginsWithParts at bytes (parts ++ part ∷ []) end more
+BeginsWithParts-append at bytes [] mid rest h part more early w e end to =
+    (more, omega (arith, early, h.0), w, sym h.1 ∙ e, (to ∙ ap (λ n. n + length (text_of part)) h.0, refl))
+BeginsWithParts-append at bytes (first ∷ parts) mid rest h part more early w e end to =
+    let behind = BeginsWithParts-append (at + length (text_of first)) h.0 parts mid rest h.4 part more early w e end to in
     (h.0, h.1, h.2, h.3, behind)
 
 module _ (input before : List ℕ) where
@@ -89,9 +91,9 @@ module _ (input before : List ℕ) where
       → IsFaultStatus (number_of status) → Ends input before now status
   stopped told sure now written status fault = (told, written, inr (fault, sure))
 
-  module _ (front : List Command) (at : ℕ) (rest told : List ℕ) (in_order : IsInOrder front)
-      (begins : BeginsWithCommands 0 input front at rest) (replies : AreAllReplies front told) where
-    -- a fault behind these commands
+  module _ (front : Script) (at : ℕ) (rest told : List ℕ) (in_order : IsInOrder front)
+      (begins : BeginsWithScript input front at rest) (replies : AreAllReplies front told) where
+    -- a fault behind this script
     pub stopped_behind : (now : Option (List ℕ)) → now ≡ Some (before ++ told) → (status : Status)
         → IsFaultStatus (number_of status) → Ends input before now status
     stopped_behind = stopped told (replies_come_first input front at rest told begins in_order replies)
@@ -120,9 +122,9 @@ module _ (input before : List ℕ) where
             let all = replies_then_last_line input front ending told script replies out n s in
             ([], all.0 ∙ sym (append-nil (told ++ last_line ending)))
 
-  -- one more command whose reply was cut short
-  pub cut_behind : (front : List Command) (at : ℕ) (rest told line : List ℕ) → IsInOrder front
-      → BeginsWithCommands 0 input front at rest → AreAllReplies front (told ++ line) → (old new : Option (List ℕ))
+  -- one more part whose reply was cut short
+  pub cut_behind : (front : Script) (at : ℕ) (rest told line : List ℕ) → IsInOrder front
+      → BeginsWithScript input front at rest → AreAllReplies front (told ++ line) → (old new : Option (List ℕ))
       → old ≡ Some (before ++ told) → GrowsByPrefix old new line → (status : Status)
       → IsFaultStatus (number_of status) → Ends input before new status
   cut_behind front at rest told line in_order begins replies =
@@ -130,7 +132,7 @@ module _ (input before : List ℕ) where
 
   -- the last line cut short, or a fault, at a refused grammar
   pub ended_at_grammar : (block : List ℕ) (at : ℕ) (rest : List ℕ)
-      → BeginsWithCommands 0 input (header ∷ grammar block ∷ []) at rest → (old new : Option (List ℕ))
+      → BeginsWithScript input (with_grammar block []) at rest → (old new : Option (List ℕ))
       → old ≡ Some before → (status : Status) → EndsAtGrammar block old new status
       → Ends input before new status
   ended_at_grammar block at rest begins old new written status h = by_status status h
@@ -145,8 +147,8 @@ module _ (input before : List ℕ) where
           (λ out n s. ([], (refusal_is_all input block line at rest begins r out n s).0 ∙ sym (append-nil line)))
           old new none_yet cut status fault
       by_line line (inr a) cut status fault =
-          let P : List ℕ → Type 0 = AreAllReplies (header ∷ grammar block ∷ []) in
-          cut_behind (header ∷ grammar block ∷ []) at rest [] line tt begins
+          let P : List ℕ → Type 0 = AreAllReplies (with_grammar block []) in
+          cut_behind (with_grammar block []) at rest [] line tt begins
           (subst P (sym a.2) (grammar_told a.0 block a.1)) old new none_yet cut status fault
 
       by_status : (status : Status) → EndsAtGrammar block old new status → Ends input before new status
@@ -161,8 +163,8 @@ module _ (input before : List ℕ) where
 
   -- a fault at the text, behind a grammar that was accepted
   pub ended_at_text : (block text : List ℕ) (g : Grammar) → IsAccepted block g
-      → (mid : ℕ) (mid_rest : List ℕ) → BeginsWithCommands 0 input (header ∷ grammar block ∷ []) mid mid_rest
-      → (at : ℕ) (rest : List ℕ) → BeginsWithCommands 0 input (header ∷ grammar block ∷ opens text ∷ []) at rest
+      → (mid : ℕ) (mid_rest : List ℕ) → BeginsWithScript input (with_grammar block []) mid mid_rest
+      → (at : ℕ) (rest : List ℕ) → BeginsWithScript input (with_grammar block (opens text ∷ [])) at rest
       → (old new : Option (List ℕ)) → old ≡ Some (before ++ grammar_reply g) → (status : Status)
       → EndsAtText g text old new status → Ends input before new status
   ended_at_text block text g accepted mid mid_rest mid_begins at rest begins old new written status h =
@@ -172,7 +174,7 @@ module _ (input before : List ℕ) where
           → IsSession input out n → (more : List ℕ) × (out ≡ (grammar_reply g ++ line) ++ more)
       sure line t out n s =
           let told = text_told g block text t.0 [] [] accepted t.1 (none_told g (with_text no_texts text)) in
-          let front : List Command = header ∷ grammar block ∷ opens text ∷ [] in
+          let front : Script = with_grammar block (opens text ∷ []) in
           let first = replies_come_first input front at rest _ begins tt told out n s in
           let short : version_reply 0 (length t.0) ++ [] ≡ line = append-nil (version_reply 0 (length t.0)) ∙ sym t.2 in
           (first.0, first.1 ∙ ap (λ bytes. (grammar_reply g ++ bytes) ++ first.0) short)
@@ -183,7 +185,7 @@ module _ (input before : List ℕ) where
 
       before_text : (out : List ℕ) (n : ℕ) → IsSession input out n → (more : List ℕ) × (out ≡ grammar_reply g ++ more)
       before_text =
-          replies_come_first input (header ∷ grammar block ∷ []) mid mid_rest (grammar_reply g)
+          replies_come_first input (with_grammar block []) mid mid_rest (grammar_reply g)
           mid_begins tt (grammar_told g block accepted)
 
       by_status : (status : Status) → EndsAtText g text old new status → Ends input before new status
@@ -196,23 +198,23 @@ module _ (input before : List ℕ) where
       by_status BadScript h = absurd h
       by_status ReadFault h = absurd h
 
--- no command that begins a line stands where no line comes
-no_line_no_command : (from to : ℕ) (old new : Option (List ℕ)) (line bytes : List ℕ)
-    → NextLine from to old new line false → old ≡ Some bytes → (command : Command) (more : List ℕ)
-    → from < 2 ^ 48 → IsWithinLimits command → bytes ≡ text_of command ++ more → ⊥
-no_line_no_command from to old new line bytes h is command more early w e =
-    h bytes is early (line_of command) (block_of command ++ more)
-    (each_differs 10 (line_of command) (line_lacks_lf command w), line_is_short command w)
-    (e ∙ append_assoc (line_of command) (10 ∷ block_of command) more)
+-- no part that begins a line stands where no line comes
+no_line_no_part : (from to : ℕ) (old new : Option (List ℕ)) (line bytes : List ℕ)
+    → NextLine from to old new line false → old ≡ Some bytes → (part : Part) (more : List ℕ)
+    → from < 2 ^ 48 → IsWithinLimits part → bytes ≡ text_of part ++ more → ⊥
+no_line_no_part from to old new line bytes h is part more early w e =
+    h bytes is early (line_of part) (block_of part ++ more)
+    (each_differs 10 (line_of part) (line_lacks_lf part w), line_is_short part w)
+    (e ∙ append_assoc (line_of part) (10 ∷ block_of part) more)
 
--- a line that comes is the line of the command that begins there
-line_of_command : (from to : ℕ) (old new : Option (List ℕ)) (line bytes : List ℕ)
-    → NextLine from to old new line true → old ≡ Some bytes → (command : Command) (more : List ℕ)
-    → IsWithinLimits command → bytes ≡ text_of command ++ more → line ≡ line_of command
-line_of_command from to old new line bytes h is command more w e =
+-- a line that comes is the line of the part that begins there
+line_of_part : (from to : ℕ) (old new : Option (List ℕ)) (line bytes : List ℕ)
+    → NextLine from to old new line true → old ≡ Some bytes → (part : Part) (more : List ℕ)
+    → IsWithinLimits part → bytes ≡ text_of part ++ more → line ≡ line_of part
+line_of_part from to old new line bytes h is part more w e =
     let t = h.1 bytes is in
     let same = sym (append_assoc line (10 ∷ []) t.0) ∙ sym t.2 ∙ e in
-    (command_line command line t.0 more w (lacks_if_each_differs 10 line h.2.0) same).0
+    (part_line part line t.0 more w (lacks_if_each_differs 10 line h.2.0) same).0
 
 end_is_line : IsLine 256 (codes "end")
 end_is_line = (each_differs 10 (codes "end") (tested 10 (codes "end") refl), omega arith)
@@ -226,14 +228,12 @@ no_line_no_end from to old new line bytes h is more early e = h bytes is early (
 -- a line that is none of these
 module _ (from to : ℕ) (old new : Option (List ℕ)) (line bytes : List ℕ)
     (h : NextLine from to old new line true) (is : old ≡ Some bytes) where
-  no_question : ReadsHas line None → (command : Command) (more : List ℕ) → from < 2 ^ 48
-      → AreQuestions (command ∷ []) → IsWithinLimits command → bytes ≡ text_of command ++ more → ⊥
-  no_question other (ask (has constituent)) more early q w e =
-      let spelled = line_of_command from to old new line bytes h is (ask (has constituent)) more w e in
+  no_question : ReadsHas line None → (query : Query) (more : List ℕ) → from < 2 ^ 48
+      → IsWithinLimits (of_command (ask query)) → bytes ≡ text_of (of_command (ask query)) ++ more → ⊥
+  no_question other (has constituent) more early w e =
+      let part : Part = of_command (ask (has constituent)) in
+      let spelled = line_of_part from to old new line bytes h is part more w e in
       other constituent (record { nameable = w.0; spelled = spelled })
-  no_question other header more early q w e = absurd q
-  no_question other (grammar block) more early q w e = absurd q
-  no_question other (opens text) more early q w e = absurd q
 
   rest_of : (rest : List ℕ) × (new ≡ Some rest) × (bytes ≡ line ++ (10 ∷ rest))
   rest_of = let t = h.1 bytes is in (t.0, t.1, t.2 ∙ append_assoc line (10 ∷ []) t.0)
@@ -248,28 +248,34 @@ module _ (from to : ℕ) (old new : Option (List ℕ)) (line bytes : List ℕ)
   is_end e = (rest_of.0, rest_of.2 ∙ ap (λ word. word ++ (10 ∷ rest_of.0)) e)
 
   -- a line that asks is a question taken
-  question_taken : (constituent : Constituent) → IsHas line constituent → TakesCommand from to old new (ask (has constituent))
+  question_taken : (constituent : Constituent) → IsHas line constituent → TakesPart from to old new (of_command (ask (has constituent)))
   question_taken constituent q = let P : List ℕ → Type 0 = λ word. Takes old new (word ++ 10 ∷ []) in record {
     early = h.0;
     within_limits = (q.nameable, omega (arith, h.2.1, ap length q.spelled));
     taken = subst P q.spelled h.1;
-    offset = omega (arith, h.3, ap length q.spelled, length-append (line_of (ask (has constituent))) (10 ∷ []));
+    offset = omega (arith, h.3, ap length q.spelled, length-append (line_of (of_command (ask (has constituent)))) (10 ∷ []));
   }
 
--- a command behind questions, in order, is a question
-pub last_question : (questions : List Command) (command : Command)
-    → AreQuestions (questions ++ command ∷ []) → AreQuestions (command ∷ [])
-last_question [] command h = h
-last_question (ask query ∷ questions) command h = last_question questions command h
-last_question (header ∷ questions) command h = absurd h
-last_question (grammar block ∷ questions) command h = absurd h
-last_question (opens text ∷ questions) command h = absurd h
+-- no text stands behind questions
+no_text_behind : (questions : List Command) (text : List ℕ) → AreQuestions (questions ++ opens text ∷ []) → ⊥
+no_text_behind [] text h = h
+no_text_behind (ask query ∷ questions) text h = no_text_behind questions text h
+no_text_behind (opens other ∷ questions) text h = h
+
+-- behind a text and questions the part in its place is a question
+next_question : (block text : List ℕ) (questions : List Command) (part : Part)
+    → MayFollow (with_grammar block (opens text ∷ questions)) part
+    → (query : Query) × (part ≡ of_command (ask query))
+next_question block text questions header h = absurd h
+next_question block text questions (grammar other) h = absurd h
+next_question block text questions (of_command (opens other)) h = absurd (no_text_behind questions other h)
+next_question block text questions (of_command (ask query)) h = (query, refl)
 
 -- behind the text
 module _ {input before : List ℕ} {coming : Option (List ℕ)} {at : ℕ} {now : Option (List ℕ)}
     {opened : Opened} (r : Running input before coming at now opened) where
-  front : List Command
-  front = header ∷ grammar r.block ∷ opens r.text ∷ r.questions
+  front : Script
+  front = with_grammar r.block (opens r.text ∷ r.questions)
 
   told : List ℕ
   told = grammar_reply opened.language.grammar ++ (version_reply 0 (length r.tokens) ++ r.replies)
@@ -289,8 +295,8 @@ module _ {input before : List ℕ} {coming : Option (List ℕ)} {at : ℕ} {now 
 
   -- neither a question nor the end follows
   running_broken : (place : ℕ) → place ≡ at
-      → ((command : Command) (more : List ℕ) → at < 2 ^ 48 → AreQuestions (command ∷ [])
-      → IsWithinLimits command → r.rest ≡ text_of command ++ more → ⊥)
+      → ((query : Query) (more : List ℕ) → at < 2 ^ 48 → IsWithinLimits (of_command (ask query))
+      → r.rest ≡ text_of (of_command (ask query)) ++ more → ⊥)
       → ((more : List ℕ) → at < 2 ^ 48 → r.rest ≡ codes "end" ++ (10 ∷ more) → ⊥)
       → (new : Option (List ℕ)) (status : Status)
       → EndsWith now new (last_line (broken place)) BadScript status → Ends input before new status
@@ -298,8 +304,10 @@ module _ {input before : List ℕ} {coming : Option (List ℕ)} {at : ℕ} {now 
   running_broken place e no_more no_end new status says =
       last input before front at r.rest told r.are_questions r.begins all_replies (broken place) (
         e,
-        (λ go. no_more go.command go.more go.early
-            (last_question r.questions go.command go.in_order) go.within_limits go.spelled),
+        (λ go.
+            let asked = next_question r.block r.text r.questions go.part go.in_place in
+            no_more asked.0 go.more go.early (subst IsWithinLimits asked.1 go.within_limits)
+            (go.spelled ∙ ap (λ (part : Part). text_of part ++ go.more) asked.1)),
         (λ end. no_end end.more end.early end.spelled),
       )
       now new r.has_written BadScript status refl says
@@ -322,7 +330,7 @@ module _ {input before : List ℕ} {coming : Option (List ℕ)} {at : ℕ} {now 
         → EndsWith now new (last_line (broken place)) BadScript status → Ends input before new status
     no_line_ends none place e =
         running_broken place e
-        (λ command more early q. no_line_no_command at to coming next line r.rest none r.comes command more early)
+        (λ query more early. no_line_no_part at to coming next line r.rest none r.comes (of_command (ask query)) more early)
         (no_line_no_end at to coming next line r.rest none r.comes)
 
     module _ (taken : NextLine at to coming next line true) where
@@ -344,21 +352,25 @@ module _ {input before : List ℕ} {coming : Option (List ℕ)} {at : ℕ} {now 
 
       -- a line that asks is a question
       pub question_asked : (constituent : Constituent) → IsHas line constituent
-          → TakesCommand at to coming next (ask (has constituent))
+          → TakesPart at to coming next (of_command (ask (has constituent)))
       question_asked = question_taken at to coming next line r.rest taken r.comes
 
   -- a question follows, and its answer is written or cut short
   module _ {query : Query} {to : ℕ} {later : Option (List ℕ)}
-      (taken : TakesCommand at to coming later (ask query)) (line : List ℕ)
+      (taken : TakesPart at to coming later (of_command (ask query))) (line : List ℕ)
       (answer : IsAnswer opened.language.grammar r.tokens query line) where
-    behind : (more : List ℕ) × (later ≡ Some more) × (r.rest ≡ text_of (ask query) ++ more)
+    behind : (more : List ℕ) × (later ≡ Some more) × (r.rest ≡ text_of (of_command (ask query)) ++ more)
     behind = taken.taken r.rest r.comes
 
-    begins_more : BeginsWithCommands 0 input
-        (header ∷ grammar r.block ∷ opens r.text ∷ (r.questions ++ ask query ∷ [])) to behind.0
+    begins_more : BeginsWithScript input
+        (with_grammar r.block (opens r.text ∷ (r.questions ++ ask query ∷ []))) to behind.0
     begins_more =
-        BeginsWithCommands-append 0 input (header ∷ grammar r.block ∷ opens r.text ∷ r.questions) at r.rest r.begins
-        (ask query) behind.0 taken.early taken.within_limits behind.2 to taken.offset
+        let before_it : List Part = parts_of (with_grammar r.block (opens r.text ∷ r.questions)) in
+        let begins = BeginsWithParts-append 0 input before_it at r.rest r.begins
+        (of_command (ask query)) behind.0 taken.early taken.within_limits behind.2 to taken.offset in
+        let Begins : List Part → Type 0 = λ (parts : List Part).
+        BeginsWithParts 0 input (header ∷ grammar r.block ∷ of_command (opens r.text) ∷ parts) to behind.0 in
+        subst Begins (sym (parts_more r.questions (ask query))) begins
 
     are_more : AreQuestions (r.questions ++ ask query ∷ [])
     are_more = questions_more r.questions (ask query) r.are_questions tt
@@ -403,9 +415,9 @@ module _ {input before : List ℕ} {coming : Option (List ℕ)} {at : ℕ} {now 
     unfolding told
     running_cut new cut status fault =
         let questions : List Command = r.questions ++ ask query ∷ [] in
-        let commands : List Command = header ∷ grammar r.block ∷ opens r.text ∷ questions in
-        let P : List ℕ → Type 0 = AreAllReplies commands in
-        cut_behind input before commands to behind.0 told line are_more begins_more
+        let script : Script = with_grammar r.block (opens r.text ∷ questions) in
+        let P : List ℕ → Type 0 = AreAllReplies script in
+        cut_behind input before script to behind.0 told line are_more begins_more
         (subst P (sym (longer line)) (text_told opened.language.grammar r.block r.text r.tokens questions
         (r.replies ++ line) r.accepted (r.is_opened).are_tokens replies_are))
         now new r.has_written cut status fault

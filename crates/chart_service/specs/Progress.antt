@@ -2,8 +2,8 @@
 use Rattle.std.specs.Prelude.{◌≡◌, ℕ, ◌⊎◌, List, ◌∷◌, ◌++◌, length, Option, Some, None}
 use Rattle.std.specs.Prelude.{Result, Ok, Err}
 use Rattle.spec_lexing.specs.declared.token.Token.{Token}
-use Rattle.spec_script.specs.Script.{Command, header, grammar, opens, AreQuestions}
-use Rattle.spec_script.specs.Script.{BeginsWithCommands}
+use Rattle.spec_script.specs.Script.{Command, opens, with_grammar, AreQuestions}
+use Rattle.spec_script.specs.Script.{BeginsWithScript}
 use Rattle.spec_session.specs.GrammarReplies.{IsAccepted, grammar_reply}
 use Rattle.spec_session.specs.Steps.{no_texts, with_text, version_reply}
 use Rattle.spec_session.specs.Runs.{AreReplies}
@@ -14,8 +14,8 @@ use Rattle.chart_service.specs.Statuses.{number_of}
 use Rattle.chart_service.specs.Serving.{IsFaultStatus, IsPrefixOfSession}
 use Rattle.chart_service.specs.Opening.{IsOpened}
 
--- the commands so far are a grammar that was accepted, a text and questions, what comes stands
--- behind them, and their replies were written
+-- the script so far is a grammar that was accepted, a text and questions, what comes stands behind
+-- it, and the replies to it were written
 pub record Running (input before : List ℕ) (coming : Option (List ℕ)) (at : ℕ)
     (now : Option (List ℕ)) (opened : Opened) : Type 0 where
   pub block : List ℕ
@@ -26,7 +26,7 @@ pub record Running (input before : List ℕ) (coming : Option (List ℕ)) (at : 
   pub rest : List ℕ
   pub comes : coming ≡ Some rest
   pub are_questions : AreQuestions questions
-  pub begins : BeginsWithCommands 0 input (header ∷ grammar block ∷ opens text ∷ questions) at rest
+  pub begins : BeginsWithScript input (with_grammar block (opens text ∷ questions)) at rest
   pub accepted : IsAccepted block opened.language.grammar
   pub is_opened : IsOpened opened.language.grammar opened.chart text tokens
   pub are_replies : AreReplies opened.language.grammar (with_text no_texts text) questions

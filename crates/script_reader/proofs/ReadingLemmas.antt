@@ -1,4 +1,4 @@
--- Lines and blocks in the bytes that come: a line has one first LF, and what follows a command's line is its block.
+-- Lines and blocks in the bytes that come: a line has one first LF, and what follows a part's line is its block.
 use Rattle.std.proofs.Common.{◌≡◌, ℕ, suc, ◌+◌, ◌^◌, ◌<◌, ◌≤◌, List, [], ◌∷◌, ◌++◌, length, drop}
 use Rattle.std.proofs.Common.{get_or, decimal, codes, IsAscii, Vec, Global, MatchOption, option_map}
 use Rattle.std.proofs.Common.{Option, Some, None, Result, IfOk, Bool, true, false, nat_eq, refl}
@@ -14,18 +14,18 @@ use Rattle.cyk_io.specs.Lines.{HasNoLf, IsLine, LineReads}
 use Rattle.cyk_io.specs.Blocks.{BlockReads}
 use Rattle.cyk_io.specs.declared.block.ReadBlock.TheVariants.{Kept, Skipped}
 use Rattle.cyk_io.specs.declared.line.ReadLine.TheVariants.{LongLine, Ended}
-use Rattle.spec_script.specs.Script.{Command, header, grammar, opens, ask, line_of, text_of}
+use Rattle.spec_script.specs.Script.{opens, ask, Part, header, grammar, of_command, line_of, text_of}
 use Rattle.spec_script.specs.Script.{IsWithinLimits}
 use Rattle.spec_script.proofs.ScriptLemmas.{tested, each_differs, lacks_if_each_differs}
 use Rattle.spec_script.proofs.ScriptLemmas.{lacks_joined, cut_same, same_rest, same_front}
 use Rattle.spec_script.proofs.ScriptLemmas.{same_back, digits_lack, line_lacks_lf, line_is_short}
-use Rattle.spec_script.proofs.ScriptLemmas.{command_line}
+use Rattle.spec_script.proofs.ScriptLemmas.{part_line}
 use Rattle.cyk_io.specs.declared.fault.IoFault.{IoFault}
 use Rattle.script_reader.specs.Forms.{ReadsCount}
 use Rattle.script_reader.specs.declared.reading.Block.{Block}
 use Rattle.script_reader.specs.declared.reading.Block.TheVariants.{TooLong}
 use Rattle.script_reader.specs.Reading.{NextLine, NextBlock, PassesBlock, IsBlock, Finds, NextCount}
-use Rattle.script_reader.specs.Reading.{TakesCommand, NoneComes, IsHeader, IsGrammar, NextHeader}
+use Rattle.script_reader.specs.Reading.{TakesPart, NoneComes, IsHeader, IsGrammar, NextHeader}
 use Rattle.script_reader.specs.Reading.{NextGrammar, NextText}
 
 -- a line does not end within bytes that have no LF
@@ -77,9 +77,9 @@ module _ (count from to : ℕ) (old new : Option (List ℕ)) where
       let whole : bytes ++ t.0 ≡ (block ++ 10 ∷ []) ++ more = sym t.2 ∙ e ∙ sym (append_assoc block (10 ∷ []) more) in
       other block (same_front bytes t.0 (block ++ 10 ∷ []) more long whole)
 
--- the line of a command within its limits is a line
-pub line_within : (command : Command) → IsWithinLimits command → IsLine 256 (line_of command)
-line_within command w = (each_differs 10 (line_of command) (line_lacks_lf command w), line_is_short command w)
+-- the line of a part within its limits is a line
+pub line_within : (part : Part) → IsWithinLimits part → IsLine 256 (line_of part)
+line_within part w = (each_differs 10 (line_of part) (line_lacks_lf part w), line_is_short part w)
 
 -- bytes that are taken in turn
 pub takes_both : (old mid new : Option (List ℕ)) (first second : List ℕ) → Takes old mid first
@@ -145,7 +145,7 @@ module _ (keep : ℕ) (P : Option (List ℕ) → Type 0) where
 -- a grammar that was found is taken
 pub found_grammar : (from to : ℕ) (old new : Option (List ℕ)) (found : Block)
     → Finds 65536 (NextGrammar from to old new) (Some found)
-    → (block : List ℕ) × IsBlock 65536 found block × TakesCommand from to old new (grammar block)
+    → (block : List ℕ) × IsBlock 65536 found block × TakesPart from to old new (grammar block)
 found_grammar from to old new found h = found_block 65536 (NextGrammar from to old new) found h
 
 -- a line that begins so and ends in a number
@@ -177,11 +177,11 @@ module _ (beginning : List ℕ) (most from to : ℕ) (old new : Option (List ℕ
         let IsTaken : List ℕ → Type 0 = λ bytes. NextLine from to old new bytes true in
         (h.1, subst IsTaken h.2 taken)
 
--- the line of a block's command, and the block
+-- the line of a part with a block, and the block
 abbrev pub counted_text : List ℕ → List ℕ → List ℕ
 counted_text beginning block = (beginning ++ decimal (length block)) ++ (10 ∷ (block ++ 10 ∷ []))
 
--- a command that begins so and has a block of at most so many bytes was taken, or does not come
+-- a part that begins so and has a block of at most so many bytes was taken, or does not come
 abbrev pub NextCounted : List ℕ → ℕ → ℕ → ℕ → Option (List ℕ) → Option (List ℕ)
     → Option (List ℕ) → Type 0
 NextCounted beginning most from to old new (Some block) =
@@ -192,7 +192,7 @@ NextCounted beginning most from to old new None =
     → IsLine 256 (beginning ++ decimal (length block))
     → told ≡ counted_text beginning block ++ more → ⊥
 
--- a command with a block, read as its line and then its block
+-- a part with a block, read as its line and then its block
 module _ (beginning : List ℕ) (most from mid_at to : ℕ) (old mid new : Option (List ℕ)) where
   -- its line comes first
   line_first : (block more told : List ℕ) → told ≡ counted_text beginning block ++ more
@@ -210,7 +210,7 @@ module _ (beginning : List ℕ) (most from mid_at to : ℕ) (old mid new : Optio
 
   module _ (count : ℕ) (bound : most < 10 ^ 9)
       (taken : NextCount beginning most from mid_at old mid (Some count)) where
-    -- a command that comes has this line, and its block stands behind it
+    -- a part that comes has this line, and its block stands behind it
     line_is : (told block more : List ℕ) → old ≡ Some told
         → IsLine 256 (beginning ++ decimal (length block)) → told ≡ counted_text beginning block ++ more
         → (rest : List ℕ) × (mid ≡ Some rest)
@@ -227,7 +227,7 @@ module _ (beginning : List ℕ) (most from mid_at to : ℕ) (old mid new : Optio
         (lacks_if_each_differs 10 (beginning ++ decimal (length block)) w.0) whole in
         (t.0, t.1, same.0, same.1)
 
-    -- a block behind the line is the command's
+    -- a block behind the line is the part's
     counted_block : (block : List ℕ) → NextBlock count mid_at to mid new (Some block)
         → NextCounted beginning most from to old new (Some block)
     counted_block block h =
@@ -260,20 +260,19 @@ module _ (beginning : List ℕ) (most from mid_at to : ℕ) (old mid new : Optio
     counted None h = counted_no_block h
     counted (Some block) h = counted_block block h
 
--- the commands by their lines
+-- the parts by their lines
 module _ (from : ℕ) (old : Option (List ℕ)) where
   pub no_header_line : (to : ℕ) (new : Option (List ℕ)) (line : List ℕ)
       → NextLine from to old new line false → NoneComes IsHeader from old
   no_header_line to new line h told is early header more one w e =
       h told is early (line_of header) more (line_within header w) (e ∙ append_assoc (line_of header) (10 ∷ []) more)
   no_header_line to new line h told is early (grammar block) more one w e = absurd one
-  no_header_line to new line h told is early (opens text) more one w e = absurd one
-  no_header_line to new line h told is early (ask query) more one w e = absurd one
+  no_header_line to new line h told is early (of_command command) more one w e = absurd one
 
   module _ (to : ℕ) (new : Option (List ℕ)) where
     -- the line `script 1`, or another
     pub header_line : (line : List ℕ) → NextLine from to old new line true → line ≡ codes "script 1"
-        → TakesCommand from to old new header
+        → TakesPart from to old new header
     header_line line h e = let P : List ℕ → Type 0 = λ bytes. Takes old new (bytes ++ 10 ∷ []) in record {
       early = h.0;
       within_limits = tt;
@@ -286,23 +285,21 @@ module _ (from : ℕ) (old : Option (List ℕ)) where
     other_line line h other told is early header more one w e =
         let t = h.1 told is in
         let whole = sym (append_assoc line (10 ∷ []) t.0) ∙ sym t.2 ∙ e in
-        other (command_line header line t.0 more w (lacks_if_each_differs 10 line h.2.0) whole).0
+        other (part_line header line t.0 more w (lacks_if_each_differs 10 line h.2.0) whole).0
     other_line line h other told is early (grammar block) more one w e = absurd one
-    other_line line h other told is early (opens text) more one w e = absurd one
-    other_line line h other told is early (ask query) more one w e = absurd one
+    other_line line h other told is early (of_command command) more one w e = absurd one
 
     -- a grammar
     grammar_taken : (block : List ℕ)
         → NextCounted (codes "grammar ") 999999999 from to old new (Some block)
-        → TakesCommand from to old new (grammar block)
+        → TakesPart from to old new (grammar block)
     grammar_taken block h = record { early = h.0; within_limits = omega (arith, h.1); taken = h.2; offset = h.3 }
 
     no_grammar : NextCounted (codes "grammar ") 999999999 from to old new None → NoneComes IsGrammar from old
     no_grammar h told is early header more one w e = absurd one
     no_grammar h told is early (grammar block) more one w e =
         h told is early block more (omega (arith, w)) (line_within (grammar block) w) e
-    no_grammar h told is early (opens text) more one w e = absurd one
-    no_grammar h told is early (ask query) more one w e = absurd one
+    no_grammar h told is early (of_command command) more one w e = absurd one
 
     next_grammar : (r : Option (List ℕ)) → NextCounted (codes "grammar ") 999999999 from to old new r
         → NextGrammar from to old new r
@@ -336,21 +333,21 @@ module _ (from : ℕ) (old : Option (List ℕ)) where
     no_text : NextCounted (codes "open ") 4096 from to old new None → NextText from to old new None
     no_text h told is early header more one w e = absurd one
     no_text h told is early (grammar block) more one w e = absurd one
-    no_text h told is early (opens text) more one w e = h told is early text more w.0 (line_within (opens text) w) e
-    no_text h told is early (ask query) more one w e = absurd one
+    no_text h told is early (of_command (opens text)) more one w e = h told is early text more w.0 (line_within (of_command (opens text)) w) e
+    no_text h told is early (of_command (ask query)) more one w e = absurd one
 
     no_ascii_text : (text : List ℕ) → NextCounted (codes "open ") 4096 from to old new (Some text)
         → (IsAscii text → ⊥) → NextText from to old new None
     no_ascii_text text h other told is early header more one w e = absurd one
     no_ascii_text text h other told is early (grammar block) more one w e = absurd one
-    no_ascii_text text h other told is early (opens wanted) more one w e =
+    no_ascii_text text h other told is early (of_command (opens wanted)) more one w e =
         let t = h.2 told is in
         let line : List ℕ = codes "open " ++ decimal (length text) in
         let lacks = lacks_joined 10 (codes "open ") (decimal (length text))
         (tested 10 (codes "open ") refl) (digits_lack (length text) 10 (omega (arith, h.1)) (omega arith)) in
-        let front : line ++ (10 ∷ ((text ++ 10 ∷ []) ++ t.0)) ≡ text_of (opens wanted) ++ more =
+        let front : line ++ (10 ∷ ((text ++ 10 ∷ []) ++ t.0)) ≡ text_of (of_command (opens wanted)) ++ more =
         sym (append_assoc line (10 ∷ (text ++ 10 ∷ [])) t.0) ∙ sym t.2 ∙ e in
-        let parts = command_line (opens wanted) line ((text ++ 10 ∷ []) ++ t.0) more w lacks front in
+        let parts = part_line (of_command (opens wanted)) line ((text ++ 10 ∷ []) ++ t.0) more w lacks front in
         let digits : decimal (length text) ≡ decimal (length wanted) =
         same_rest (codes "open ") (decimal (length text)) (decimal (length wanted)) parts.0 in
         let size : length text ≡ length wanted =
@@ -358,7 +355,7 @@ module _ (from : ℕ) (old : Option (List ℕ)) where
         let same : text ≡ wanted = same_front text ((10 ∷ []) ++ t.0) wanted ((10 ∷ []) ++ more) size
         (sym (append_assoc text (10 ∷ []) t.0) ∙ parts.1 ∙ append_assoc wanted (10 ∷ []) more) in
         other (subst IsAscii (sym same) w.1)
-    no_ascii_text text h other told is early (ask query) more one w e = absurd one
+    no_ascii_text text h other told is early (of_command (ask query)) more one w e = absurd one
 
     -- the line, by the code's test
     pub by_test : (line text : List ℕ) (found : Bool) → NextLine from to old new line true → text ≡ line

@@ -1,4 +1,4 @@
--- Serves the proofs alone: what is found where the next command of a script is read.
+-- Serves the proofs alone: what is found where the next part of a script is read.
 use Rattle.std.specs.Prelude.{◌≡◌, ℕ, ◌+◌, ◌^◌, ◌<◌, ◌≤◌, List, [], ◌∷◌, ◌++◌, length, decimal}
 use Rattle.std.specs.Prelude.{Bool, true, false, Option, None, Some, Result, IfErr, IsErrOf}
 use Rattle.cyk_io.specs.declared.fault.IoFault.{IoFault}
@@ -6,7 +6,8 @@ use Rattle.cyk_io.specs.declared.fault.IoFault.TheVariants.{Read, Write, Memory}
 use Rattle.cyk_io.specs.Causes.{HasCause}
 use Rattle.cyk_io.specs.Streams.{Takes}
 use Rattle.cyk_io.specs.Lines.{IsLine}
-use Rattle.spec_script.specs.Script.{Command, header, grammar, opens, ask, text_of, IsWithinLimits}
+use Rattle.spec_script.specs.Script.{opens, ask, Part, header, grammar, of_command, text_of}
+use Rattle.spec_script.specs.Script.{IsWithinLimits}
 use Rattle.script_reader.specs.declared.reading.Block.{Block}
 use Rattle.script_reader.specs.declared.reading.Block.TheVariants.{Kept, TooLong}
 
@@ -70,51 +71,49 @@ NextCount beginning most from to old new None =
     → IsLine 256 (beginning ++ decimal count)
     → told ≡ (beginning ++ decimal count) ++ (10 ∷ more) → ⊥
 
--- the command was taken
-pub record TakesCommand (from to : ℕ) (old new : Option (List ℕ)) (command : Command) : Type 0 where
+-- the part was taken
+pub record TakesPart (from to : ℕ) (old new : Option (List ℕ)) (part : Part) : Type 0 where
   pub early : from < 2 ^ 48
-  pub within_limits : IsWithinLimits command
-  pub taken : Takes old new (text_of command)
-  pub offset : to ≡ from + length (text_of command)
+  pub within_limits : IsWithinLimits part
+  pub taken : Takes old new (text_of part)
+  pub offset : to ≡ from + length (text_of part)
 
--- no command of these comes
-abbrev pub NoneComes : (Command → Type 0) → ℕ → Option (List ℕ) → Type 0
+-- none of these parts comes
+abbrev pub NoneComes : (Part → Type 0) → ℕ → Option (List ℕ) → Type 0
 NoneComes IsOne from old =
-    (told : List ℕ) → old ≡ Some told → from < 2 ^ 48 → (command : Command) (more : List ℕ)
-    → IsOne command → IsWithinLimits command → told ≡ text_of command ++ more → ⊥
+    (told : List ℕ) → old ≡ Some told → from < 2 ^ 48 → (part : Part) (more : List ℕ)
+    → IsOne part → IsWithinLimits part → told ≡ text_of part ++ more → ⊥
 
--- the command is the header
-abbrev pub IsHeader : Command → Type 0
+-- the part is the header
+abbrev pub IsHeader : Part → Type 0
 IsHeader header = Unit {0}
 IsHeader (grammar block) = ⊥
-IsHeader (opens text) = ⊥
-IsHeader (ask query) = ⊥
+IsHeader (of_command command) = ⊥
 
--- the command is a grammar
-abbrev pub IsGrammar : Command → Type 0
+-- the part is a grammar
+abbrev pub IsGrammar : Part → Type 0
 IsGrammar header = ⊥
 IsGrammar (grammar block) = Unit {0}
-IsGrammar (opens text) = ⊥
-IsGrammar (ask query) = ⊥
+IsGrammar (of_command command) = ⊥
 
--- the command is a text
-abbrev pub IsText : Command → Type 0
+-- the part is a text
+abbrev pub IsText : Part → Type 0
 IsText header = ⊥
 IsText (grammar block) = ⊥
-IsText (opens text) = Unit {0}
-IsText (ask query) = ⊥
+IsText (of_command (opens text)) = Unit {0}
+IsText (of_command (ask query)) = ⊥
 
 -- the header was taken, or does not come
 abbrev pub NextHeader : ℕ → ℕ → Option (List ℕ) → Option (List ℕ) → Bool → Type 0
-NextHeader from to old new true = TakesCommand from to old new header
+NextHeader from to old new true = TakesPart from to old new header
 NextHeader from to old new false = NoneComes IsHeader from old
 
 -- a grammar was taken, or none comes
 abbrev pub NextGrammar : ℕ → ℕ → Option (List ℕ) → Option (List ℕ) → Option (List ℕ) → Type 0
-NextGrammar from to old new (Some block) = TakesCommand from to old new (grammar block)
+NextGrammar from to old new (Some block) = TakesPart from to old new (grammar block)
 NextGrammar from to old new None = NoneComes IsGrammar from old
 
 -- a text was taken, or none comes
 abbrev pub NextText : ℕ → ℕ → Option (List ℕ) → Option (List ℕ) → Option (List ℕ) → Type 0
-NextText from to old new (Some text) = TakesCommand from to old new (opens text)
+NextText from to old new (Some text) = TakesPart from to old new (of_command (opens text))
 NextText from to old new None = NoneComes IsText from old

@@ -9,7 +9,7 @@ use Rattle.std.proofs.lemmas.Fmt.{digits_decimal, decimal_injective, length-deci
 use Rattle.std.proofs.Math.Seq.{take-append_seam}
 use Rattle.spec_script.specs.declared.question.Constituent.TheVariants.{EntryWhole, CategoryWhole, CategorySpan}
 use Rattle.spec_script.specs.Script.{Constituent, constituent_text, IsNameable}
-use Rattle.spec_script.specs.Script.{Query, has, query_line, IsAskable, Command, header, grammar, opens, ask, line_of, block_of, text_of, IsWord, IsWithinLimits}
+use Rattle.spec_script.specs.Script.{Query, has, query_line, IsAskable, opens, ask, Part, header, grammar, of_command, line_of, block_of, text_of, IsWord, IsWithinLimits}
 
 -- the list does not have the byte
 abbrev pub Lacks : List ℕ → ℕ → Type 0
@@ -148,14 +148,14 @@ query_lacks_lf (has constituent) askable =
     lacks_joined 10 (codes "has") (constituent_text constituent) (tested 10 (codes "has") refl)
     (constituent_lacks_lf constituent askable)
 
--- the line of a command within its limits has no LF
-pub line_lacks_lf : (command : Command) → IsWithinLimits command → Lacks (line_of command) 10
+-- the line of a part within its limits has no LF
+pub line_lacks_lf : (part : Part) → IsWithinLimits part → Lacks (line_of part) 10
 line_lacks_lf header within = tested 10 (codes "script 1") refl
 line_lacks_lf (grammar block) within =
     counted_lacks_lf (codes "grammar ") (length block) refl (omega (arith, within))
-line_lacks_lf (opens text) within =
+line_lacks_lf (of_command (opens text)) within =
     counted_lacks_lf (codes "open ") (length text) refl (omega (arith, within.0))
-line_lacks_lf (ask query) within = query_lacks_lf query within.0
+line_lacks_lf (of_command (ask query)) within = query_lacks_lf query within.0
 
 -- a beginning and a number are short
 counted_is_short : (beginning : List ℕ) (n : ℕ) → length beginning ≤ 100 → n < 10 ^ 9 →
@@ -164,21 +164,21 @@ counted_is_short beginning n short small =
     let digits : length (decimal n) ≤ 9 = length-decimal-le 9 n (omega arith) small (omega arith) in
     omega (arith, length-append beginning (decimal n))
 
--- the line of a command within its limits has at most 256 bytes
-pub line_is_short : (command : Command) → IsWithinLimits command → length (line_of command) ≤ 256
+-- the line of a part within its limits has at most 256 bytes
+pub line_is_short : (part : Part) → IsWithinLimits part → length (line_of part) ≤ 256
 line_is_short header within = omega arith
 line_is_short (grammar block) within =
     counted_is_short (codes "grammar ") (length block) (omega arith) (omega (arith, within))
-line_is_short (opens text) within =
+line_is_short (of_command (opens text)) within =
     counted_is_short (codes "open ") (length text) (omega arith) (omega (arith, within.0))
-line_is_short (ask query) within = within.1
+line_is_short (of_command (ask query)) within = within.1
 
--- a line before an LF is that of the command that the bytes begin with, and the block comes next
-pub command_line : (command : Command) (line rest more : List ℕ) → IsWithinLimits command → Lacks line 10 →
-    line ++ (10 ∷ rest) ≡ text_of command ++ more → (line ≡ line_of command) × (rest ≡ block_of command ++ more)
-command_line command line rest more within lacks e =
-    cut_same 10 line rest (line_of command) (block_of command ++ more) lacks (line_lacks_lf command within)
-    (e ∙ append_assoc (line_of command) (10 ∷ block_of command) more)
+-- a line before an LF is that of the part that the bytes begin with, and the block comes next
+pub part_line : (part : Part) (line rest more : List ℕ) → IsWithinLimits part → Lacks line 10 →
+    line ++ (10 ∷ rest) ≡ text_of part ++ more → (line ≡ line_of part) × (rest ≡ block_of part ++ more)
+part_line part line rest more within lacks e =
+    cut_same 10 line rest (line_of part) (block_of part ++ more) lacks (line_lacks_lf part within)
+    (e ∙ append_assoc (line_of part) (10 ∷ block_of part) more)
 
 -- blocks of one length before an LF are the same, and so is what stands behind
 same_block : (beginning block other rest more : List ℕ) → length block < 10 ^ 9 → length other < 10 ^ 9 →
@@ -242,12 +242,12 @@ same_query (has constituent) (has other) v w e =
     let behind = same_rest (codes "has") (constituent_text constituent) (constituent_text other) e in
     ap has (same_constituent constituent other v w behind)
 
--- the first byte of a line, which tells the commands apart
+-- the first byte of a line, which tells the parts apart
 abbrev first_byte : List ℕ → ℕ
 first_byte line = get_or line 0 0
 
--- commands with one line, before what stands behind it, are the same
-same_by_line : (a b : Command) (rest more : List ℕ) → IsWithinLimits a → IsWithinLimits b →
+-- parts with one line, before what stands behind it, are the same
+same_by_line : (a b : Part) (rest more : List ℕ) → IsWithinLimits a → IsWithinLimits b →
     line_of a ≡ line_of b → block_of a ++ rest ≡ block_of b ++ more → (a ≡ b) × (rest ≡ more)
 same_by_line header header rest more v w e f = (refl, f)
 same_by_line (grammar block) (grammar other) rest more v w e f =
@@ -255,35 +255,35 @@ same_by_line (grammar block) (grammar other) rest more v w e f =
     let small_too : length other < 10 ^ 9 = omega (arith, w) in
     let same = same_block (codes "grammar ") block other rest more small small_too e f in
     (ap grammar same.0, same.1)
-same_by_line (opens text) (opens other) rest more v w e f =
+same_by_line (of_command (opens text)) (of_command (opens other)) rest more v w e f =
     let small : length text < 10 ^ 9 = omega (arith, v.0) in
     let small_too : length other < 10 ^ 9 = omega (arith, w.0) in
     let same = same_block (codes "open ") text other rest more small small_too e f in
-    (ap opens same.0, same.1)
-same_by_line (ask query) (ask other) rest more v w e f = (ap ask (same_query query other v.0 w.0 e), f)
-same_by_line a (ask (has other)) rest more v w e f = absurd (omega (arith, ap first_byte e))
-same_by_line (ask (has constituent)) b rest more v w e f = absurd (omega (arith, ap first_byte e))
+    (ap (λ bytes. of_command (opens bytes)) same.0, same.1)
+same_by_line (of_command (ask query)) (of_command (ask other)) rest more v w e f = (ap (λ (asked : Query). of_command (ask asked)) (same_query query other v.0 w.0 e), f)
+same_by_line a (of_command (ask (has other))) rest more v w e f = absurd (omega (arith, ap first_byte e))
+same_by_line (of_command (ask (has constituent))) b rest more v w e f = absurd (omega (arith, ap first_byte e))
 same_by_line a b rest more v w e f = absurd (omega (arith, ap first_byte e))
 
--- bytes begin with one command at most, and so one rest stands behind it
-pub same_command : (a b : Command) (rest more : List ℕ) → IsWithinLimits a → IsWithinLimits b →
+-- bytes begin with one part at most, and so one rest stands behind it
+pub same_part : (a b : Part) (rest more : List ℕ) → IsWithinLimits a → IsWithinLimits b →
     text_of a ++ rest ≡ text_of b ++ more → (a ≡ b) × (rest ≡ more)
-same_command a b rest more v w e =
+same_part a b rest more v w e =
     let whole : line_of a ++ (10 ∷ (block_of a ++ rest)) ≡ text_of b ++ more =
     sym (append_assoc (line_of a) (10 ∷ block_of a) rest) ∙ e in
-    let lines = command_line b (line_of a) (block_of a ++ rest) more w (line_lacks_lf a v) whole in
+    let lines = part_line b (line_of a) (block_of a ++ rest) more w (line_lacks_lf a v) whole in
     same_by_line a b rest more v w lines.0 lines.1
 
--- the line `end` is the line of no command
-end_is_no_line : (command : Command) → codes "end" ≡ line_of command → ⊥
+-- the line `end` is the line of no part
+end_is_no_line : (part : Part) → codes "end" ≡ line_of part → ⊥
 end_is_no_line header e = omega (arith, ap first_byte e)
 end_is_no_line (grammar block) e = omega (arith, ap first_byte e)
-end_is_no_line (opens text) e = omega (arith, ap first_byte e)
-end_is_no_line (ask (has constituent)) e = omega (arith, ap first_byte e)
+end_is_no_line (of_command (opens text)) e = omega (arith, ap first_byte e)
+end_is_no_line (of_command (ask (has constituent))) e = omega (arith, ap first_byte e)
 
--- bytes that begin with the line `end` begin with no command
-pub end_is_no_command : (command : Command) (rest more : List ℕ) → IsWithinLimits command →
-    codes "end" ++ (10 ∷ rest) ≡ text_of command ++ more → ⊥
-end_is_no_command command rest more within e =
-    let lines = command_line command (codes "end") rest more within (tested 10 (codes "end") refl) e in
-    end_is_no_line command lines.0
+-- bytes that begin with the line `end` begin with no part
+pub end_is_no_part : (part : Part) (rest more : List ℕ) → IsWithinLimits part →
+    codes "end" ++ (10 ∷ rest) ≡ text_of part ++ more → ⊥
+end_is_no_part part rest more within e =
+    let lines = part_line part (codes "end") rest more within (tested 10 (codes "end") refl) e in
+    end_is_no_line part lines.0

@@ -1,10 +1,10 @@
 -- What is true of each input: it is one script.
 use Rattle.std.specs.Prelude.{◌≡◌, ℕ, List}
-use Rattle.spec_script.specs.Script.{Command, Ending, IsScript}
+use Rattle.spec_script.specs.Script.{Script, Ending, IsScript}
 
--- an input is at most one script: these commands, and this end
+-- an input is at most one script, and has this end
 abbrev pub OneScript : Type 0
 OneScript =
-    (input : List ℕ) (commands others : List Command) (ending final : Ending) →
-    IsScript input commands ending → IsScript input others final →
-    (commands ≡ others) × (ending ≡ final)
+    (input : List ℕ) (script other : Script) (ending final : Ending) →
+    IsScript input script ending → IsScript input other final →
+    (script ≡ other) × (ending ≡ final)

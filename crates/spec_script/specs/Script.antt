@@ -1,5 +1,5 @@
--- The commands of a script, and how an input spells them: a command is one line and, where it has
--- one, a block.
+-- The parts of a script, and how an input spells them: a script is a header, a grammar, and then
+-- commands; each part is one line and, where it has one, a block.
 use Rattle.std.specs.Prelude.{◌≡◌, ℕ, ◌+◌, ◌^◌, ◌<◌, ◌≤◌, List, [], ◌∷◌, ◌++◌, length, codes}
 use Rattle.std.specs.Prelude.{decimal, All, IsAscii}
 use Rattle.spec_script.specs.declared.question.Constituent.{Constituent as Named}
@@ -15,12 +15,34 @@ Constituent = Named (List ℕ)
 pub data Query : Type 0 where
   has : (constituent : Constituent) → Query
 
--- the commands that are built so far
+-- the commands behind a grammar that are built so far
 pub data Command : Type 0 where
-  header : Command
-  grammar : (block : List ℕ) → Command
   opens : (text : List ℕ) → Command
   ask : (query : Query) → Command
+
+-- a part of a script: the header, a grammar, or a command
+pub data Part : Type 0 where
+  header : Part
+  grammar : (block : List ℕ) → Part
+  of_command : (command : Command) → Part
+
+-- a script up to where it ends: its front is nothing, the header alone, or the header and a
+-- grammar, and commands may stand behind the grammar
+pub data Script : Type 0 where
+  nothing : Script
+  header_alone : Script
+  with_grammar : (block : List ℕ) (commands : List Command) → Script
+
+-- the commands as parts
+abbrev pub as_parts : List Command → List Part
+as_parts [] = []
+as_parts (command ∷ commands) = of_command command ∷ as_parts commands
+
+-- the parts of the script
+abbrev pub parts_of : Script → List Part
+parts_of nothing = []
+parts_of header_alone = header ∷ []
+parts_of (with_grammar block commands) = header ∷ grammar block ∷ as_parts commands
 
 -- how a question's line names the constituent behind its first word, each part behind a space
 abbrev pub constituent_text : Constituent → List ℕ
@@ -33,23 +55,23 @@ constituent_text (CategorySpan category first end) =
 abbrev pub query_line : Query → List ℕ
 query_line (has constituent) = codes "has" ++ constituent_text constituent
 
--- the line of the command, without its LF
-abbrev pub line_of : Command → List ℕ
+-- the line of the part, without its LF
+abbrev pub line_of : Part → List ℕ
 line_of header = codes "script 1"
 line_of (grammar block) = codes "grammar " ++ decimal (length block)
-line_of (opens text) = codes "open " ++ decimal (length text)
-line_of (ask query) = query_line query
+line_of (of_command (opens text)) = codes "open " ++ decimal (length text)
+line_of (of_command (ask query)) = query_line query
 
 -- what stands behind the line's LF: a block and its LF, or nothing
-abbrev pub block_of : Command → List ℕ
+abbrev pub block_of : Part → List ℕ
 block_of header = []
 block_of (grammar block) = block ++ 10 ∷ []
-block_of (opens text) = text ++ 10 ∷ []
-block_of (ask query) = []
+block_of (of_command (opens text)) = text ++ 10 ∷ []
+block_of (of_command (ask query)) = []
 
--- the whole command
-abbrev pub text_of : Command → List ℕ
-text_of command = line_of command ++ (10 ∷ block_of command)
+-- the whole part
+abbrev pub text_of : Part → List ℕ
+text_of part = line_of part ++ (10 ∷ block_of part)
 
 -- no byte is a space or LF
 abbrev pub AreOfWord : List ℕ → Type 0
@@ -71,56 +93,79 @@ IsNameable (CategorySpan category first end) =
 abbrev pub IsAskable : Query → Type 0
 IsAskable (has constituent) = IsNameable constituent
 
--- the command keeps the limits: a grammar's block of as many bytes as nine digits can write, a
--- text of 4,096 bytes below 80 (hexadecimal), a query that can be asked, and a line of 256 bytes
-abbrev pub IsWithinLimits : Command → Type 0
+-- the part keeps the limits: a grammar's block of as many bytes as nine digits can write, a text
+-- of 4,096 bytes below 80 (hexadecimal), a query that can be asked, and a line of 256 bytes
+abbrev pub IsWithinLimits : Part → Type 0
 IsWithinLimits header = Unit {0}
 IsWithinLimits (grammar block) = length block < 10 ^ 9
-IsWithinLimits (opens text) = (length text ≤ 4096) × IsAscii text
-IsWithinLimits (ask query) = IsAskable query × (length (query_line query) ≤ 256)
+IsWithinLimits (of_command (opens text)) = (length text ≤ 4096) × IsAscii text
+IsWithinLimits (of_command (ask query)) = IsAskable query × (length (query_line query) ≤ 256)
 
 -- the commands are questions
 abbrev pub AreQuestions : List Command → Type 0
 AreQuestions [] = Unit {0}
 AreQuestions (ask query ∷ commands) = AreQuestions commands
-AreQuestions (command ∷ commands) = ⊥
+AreQuestions (opens text ∷ commands) = ⊥
 
--- the commands stand in the order of a script: the header, a grammar, a text, and questions; the
--- last ones may be absent
-abbrev pub IsInOrder : List Command → Type 0
-IsInOrder [] = Unit {0}
-IsInOrder (header ∷ []) = Unit {0}
-IsInOrder (header ∷ grammar block ∷ []) = Unit {0}
-IsInOrder (header ∷ grammar block ∷ opens text ∷ questions) = AreQuestions questions
-IsInOrder commands = ⊥
+-- the commands may stand behind a grammar: a text, and questions on it
+abbrev pub AreInOrder : List Command → Type 0
+AreInOrder [] = Unit {0}
+AreInOrder (opens text ∷ questions) = AreQuestions questions
+AreInOrder (ask query ∷ commands) = ⊥
 
--- a text is open, so that the line `end` may follow
-abbrev pub IsComplete : List Command → Type 0
-IsComplete (header ∷ grammar block ∷ opens text ∷ questions) = AreQuestions questions
-IsComplete commands = ⊥
+-- a text is open, and questions may stand behind it
+abbrev pub AreComplete : List Command → Type 0
+AreComplete [] = ⊥
+AreComplete (opens text ∷ questions) = AreQuestions questions
+AreComplete (ask query ∷ commands) = ⊥
 
--- the bytes from the offset `at` on begin with these commands, behind which `rest` stands at the
+-- the script's commands, if it has any, are in order
+abbrev pub IsInOrder : Script → Type 0
+IsInOrder nothing = Unit {0}
+IsInOrder header_alone = Unit {0}
+IsInOrder (with_grammar block commands) = AreInOrder commands
+
+-- the script has all that it needs, so that the line `end` may follow
+abbrev pub IsComplete : Script → Type 0
+IsComplete nothing = ⊥
+IsComplete header_alone = ⊥
+IsComplete (with_grammar block commands) = AreComplete commands
+
+-- behind the script the part is in its place: the header behind nothing, a grammar behind the
+-- header, and behind a grammar the next command in order
+abbrev pub MayFollow : Script → Part → Type 0
+MayFollow nothing header = Unit {0}
+MayFollow header_alone (grammar block) = Unit {0}
+MayFollow (with_grammar block commands) (of_command command) =
+    AreInOrder (commands ++ command ∷ [])
+MayFollow script part = ⊥
+
+-- the bytes from the offset `at` on begin with these parts, behind which `rest` stands at the
 -- offset `end`; each line begins below 2 ^ 48
-abbrev pub BeginsWithCommands : ℕ → List ℕ → List Command → ℕ → List ℕ → Type 0
-BeginsWithCommands at bytes [] end rest = (end ≡ at) × (rest ≡ bytes)
-BeginsWithCommands at bytes (command ∷ commands) end rest =
-    (more : List ℕ) × (at < 2 ^ 48) × IsWithinLimits command × (bytes ≡ text_of command ++ more)
-    × BeginsWithCommands (at + length (text_of command)) more commands end rest
+abbrev pub BeginsWithParts : ℕ → List ℕ → List Part → ℕ → List ℕ → Type 0
+BeginsWithParts at bytes [] end rest = (end ≡ at) × (rest ≡ bytes)
+BeginsWithParts at bytes (part ∷ parts) end rest =
+    (more : List ℕ) × (at < 2 ^ 48) × IsWithinLimits part × (bytes ≡ text_of part ++ more)
+    × BeginsWithParts (at + length (text_of part)) more parts end rest
 
--- at the offset `at` the rest goes on with one more command, in its place
-pub record GoesOn (commands : List Command) (at : ℕ) (rest : List ℕ) : Type 0 where
-  pub command : Command
+-- the input begins with the script, behind which `rest` stands at the offset `at`
+abbrev pub BeginsWithScript : List ℕ → Script → ℕ → List ℕ → Type 0
+BeginsWithScript input script at rest = BeginsWithParts 0 input (parts_of script) at rest
+
+-- at the offset `at` the rest goes on with one more part, in its place
+pub record GoesOn (script : Script) (at : ℕ) (rest : List ℕ) : Type 0 where
+  pub part : Part
   pub more : List ℕ
   pub early : at < 2 ^ 48
-  pub in_order : IsInOrder (commands ++ command ∷ [])
-  pub within_limits : IsWithinLimits command
-  pub spelled : rest ≡ text_of command ++ more
+  pub in_place : MayFollow script part
+  pub within_limits : IsWithinLimits part
+  pub spelled : rest ≡ text_of part ++ more
 
 -- at the offset `at` the rest begins with the line `end`, in its place
-pub record HasEndLine (commands : List Command) (at : ℕ) (rest : List ℕ) : Type 0 where
+pub record HasEndLine (script : Script) (at : ℕ) (rest : List ℕ) : Type 0 where
   pub more : List ℕ
   pub early : at < 2 ^ 48
-  pub complete : IsComplete commands
+  pub complete : IsComplete script
   pub spelled : rest ≡ codes "end" ++ (10 ∷ more)
 
 -- how a script ends: by its line `end`, or broken at this offset
@@ -128,18 +173,17 @@ pub data Ending : Type 0 where
   ended : Ending
   broken : (at : ℕ) → Ending
 
--- behind the commands the script ends so: its line `end` follows, or it is broken where neither
--- `end` nor a command follows
-abbrev pub EndsAs : List Command → ℕ → List ℕ → Ending → Type 0
-EndsAs commands at rest ended = HasEndLine commands at rest
-EndsAs commands at rest (broken place) =
-    (place ≡ at) × (GoesOn commands at rest → ⊥) × (HasEndLine commands at rest → ⊥)
+-- behind these parts the script ends so: its line `end` follows, or it is broken where neither
+-- `end` nor a part in its place follows
+abbrev pub EndsAs : Script → ℕ → List ℕ → Ending → Type 0
+EndsAs script at rest ended = HasEndLine script at rest
+EndsAs script at rest (broken place) =
+    (place ≡ at) × (GoesOn script at rest → ⊥) × (HasEndLine script at rest → ⊥)
 
--- the input is a script of these commands, which ends so; what stands behind its `end` or its break
--- has no effect
-pub record IsScript (input : List ℕ) (commands : List Command) (ending : Ending) : Type 0 where
+-- the input is this script, which ends so; what stands behind its `end` or its break has no effect
+pub record IsScript (input : List ℕ) (script : Script) (ending : Ending) : Type 0 where
   pub at : ℕ
   pub rest : List ℕ
-  pub in_order : IsInOrder commands
-  pub begins : BeginsWithCommands 0 input commands at rest
-  pub ends : EndsAs commands at rest ending
+  pub in_order : IsInOrder script
+  pub begins : BeginsWithScript input script at rest
+  pub ends : EndsAs script at rest ending

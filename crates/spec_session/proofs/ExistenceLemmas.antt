@@ -1,13 +1,15 @@
 -- Each input is a script, and the commands of a script have replies. So no input is without a session.
-use Rattle.std.proofs.Common.{◌≡◌, ℕ, zero, suc, ◌+◌, ◌^◌, ◌<◌, ◌⊎◌, inl, inr, List, [], ◌∷◌, ◌++◌, length, refl, sym, ◌∙◌, ap, arith, length-append}
+use Rattle.std.proofs.Common.{◌≡◌, ℕ, zero, suc, ◌+◌, ◌<◌, ◌⊎◌, inl, inr, List, [], ◌∷◌, ◌++◌, length, refl, sym, ap, subst, arith, length-append}
 use Rattle.std.proofs.lemmas.Bool.{cases_lt}
 use Rattle.spec_lexing.specs.declared.token.Token.{Token}
 use Rattle.spec_lexing.proofs.KindsLemmas.{some_tokens}
 use Rattle.spec_grammar.specs.Grammars.{Grammar}
-use Rattle.spec_script.specs.Script.{Constituent, Query, has, Command, header, grammar, opens, ask, line_of}
-use Rattle.spec_script.specs.Script.{block_of, text_of, IsWithinLimits, AreQuestions, IsInOrder}
-use Rattle.spec_script.specs.Script.{BeginsWithCommands, GoesOn, HasEndLine, Ending, ended, broken}
-use Rattle.spec_script.specs.Script.{IsScript}
+use Rattle.spec_script.specs.Script.{Constituent, Query, has, Command, opens, ask, Part, header, grammar}
+use Rattle.spec_script.specs.Script.{of_command, Script, nothing, header_alone, with_grammar, parts_of}
+use Rattle.spec_script.specs.Script.{as_parts, line_of, block_of, text_of, AreQuestions, AreInOrder}
+use Rattle.spec_script.specs.Script.{IsInOrder, MayFollow, BeginsWithParts, BeginsWithScript, GoesOn}
+use Rattle.spec_script.specs.Script.{HasEndLine, Ending, ended, broken, IsScript}
+use Rattle.spec_script.proofs.BeginningLemmas.{begins_more, parts_more}
 use Rattle.spec_session.specs.GrammarReplies.{grammar_reply}
 use Rattle.spec_session.specs.Steps.{version_reply, State, no_texts, with_text, IsCurrent}
 use Rattle.spec_session.specs.Answers.{HasCategory, first_of, end_of, IsWithin, IsOutside}
@@ -20,57 +22,48 @@ use Rattle.spec_session.proofs.DenialLemmas.{IsUndeniable, decided}
 use Rattle.spec_session.proofs.RunLemmas.{AreTold, replies_told}
 use Rattle.spec_session.proofs.VerdictLemmas.{HasVerdict, some_verdict}
 
--- a beginning and the command behind it are a beginning
-longer_beginning :
-    (commands : List Command) (at : ℕ) (bytes : List ℕ) (end : ℕ) (rest : List ℕ)
-    (command : Command) (more : List ℕ) →
-    BeginsWithCommands at bytes commands end rest →
-    end < 2 ^ 48 → IsWithinLimits command → rest ≡ text_of command ++ more →
-    BeginsWithCommands at bytes (commands ++ command ∷ []) (end + length (text_of command)) more
-longer_beginning [] at bytes end rest command more h early within spelled =
-    let place : end + length (text_of command) ≡ at + length (text_of command) =
-    ap (λ n. n + length (text_of command)) h.0 in
-    (more, omega (arith, h.0, early), within, sym h.1 ∙ spelled, (place, refl))
-longer_beginning (x ∷ commands) at bytes end rest command more h early within spelled =
-    let behind : ℕ = at + length (text_of x) in (
-      h.0,
-      h.1,
-      h.2,
-      h.3,
-      longer_beginning commands behind h.0 end rest command more h.4 early within spelled,
-    )
-
--- the bytes behind a command are fewer
+-- the bytes behind a part are fewer
 fewer_behind :
-    (command : Command) (rest more : List ℕ) →
-    rest ≡ text_of command ++ more → length more < length rest
-fewer_behind command rest more e =
+    (part : Part) (rest more : List ℕ) →
+    rest ≡ text_of part ++ more → length more < length rest
+fewer_behind part rest more e =
     omega (
       arith,
       ap length e,
-      length-append (text_of command) more,
-      length-append (line_of command) (10 ∷ block_of command),
+      length-append (text_of part) more,
+      length-append (line_of part) (10 ∷ block_of part),
     )
 
+-- a script and a part in its place are a longer script
+longer_script : (script : Script) (part : Part) → MayFollow script part →
+    (longer : Script) × IsInOrder longer × (parts_of longer ≡ parts_of script ++ part ∷ [])
+longer_script nothing header h = (header_alone, tt, refl)
+longer_script header_alone (grammar block) h = (with_grammar block [], tt, refl)
+longer_script (with_grammar block commands) (of_command command) h =
+    let parts : as_parts (commands ++ command ∷ []) ≡ as_parts commands ++ of_command command ∷ [] =
+    parts_more commands command in
+    (with_grammar block (commands ++ command ∷ []), h, ap (λ (ps : List Part). header ∷ grammar block ∷ ps) parts)
+longer_script script part h = absurd h
+
 module _ (input : List ℕ) where
-  -- the input is a script of some commands
+  -- the input is a script
   abbrev HasScript : Type 0
-  HasScript = (commands : List Command) × (ending : Ending) × IsScript input commands ending
+  HasScript = (script : Script) × (ending : Ending) × IsScript input script ending
 
   -- the input has a session
   abbrev HasSession : Type 0
   HasSession = (out : List ℕ) × (status : ℕ) × IsSession input out status
 
-  -- where an input goes on from a beginning by no command, a script ends or is broken there
+  -- where an input goes on by no part, a script ends or is broken there
   script_here :
-      (commands : List Command) (at : ℕ) (rest : List ℕ) →
-      IsInOrder commands → BeginsWithCommands 0 input commands at rest → (GoesOn commands at rest → ⊥) →
+      (script : Script) (at : ℕ) (rest : List ℕ) →
+      IsInOrder script → BeginsWithScript input script at rest → (GoesOn script at rest → ⊥) →
       IsUndeniable HasScript
-  script_here commands at rest in_order begins stops denied =
-      let Ends : Type 0 = HasEndLine commands at rest in
+  script_here script at rest in_order begins stops denied =
+      let Ends : Type 0 = HasEndLine script at rest in
       decided Ends (λ (split : Ends ⊎ (Ends → ⊥)). elim split [
         | inl end ↦ denied (
-          commands,
+          script,
           ended,
           record {
             at = at;
@@ -81,7 +74,7 @@ module _ (input : List ℕ) where
           },
         )
         | inr other ↦ denied (
-          commands,
+          script,
           broken at,
           record {
             at = at;
@@ -93,30 +86,32 @@ module _ (input : List ℕ) where
         )
       ])
 
-  -- from each beginning the input goes on to the end of a script: each command takes a byte or more
+  -- from each beginning the input goes on to the end of a script: each part takes a byte or more
   script_from :
-      (size : ℕ) (commands : List Command) (at : ℕ) (rest : List ℕ) →
-      length rest < size → IsInOrder commands → BeginsWithCommands 0 input commands at rest →
+      (size : ℕ) (script : Script) (at : ℕ) (rest : List ℕ) →
+      length rest < size → IsInOrder script → BeginsWithScript input script at rest →
       IsUndeniable HasScript
-  script_from zero commands at rest lt in_order begins denied = omega arith
-  script_from (suc size) commands at rest lt in_order begins denied =
-      let On : Type 0 = GoesOn commands at rest in
+  script_from zero script at rest lt in_order begins denied = omega arith
+  script_from (suc size) script at rest lt in_order begins denied =
+      let On : Type 0 = GoesOn script at rest in
       decided On (λ (split : On ⊎ (On → ⊥)). elim split [
         | inl on ↦
             let fewer : length on.more < length rest =
-            fewer_behind on.command rest on.more on.spelled in
-            let longer =
-            longer_beginning commands 0 input at rest on.command on.more begins
+            fewer_behind on.part rest on.more on.spelled in
+            let longer = longer_script script on.part on.in_place in
+            let place : ℕ = at + length (text_of on.part) in
+            let whole : BeginsWithParts 0 input (parts_of script ++ on.part ∷ []) place on.more =
+            begins_more (parts_of script) 0 at input rest on.part on.more begins
             on.early on.within_limits on.spelled in
-            script_from size
-            (commands ++ on.command ∷ []) (at + length (text_of on.command)) on.more
-            (omega arith) on.in_order longer denied
-        | inr stops ↦ script_here commands at rest in_order begins stops denied
+            let Begins : List Part → Type 0 = λ (parts : List Part). BeginsWithParts 0 input parts place on.more in
+            script_from size longer.0 place on.more
+            (omega arith) longer.1 (subst Begins (sym longer.2) whole) denied
+        | inr stops ↦ script_here script at rest in_order begins stops denied
       ])
 
   -- that an input is a script cannot be denied
   some_script : IsUndeniable HasScript
-  some_script = script_from (suc (length input)) [] 0 input (omega arith) tt (refl, refl)
+  some_script = script_from (suc (length input)) nothing 0 input (omega arith) tt (refl, refl)
 
 module _ (g : Grammar) (tokens : List Token) (constituent : Constituent) where
   -- whether the constituent is derived has an answer
@@ -184,14 +179,14 @@ module _ (g : Grammar) where
         answer.0 ++ others.0,
         (answer.0, others.0, state, (text, tokens.0, current, tokens.1, answer.1), refl, refl, others.1),
       )))
-  some_replies state text current (command ∷ questions) are denied = are
+  some_replies state text current (opens other ∷ questions) are denied = are
 
-  -- a text and the questions behind it have replies
-  replies_from_text :
-      (text : List ℕ)
-      (questions : List Command) → AreQuestions questions →
-      IsUndeniable ((out : List ℕ) × AreTold g no_texts (opens text ∷ questions) out)
-  replies_from_text text questions are denied =
+  -- the commands behind a grammar have replies
+  replies_in_order :
+      (commands : List Command) → AreInOrder commands →
+      IsUndeniable ((out : List ℕ) × AreTold g no_texts commands out)
+  replies_in_order [] are denied = denied ([], refl)
+  replies_in_order (opens text ∷ questions) are denied =
       let tokens = some_tokens g.lexicon text in
       let line : List ℕ = version_reply 0 (length tokens.0) in
       some_replies (with_text no_texts text) text ([], refl) questions are
@@ -200,60 +195,50 @@ module _ (g : Grammar) where
         line ++ others.0,
         (line, others.0, with_text no_texts text, (tokens.0, tokens.1, refl), refl, refl, others.1),
       ))
-
--- the commands behind a grammar have replies, whatever the grammar is
-abbrev HaveReplies : List Command → Type 0
-HaveReplies commands =
-    (g : Grammar) → IsUndeniable ((out : List ℕ) × AreTold g no_texts commands out)
+  replies_in_order (ask query ∷ commands) are denied = are
 
 module _ (input : List ℕ) where
-  -- a script with a grammar has a session, where the commands behind the grammar have replies
+  -- a script with a grammar has a session
   session_of_grammar :
       (block : List ℕ) (commands : List Command) (ending : Ending) →
-      IsScript input (header ∷ grammar block ∷ commands) ending → HaveReplies commands →
-      IsUndeniable (HasSession input)
-  session_of_grammar block commands ending script replies denied =
+      IsScript input (with_grammar block commands) ending → IsUndeniable (HasSession input)
+  session_of_grammar block commands ending script denied =
       let h = script.begins in
       some_verdict block (λ (split : HasVerdict block). elim split [
-        | inl accepted ↦ replies accepted.0
+        | inl accepted ↦ replies_in_order accepted.0 commands script.in_order
             (λ (told : (out : List ℕ) × AreTold accepted.0 no_texts commands out).
             let all : List ℕ = grammar_reply accepted.0 ++ told.0 in
             let replied = replies_told accepted.0 no_texts commands told.0 told.1 in
             denied (
               all ++ last_line ending,
               last_status ending,
-              whole (header ∷ grammar block ∷ commands) ending all script
+              whole (with_grammar block commands) ending all script
                   (accepted.0, told.0, accepted.1, replied, refl) refl refl,
             ))
         | inr refusal ↦
             let end : ℕ = length (text_of header) + length (text_of (grammar block)) in
-            let begins : BeginsWithCommands 0 input (header ∷ grammar block ∷ []) end h.4.0 =
+            let begins : BeginsWithScript input (with_grammar block []) end h.4.0 =
             (h.0, h.1, h.2, h.3, (h.4.0, h.4.1, h.4.2, h.4.3, (refl, refl))) in
             denied (refusal.0, 2, refused block h.4.0 end begins refusal.1 refl)
       ])
 
   -- the input has a session by each script that it is
   session_of :
-      (commands : List Command) (ending : Ending) →
-      IsInOrder commands → IsScript input commands ending → IsUndeniable (HasSession input)
-  session_of [] ending in_order script denied =
+      (script : Script) (ending : Ending) → IsScript input script ending → IsUndeniable (HasSession input)
+  session_of nothing ending script denied =
       let session : IsSession input (last_line ending) (last_status ending) =
-      whole [] ending [] script refl refl refl in
+      whole nothing ending [] script refl refl refl in
       denied (last_line ending, last_status ending, session)
-  session_of (header ∷ []) ending in_order script denied =
+  session_of header_alone ending script denied =
       let session : IsSession input (last_line ending) (last_status ending) =
-      whole (header ∷ []) ending [] script refl refl refl in
+      whole header_alone ending [] script refl refl refl in
       denied (last_line ending, last_status ending, session)
-  session_of (header ∷ grammar block ∷ []) ending in_order script denied =
-      session_of_grammar block [] ending script (λ g none. none ([], refl)) denied
-  session_of (header ∷ grammar block ∷ opens text ∷ questions) ending in_order script denied =
-      session_of_grammar block (opens text ∷ questions) ending script
-      (λ g. replies_from_text g text questions in_order) denied
-  session_of commands ending in_order script denied = in_order
+  session_of (with_grammar block commands) ending script denied =
+      session_of_grammar block commands ending script denied
 
 -- no input is without a session
 pub some_session : SomeSession
 some_session input denied =
     some_script input (λ (found : HasScript input).
-    session_of input found.0 found.1 found.2.in_order found.2
+    session_of input found.0 found.1 found.2
     (λ (session : HasSession input). denied session.0 session.1 session.2))

@@ -10,7 +10,7 @@ use Rattle.spec_lbnf.specs.declared.definition.Def.{Def}
 use Rattle.spec_lbnf.specs.Checks.{IsUnfit}
 use Rattle.lbnf_readers.proofs.FaultLemmas.{one_file_of_defs, one_first_fault, spelled_or_faulty}
 use Rattle.spec_lbnf.proofs.CheckLemmas.{fit_or_unfit, one_unfitness}
-use Rattle.spec_script.specs.Script.{Constituent, Query, has, Command, header, grammar, opens, ask}
+use Rattle.spec_script.specs.Script.{Constituent, Query, has, Command, opens, ask}
 use Rattle.spec_session.specs.GrammarReplies.{IsAccepted, IsRefused, IsRefusedFor, faulty, unfit}
 use Rattle.spec_session.specs.GrammarReplies.{too_many_symbols, fault_reason, unfit_reason}
 use Rattle.spec_session.specs.GrammarReplies.{symbols_reason, refusal_line}
@@ -132,8 +132,6 @@ one_tokens g text tokens others h k = one_token_list MatchesKind token_kind (lex
 -- a command has one reply
 pub one_reply : (g : Grammar) (state : State) (command : Command) (line other : List ℕ) →
     IsReply g state command line → IsReply g state command other → line ≡ other
-one_reply g state header line other h k = absurd h
-one_reply g state (grammar block) line other h k = absurd h
 one_reply g state (opens text) line other h k =
     let same : h.0 ≡ k.0 = one_tokens g text h.0 k.0 h.1 k.1 in
     let replies = ap (λ (tokens : List Token). version_reply (length state.texts) (length tokens)) same in

@@ -1,7 +1,7 @@
 -- A run, one step after another: what it replies to its first command, and what to those behind it.
 use Rattle.std.proofs.Common.{◌≡◌, ℕ, List, [], ◌∷◌, ◌++◌, length, drop, get_or, refl, sym, ◌∙◌, ap, subst, arith}
 use Rattle.spec_grammar.specs.Grammars.{Grammar}
-use Rattle.spec_script.specs.Script.{Command, header, grammar, opens, ask}
+use Rattle.spec_script.specs.Script.{Command, opens, ask}
 use Rattle.spec_session.specs.Steps.{State, IsReply, Leaves, Step, IsStep}
 use Rattle.spec_session.specs.Runs.{IsRun, commands_of, replies_of, AreReplies}
 use Rattle.spec_session.specs.Laws.{OneRun}
@@ -17,7 +17,7 @@ AreTold g from (command ∷ commands) out =
 -- the first of some commands
 first_command : (command other : Command) (commands others : List Command) →
     command ∷ commands ≡ other ∷ others → command ≡ other
-first_command command other commands others e = ap (λ (all : List Command). get_or all 0 header) e
+first_command command other commands others e = ap (λ (all : List Command). get_or all 0 (opens [])) e
 
 -- where a run begins with a step
 module _ (g : Grammar) (from : State) (command : Command) (step : Step)
@@ -75,8 +75,6 @@ replies_told g from (command ∷ commands) out (line, rest, after, reply, leaves
 -- a command leaves one state
 pub one_after : (command : Command) (before after other : State) → Leaves command before after →
     Leaves command before other → after ≡ other
-one_after header before after other h k = h ∙ sym k
-one_after (grammar block) before after other h k = h ∙ sym k
 one_after (opens text) before after other h k = h ∙ sym k
 one_after (ask query) before after other h k = h ∙ sym k
 

@@ -1,14 +1,14 @@
 -- An input has one session: the replies to its commands in order, and behind them its last line.
-use Rattle.std.proofs.Common.{inl, inr, ◌≡◌, ℕ, ◌+◌, List, [], ◌∷◌, ◌++◌, length, refl, sym, ◌∙◌, ap, subst, arith, append_assoc, append-nil, length-append}
+use Rattle.std.proofs.Common.{inl, inr, ◌≡◌, ℕ, ◌+◌, List, [], ◌∷◌, ◌++◌, length, refl, sym, ◌∙◌, ap, subst, arith, drop, append_assoc, append-nil, length-append}
 use Rattle.std.proofs.lemmas.List.{nil_from_length}
 use Rattle.spec_grammar.specs.Grammars.{Grammar}
-use Rattle.spec_script.specs.Script.{Command, header, grammar, BeginsWithCommands, Ending, IsScript}
+use Rattle.spec_script.specs.Script.{Command, Part, Script, nothing, header_alone, with_grammar, parts_of, BeginsWithScript, Ending, IsScript}
 use Rattle.spec_session.specs.GrammarReplies.{IsRefused, grammar_reply}
 use Rattle.spec_session.specs.Steps.{State, no_texts}
 use Rattle.spec_session.specs.Runs.{AreReplies}
 use Rattle.spec_session.specs.Sessions.{AreAllReplies, last_line, last_status, IsSession, refused, whole}
 use Rattle.spec_session.specs.Laws.{OneSession, RepliesComeFirst, RepliesThenLastLine, RefusalIsAll}
-use Rattle.spec_script.proofs.BeginningLemmas.{two_beginnings, script_goes_on, same_script}
+use Rattle.spec_script.proofs.BeginningLemmas.{two_beginnings, commands_behind, second_block, script_goes_on, same_script}
 use Rattle.spec_session.proofs.RunLemmas.{AreTold, told_of, one_after}
 use Rattle.spec_session.proofs.RepliesLemmas.{one_grammar, accepted_or_refused, one_refusal, one_reply}
 
@@ -48,90 +48,99 @@ replies_start g from commands behind told out h k =
     told_start g from commands behind told out (told_of g from commands told h)
     (told_of g from (commands ++ behind) out k)
 
--- so are the replies to the first commands of a script
-all_replies_start : (commands behind : List Command) (told out : List ℕ) →
-    AreAllReplies commands told → AreAllReplies (commands ++ behind) out → StartsWith out told
-all_replies_start [] behind told out h k = (out, rw h refl)
-all_replies_start (header ∷ []) behind told out h k = (out, rw h refl)
-all_replies_start (header ∷ grammar block ∷ commands) behind told out h k =
-    let one : k.0 ≡ h.0 = one_grammar block k.0 h.0 k.2 h.2 in
+-- so are the replies to the first part of a script behind its grammar
+grammar_start : (block : List ℕ) (commands : List Command) (other : List ℕ) (longer : List Command)
+    (behind : List Part) (told out : List ℕ) →
+    parts_of (with_grammar other longer) ≡ parts_of (with_grammar block commands) ++ behind →
+    AreAllReplies (with_grammar block commands) told → AreAllReplies (with_grammar other longer) out →
+    StartsWith out told
+grammar_start block commands other longer behind told out e h k =
+    let f = commands_behind commands longer behind (ap (drop 2) e) in
+    let blocks : other ≡ block = ap second_block e in
+    let one : k.0 ≡ h.0 = one_grammar block k.0 h.0 (rw (sym blocks) k.2) h.2 in
     let again : out ≡ grammar_reply h.0 ++ k.1 = k.4 ∙ ap (λ g. grammar_reply g ++ k.1) one in
-    let replies : AreReplies h.0 no_texts (commands ++ behind) k.1 = rw (sym one) k.3 in
-    let tail = replies_start h.0 no_texts commands behind h.1 k.1 h.3 replies in
+    let replies : AreReplies h.0 no_texts (commands ++ f.0) k.1 = rw (sym one, sym f.1) k.3 in
+    let tail = replies_start h.0 no_texts commands f.0 h.1 k.1 h.3 replies in
     starts_after (grammar_reply h.0) out k.1 told h.1 h.4 again tail
-all_replies_start commands behind told out h k = absurd h
 
--- commands have one text of replies
-same_replies : (commands : List Command) (told out : List ℕ) →
-    AreAllReplies commands told → AreAllReplies commands out → told ≡ out
-same_replies commands told out h k =
-    let longer : (bytes : List ℕ) → AreAllReplies commands bytes → AreAllReplies (commands ++ []) bytes =
-    λ bytes replies. rw (append-nil commands) replies in
+-- and those to a script of which another is a beginning
+all_replies_start : (script longer : Script) (behind : List Part) (told out : List ℕ) →
+    parts_of longer ≡ parts_of script ++ behind → AreAllReplies script told → AreAllReplies longer out →
+    StartsWith out told
+all_replies_start nothing longer behind told out e h k = (out, rw h refl)
+all_replies_start header_alone longer behind told out e h k = (out, rw h refl)
+all_replies_start (with_grammar block commands) nothing behind told out e h k = absurd (omega (arith, ap length e))
+all_replies_start (with_grammar block commands) header_alone behind told out e h k =
+    absurd (omega (arith, ap length e))
+all_replies_start (with_grammar block commands) (with_grammar other longer) behind told out e h k =
+    grammar_start block commands other longer behind told out e h k
+
+-- a script has one text of replies
+same_replies : (script : Script) (told out : List ℕ) →
+    AreAllReplies script told → AreAllReplies script out → told ≡ out
+same_replies script told out h k =
+    let whole : parts_of script ≡ parts_of script ++ [] = sym (append-nil (parts_of script)) in
     same_starts told out
-    (all_replies_start commands [] out told k (longer told h))
-    (all_replies_start commands [] told out h (longer out k))
-
--- the block of the grammar behind the header
-abbrev block_behind : List Command → List ℕ
-block_behind (header ∷ grammar block ∷ commands) = block
-block_behind commands = []
+    (all_replies_start script script [] out told whole k h)
+    (all_replies_start script script [] told out whole h k)
 
 -- where a grammar is refused
 module _ (block line : List ℕ) (refusal : IsRefused block line) where
-  -- commands that begin with it have no replies
-  no_replies : (commands behind : List Command) (told : List ℕ) →
-      commands ≡ (header ∷ grammar block ∷ []) ++ behind → AreAllReplies commands told → ⊥
-  no_replies commands behind told e h =
-      let replies = subst (λ all. AreAllReplies all told) e h in
-      accepted_or_refused block line replies.0 replies.2 refusal
+  -- a script that begins with it has no replies
+  no_replies : (script : Script) (behind : List Part) (told : List ℕ) →
+      parts_of script ≡ parts_of (with_grammar block []) ++ behind → AreAllReplies script told → ⊥
+  no_replies nothing behind told e h = omega (arith, ap length e)
+  no_replies header_alone behind told e h = omega (arith, ap length e)
+  no_replies (with_grammar other commands) behind told e h =
+      let same : other ≡ block = ap second_block e in
+      accepted_or_refused block line h.0 (rw (sym same) h.2) refusal
 
   -- before it nothing is told
-  nothing_told : (commands behind : List Command) (told : List ℕ) →
-      header ∷ grammar block ∷ [] ≡ commands ++ behind → AreAllReplies commands told → told ≡ []
-  nothing_told [] behind told e h = h
-  nothing_told (header ∷ []) behind told e h = h
-  nothing_told (header ∷ grammar other ∷ commands) behind told e h =
-      let same : block ≡ other = ap block_behind e in
+  nothing_told : (script : Script) (behind : List Part) (told : List ℕ) →
+      parts_of (with_grammar block []) ≡ parts_of script ++ behind → AreAllReplies script told → told ≡ []
+  nothing_told nothing behind told e h = h
+  nothing_told header_alone behind told e h = h
+  nothing_told (with_grammar other commands) behind told e h =
+      let same : block ≡ other = ap second_block e in
       absurd (accepted_or_refused block line h.0 (rw same h.2) refusal)
-  nothing_told commands behind told e h = absurd h
 
 -- where an input is a script with these replies
-module _ (input : List ℕ) (commands : List Command) (ending : Ending) (told : List ℕ)
-    (s : IsScript input commands ending) (replies : AreAllReplies commands told) where
+module _ (input : List ℕ) (script : Script) (ending : Ending) (told : List ℕ)
+    (s : IsScript input script ending) (replies : AreAllReplies script told) where
   -- its session tells the replies and the last line, and has the status of the script's end
   pub script_session : (out : List ℕ) (status : ℕ) → IsSession input out status →
       (out ≡ told ++ last_line ending) × (status ≡ last_status ending)
   script_session out status (refused block rest at begins refusal e) =
-      let f = script_goes_on input commands ending s (header ∷ grammar block ∷ []) at rest begins tt in
-      absurd (no_replies block out refusal commands f.0 told f.1 replies)
-  script_session out status (whole others final bytes t k e d) =
-      let same = same_script input others final t commands ending s in
-      let again : AreAllReplies commands bytes = subst (λ all. AreAllReplies all bytes) same.0 k in
-      let one : bytes ≡ told = same_replies commands bytes told again replies in
+      let f = script_goes_on input script ending s (with_grammar block []) at rest begins tt in
+      absurd (no_replies block out refusal script f.0 told f.1 replies)
+  script_session out status (whole other final bytes t k e d) =
+      let same = same_script input other final t script ending s in
+      let again : AreAllReplies script bytes = subst (λ all. AreAllReplies all bytes) same.0 k in
+      let one : bytes ≡ told = same_replies script bytes told again replies in
       let last : bytes ++ last_line final ≡ told ++ last_line ending =
       ap (λ front. front ++ last_line final) one ∙ ap (λ end. told ++ last_line end) same.1 in
       (e ∙ last, d ∙ ap last_status same.1)
 
 -- where an input begins with a header and a grammar that is refused
 module _ (input block line : List ℕ) (at : ℕ) (rest : List ℕ)
-    (begins : BeginsWithCommands 0 input (header ∷ grammar block ∷ []) at rest) (refusal : IsRefused block line) where
+    (begins : BeginsWithScript input (with_grammar block []) at rest) (refusal : IsRefused block line) where
   -- the grammar behind the header is this one
   same_block : (other : List ℕ) (place : ℕ) (more : List ℕ) →
-      BeginsWithCommands 0 input (header ∷ grammar other ∷ []) place more → block ≡ other
+      BeginsWithScript input (with_grammar other []) place more → block ≡ other
   same_block other place more k =
-      let front : List Command = header ∷ grammar block ∷ [] in
-      elim (two_beginnings front (header ∷ grammar other ∷ []) 0 at place input rest more begins k) [
-        | inl f ↦ sym (ap block_behind f.1)
-        | inr f ↦ ap block_behind f.1
+      let front : List Part = parts_of (with_grammar block []) in
+      elim (two_beginnings front (parts_of (with_grammar other [])) 0 at place input rest more begins k) [
+        | inl f ↦ sym (ap second_block f.1)
+        | inr f ↦ ap second_block f.1
       ]
 
   -- the session tells the refusal alone, and has status 2
   pub refused_session : (out : List ℕ) (status : ℕ) → IsSession input out status → (out ≡ line) × (status ≡ 2)
   refused_session out status (refused other more place k refusal' e) =
       (one_refusal block out line (rw (same_block other place more k) refusal') refusal, e)
-  refused_session out status (whole commands ending replies s k e d) =
-      let f = script_goes_on input commands ending s (header ∷ grammar block ∷ []) at rest begins tt in
-      absurd (no_replies block line refusal commands f.0 replies f.1 k)
+  refused_session out status (whole script ending replies s k e d) =
+      let f = script_goes_on input script ending s (with_grammar block []) at rest begins tt in
+      absurd (no_replies block line refusal script f.0 replies f.1 k)
 
 -- where the grammar is refused, the refusal is all that is told
 pub refusal_is_all : RefusalIsAll
@@ -140,20 +149,20 @@ refusal_is_all input block line at rest begins refusal out status session =
 
 -- behind the replies to a script its last line is told, and nothing more
 pub replies_then_last_line : RepliesThenLastLine
-replies_then_last_line input commands ending told s replies out status session =
-    script_session input commands ending told s replies out status session
+replies_then_last_line input script ending told s replies out status session =
+    script_session input script ending told s replies out status session
 
--- the replies to the first commands are told first
+-- the replies to the first parts are told first
 pub replies_come_first : RepliesComeFirst
 replies_come_first input front at rest told h in_order replies out status (refused block more place k refusal e) =
-    elim (two_beginnings front (header ∷ grammar block ∷ []) 0 at place input rest more h k) [
+    let refused_parts : List Part = parts_of (with_grammar block []) in
+    elim (two_beginnings (parts_of front) refused_parts 0 at place input rest more h k) [
       | inl f ↦ (out, rw (nothing_told block out refusal front f.0 told f.1 replies) refl)
       | inr f ↦ absurd (no_replies block out refusal front f.0 told f.1 replies)
     ]
-replies_come_first input front at rest told h in_order replies out status (whole commands ending all s k e d) =
-    let f = script_goes_on input commands ending s front at rest h in_order in
-    let again : AreAllReplies (front ++ f.0) all = subst (λ these. AreAllReplies these all) f.1 k in
-    let start = all_replies_start front f.0 told all replies again in
+replies_come_first input front at rest told h in_order replies out status (whole script ending all s k e d) =
+    let f = script_goes_on input script ending s front at rest h in_order in
+    let start = all_replies_start front script f.0 told all f.1 replies k in
     let last : all ++ last_line ending ≡ told ++ (start.0 ++ last_line ending) =
     ap (λ bytes. bytes ++ last_line ending) start.1 ∙ append_assoc told start.0 (last_line ending) in
     (start.0 ++ last_line ending, e ∙ last)
@@ -163,6 +172,6 @@ pub one_session : OneSession
 one_session input out other status final (refused block rest at h refusal e) session =
     let same = refused_session input block out at rest h refusal other final session in
     (sym same.0, e ∙ sym same.1)
-one_session input out other status final (whole commands ending replies s h e d) session =
-    let same = script_session input commands ending replies s h other final session in
+one_session input out other status final (whole script ending replies s h e d) session =
+    let same = script_session input script ending replies s h other final session in
     (e ∙ sym same.0, d ∙ sym same.1)

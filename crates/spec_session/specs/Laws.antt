@@ -1,6 +1,6 @@
 -- What is true of each input: it has one session, whose replies come in order.
-use Rattle.std.specs.Prelude.{◌≡◌, ℕ, List, [], ◌∷◌, ◌++◌}
-use Rattle.spec_script.specs.Script.{Command, header, grammar, IsInOrder, BeginsWithCommands}
+use Rattle.std.specs.Prelude.{◌≡◌, ℕ, List, [], ◌++◌}
+use Rattle.spec_script.specs.Script.{Command, Script, with_grammar, IsInOrder, BeginsWithScript}
 use Rattle.spec_script.specs.Script.{Ending, IsScript}
 use Rattle.spec_grammar.specs.Grammars.{Grammar}
 use Rattle.spec_session.specs.GrammarReplies.{IsRefused}
@@ -21,20 +21,20 @@ OneSession =
     IsSession input out status → IsSession input other final →
     (out ≡ other) × (status ≡ final)
 
--- where an input begins with these commands, in order, its session writes the replies to them first
+-- where an input begins with a script, in order, its session writes the replies to it first
 abbrev pub RepliesComeFirst : Type 0
 RepliesComeFirst =
-    (input : List ℕ) (front : List Command) (at : ℕ) (rest told : List ℕ) →
-    BeginsWithCommands 0 input front at rest → IsInOrder front → AreAllReplies front told →
+    (input : List ℕ) (front : Script) (at : ℕ) (rest told : List ℕ) →
+    BeginsWithScript input front at rest → IsInOrder front → AreAllReplies front told →
     (out : List ℕ) (status : ℕ) → IsSession input out status →
     (more : List ℕ) × (out ≡ told ++ more)
 
--- where an input is a script whose commands have replies, its session writes these and the last
--- line, and ends with the status of the script's end
+-- where an input is a script that has replies, its session writes these and the last line, and ends
+-- with the status of the script's end
 abbrev pub RepliesThenLastLine : Type 0
 RepliesThenLastLine =
-    (input : List ℕ) (commands : List Command) (ending : Ending) (told : List ℕ) →
-    IsScript input commands ending → AreAllReplies commands told →
+    (input : List ℕ) (script : Script) (ending : Ending) (told : List ℕ) →
+    IsScript input script ending → AreAllReplies script told →
     (out : List ℕ) (status : ℕ) → IsSession input out status →
     (out ≡ told ++ last_line ending) × (status ≡ last_status ending)
 
@@ -43,6 +43,6 @@ RepliesThenLastLine =
 abbrev pub RefusalIsAll : Type 0
 RefusalIsAll =
     (input block line : List ℕ) (at : ℕ) (rest : List ℕ) →
-    BeginsWithCommands 0 input (header ∷ grammar block ∷ []) at rest → IsRefused block line →
+    BeginsWithScript input (with_grammar block []) at rest → IsRefused block line →
     (out : List ℕ) (status : ℕ) → IsSession input out status →
     (out ≡ line) × (status ≡ 2)

@@ -3,7 +3,7 @@ use Rattle.std.specs.Prelude.{◌≡◌, ℕ, List, [], ◌∷◌, ◌++◌, len
 use Rattle.spec_lexing.specs.declared.token.Token.{Token}
 use Rattle.spec_lexing.specs.Tokens.{AreTokensOf}
 use Rattle.spec_grammar.specs.Grammars.{Grammar}
-use Rattle.spec_script.specs.Script.{Command, header, grammar, opens, ask}
+use Rattle.spec_script.specs.Script.{Command, opens, ask}
 use Rattle.spec_session.specs.Lines.{as_line}
 use Rattle.spec_session.specs.Answers.{IsAnswer}
 
@@ -30,8 +30,6 @@ IsCurrent state text = (older : List (List ℕ)) × (state.texts ≡ older ++ te
 
 -- the reply to a text or a question, under a grammar and in a state
 abbrev pub IsReply : Grammar → State → Command → List ℕ → Type 0
-IsReply g state header line = ⊥
-IsReply g state (grammar block) line = ⊥
 IsReply g state (opens text) line =
     (tokens : List Token) × AreTokensOf g.lexicon text tokens
     × (line ≡ version_reply (length state.texts) (length tokens))
@@ -41,8 +39,6 @@ IsReply g state (ask query) line =
 
 -- what a command leaves: a text that is opened is the next one, and a question changes nothing
 abbrev pub Leaves : Command → State → State → Type 0
-Leaves header before after = after ≡ before
-Leaves (grammar block) before after = after ≡ before
 Leaves (opens text) before after = after ≡ with_text before text
 Leaves (ask query) before after = after ≡ before
 

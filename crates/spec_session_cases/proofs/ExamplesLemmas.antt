@@ -16,13 +16,14 @@ use Rattle.lbnf_readers.specs.FileReading.{next_on, take_token, sign_at, name_at
 use Rattle.lbnf_readers.specs.FileDefinitions.{piece_def, defs_at}
 use Rattle.lbnf_readers.proofs.ScanLemmas.{scanned}
 use Rattle.lbnf_readers.proofs.FaultLemmas.{defs_are, fault_is}
-use Rattle.spec_script.specs.Script.{Command, header, grammar, opens, ask, line_of, block_of}
-use Rattle.spec_script.specs.Script.{text_of, IsWithinLimits, IsInOrder, broken, IsScript}
+use Rattle.spec_script.specs.Script.{Part, header, grammar, of_command, nothing, header_alone}
+use Rattle.spec_script.specs.Script.{line_of, block_of, text_of, IsWithinLimits, MayFollow, broken}
+use Rattle.spec_script.specs.Script.{IsScript}
 use Rattle.spec_session.specs.Lines.{as_line, with_number}
 use Rattle.spec_session.specs.GrammarReplies.{IsRefused, faulty, unfit, fault_reason, unfit_reason}
 use Rattle.spec_session.specs.GrammarReplies.{refusal_line}
 use Rattle.spec_session.specs.Sessions.{last_line, IsSession, refused, whole}
-use Rattle.spec_script.proofs.ScriptLemmas.{tested, command_line, same_rest, same_number}
+use Rattle.spec_script.proofs.ScriptLemmas.{tested, part_line, same_rest, same_number}
 
 -- the line that refuses a script at a place of one digit
 abbrev refused_at : ℕ → List ℕ
@@ -33,30 +34,29 @@ broken_line : (place : ℕ) → place < 10 → refused_at place ≡ last_line (b
 broken_line place small =
     ap (λ digits. codes "script refused " ++ as_line digits) (sym (decimal_digit place small))
 
--- a command has a byte or more
-pub command_is_some : (command : Command) (more : List ℕ) → [] ≡ text_of command ++ more → ⊥
-command_is_some command more e =
+-- a part has a byte or more
+pub part_is_some : (part : Part) (more : List ℕ) → [] ≡ text_of part ++ more → ⊥
+part_is_some part more e =
     omega (
       arith,
       ap length e,
-      length-append (text_of command) more,
-      length-append (line_of command) (10 ∷ block_of command),
+      length-append (text_of part) more,
+      length-append (line_of part) (10 ∷ block_of part),
     )
 
 -- an input that does not begin with the header
 module _ (input : List ℕ) (other : (more : List ℕ) → input ≡ codes "script 1\n" ++ more → ⊥) where
-  -- begins with no command in its place
-  no_first : (command : Command) (more : List ℕ) → IsInOrder (command ∷ []) → input ≡ text_of command ++ more → ⊥
-  no_first header more in_order e = other more e
-  no_first (grammar block) more in_order e = in_order
-  no_first (opens text) more in_order e = in_order
-  no_first (ask query) more in_order e = in_order
+  -- begins with no part in its place
+  no_first : (part : Part) (more : List ℕ) → MayFollow nothing part → input ≡ text_of part ++ more → ⊥
+  no_first header more in_place e = other more e
+  no_first (grammar block) more in_place e = in_place
+  no_first (of_command command) more in_place e = in_place
 
   -- so it is a script that breaks at its first byte
   pub refused_at_0 : IsSession input (refused_at 0) 3
-  refused_at_0 = whole [] (broken 0) [] script refl (broken_line 0 (omega arith)) refl
+  refused_at_0 = whole nothing (broken 0) [] script refl (broken_line 0 (omega arith)) refl
     where
-      script : IsScript input [] (broken 0)
+      script : IsScript input nothing (broken 0)
       script = record {
         at = 0;
         rest = input;
@@ -64,25 +64,24 @@ module _ (input : List ℕ) (other : (more : List ℕ) → input ≡ codes "scri
         begins = (refl, refl);
         ends = (
           refl,
-          (λ go. no_first go.command go.more go.in_order go.spelled),
+          (λ go. no_first go.part go.more go.in_place go.spelled),
           (λ end. end.complete),
         );
       }
 
 -- an input that begins with the header, behind which no grammar stands
 module _ (rest : List ℕ) (other : (block more : List ℕ) → IsWithinLimits (grammar block) → rest ≡ text_of (grammar block) ++ more → ⊥) where
-  -- goes on with no command in its place
-  no_second : (command : Command) (more : List ℕ) → IsInOrder (header ∷ command ∷ []) → IsWithinLimits command → rest ≡ text_of command ++ more → ⊥
-  no_second header more in_order within e = in_order
-  no_second (grammar block) more in_order within e = other block more within e
-  no_second (opens text) more in_order within e = in_order
-  no_second (ask query) more in_order within e = in_order
+  -- goes on with no part in its place
+  no_second : (part : Part) (more : List ℕ) → MayFollow header_alone part → IsWithinLimits part → rest ≡ text_of part ++ more → ⊥
+  no_second header more in_place within e = in_place
+  no_second (grammar block) more in_place within e = other block more within e
+  no_second (of_command command) more in_place within e = in_place
 
   -- so it is a script that breaks behind the header
   pub refused_at_9 : IsSession (codes "script 1\n" ++ rest) (refused_at 9) 3
-  refused_at_9 = whole (header ∷ []) (broken 9) [] script refl (broken_line 9 (omega arith)) refl
+  refused_at_9 = whole header_alone (broken 9) [] script refl (broken_line 9 (omega arith)) refl
     where
-      script : IsScript (codes "script 1\n" ++ rest) (header ∷ []) (broken 9)
+      script : IsScript (codes "script 1\n" ++ rest) header_alone (broken 9)
       script = record {
         at = 9;
         rest = rest;
@@ -90,7 +89,7 @@ module _ (rest : List ℕ) (other : (block more : List ℕ) → IsWithinLimits (
         begins = (rest, omega arith, tt, refl, (refl, refl));
         ends = (
           refl,
-          (λ go. no_second go.command go.more go.in_order go.within_limits go.spelled),
+          (λ go. no_second go.part go.more go.in_place go.within_limits go.spelled),
           (λ end. end.complete),
         );
       }
@@ -98,7 +97,7 @@ module _ (rest : List ℕ) (other : (block more : List ℕ) → IsWithinLimits (
 -- a block that is shorter than its line says is none
 pub short_block : (block more : List ℕ) → IsWithinLimits (grammar block) → codes "grammar 2\n;\n" ≡ text_of (grammar block) ++ more → ⊥
 short_block block more within e =
-    let lines = command_line (grammar block) (codes "grammar 2") (codes ";\n") more within (tested 10 (codes "grammar 2") refl) e in
+    let lines = part_line (grammar block) (codes "grammar 2") (codes ";\n") more within (tested 10 (codes "grammar 2") refl) e in
     let digits : codes "2" ≡ decimal (length block) = same_rest (codes "grammar ") (codes "2") (decimal (length block)) lines.0 in
     let two : decimal 2 ≡ decimal (length block) = decimal_digit 2 (omega arith) ∙ digits in
     let size : 2 ≡ length block = same_number 2 (length block) (omega arith) within two in

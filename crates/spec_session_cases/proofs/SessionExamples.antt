@@ -4,9 +4,11 @@ use Rattle.std.proofs.lemmas.Fmt.{decimal_digit, decimal-digits_value}
 use Rattle.std.specs.Str.{IsAscii}
 use Rattle.std.proofs.lemmas.Str.Ascii.{IsAscii-from_all}
 use Rattle.std.proofs.lemmas.List.Elements.{All-from_recursion}
-use Rattle.spec_script.specs.Script.{Constituent, Command, header, grammar, opens, has, ask, text_of}
+use Rattle.spec_script.specs.Script.{Constituent, Command, opens, has, ask, Part, header, grammar}
+use Rattle.spec_script.specs.Script.{of_command, Script, with_grammar, as_parts, text_of}
 use Rattle.spec_script.specs.Script.{line_of, IsWord, IsNameable, IsWithinLimits, AreQuestions}
-use Rattle.spec_script.specs.Script.{BeginsWithCommands, EndsAs, Ending, ended, broken, IsScript}
+use Rattle.spec_script.specs.Script.{MayFollow, BeginsWithParts, BeginsWithScript, EndsAs, Ending}
+use Rattle.spec_script.specs.Script.{ended, broken, IsScript}
 use Rattle.spec_script.specs.declared.question.Constituent.TheVariants.{EntryWhole}
 use Rattle.spec_session.specs.Lines.{as_line}
 use Rattle.spec_session.specs.GrammarReplies.{grammar_reply}
@@ -24,16 +26,16 @@ told : (constituent : Constituent) (line rest : List ℕ) (questions : List Comm
     AreTold rule_grammar one_text (ask (has constituent) ∷ questions) (line ++ rest)
 told constituent line rest questions is others = (line, rest, one_text, is, refl, refl, others)
 
--- a command that has these bytes stands before other commands
-next : (command : Command) (bytes : List ℕ) (at end : ℕ) (commands : List Command) (more rest : List ℕ) →
-    text_of command ≡ bytes → at < 2 ^ 48 → IsWithinLimits command →
-    BeginsWithCommands (at + length bytes) more commands end rest → BeginsWithCommands at (bytes ++ more) (command ∷ commands) end rest
-next command bytes at end commands more rest is early within begins = (
+-- a part that has these bytes stands before other parts
+next : (part : Part) (bytes : List ℕ) (at end : ℕ) (parts : List Part) (more rest : List ℕ) →
+    text_of part ≡ bytes → at < 2 ^ 48 → IsWithinLimits part →
+    BeginsWithParts (at + length bytes) more parts end rest → BeginsWithParts at (bytes ++ more) (part ∷ parts) end rest
+next part bytes at end parts more rest is early within begins = (
   more,
   early,
   within,
   ap (λ front. front ++ more) (sym is),
-  subst (λ (front : List ℕ). BeginsWithCommands (at + length front) more commands end rest) (sym is) begins,
+  subst (λ (front : List ℕ). BeginsWithParts (at + length front) more parts end rest) (sym is) begins,
 )
 
 -- the reply to the grammar
@@ -54,26 +56,26 @@ version_is =
     ap (λ digits. codes "version " ++ (digits ++ codes " tokens 1\n")) (sym (decimal_digit 0 (omega arith)))
     ∙ ap (λ digits. codes "version " ++ (decimal 0 ++ (codes " tokens " ++ as_line digits))) (sym (decimal_digit 1 (omega arith)))
 
--- the commands before the questions
-abbrev commands : List Command → List Command
-commands questions = header ∷ grammar rule_block ∷ opens (codes "a") ∷ questions
+-- the script of these questions
+abbrev script_with : List Command → Script
+script_with questions = with_grammar rule_block (opens (codes "a") ∷ questions)
 
 -- where questions have these bytes and these answers, and the script ends so behind them
 module _ (questions : List Command) (asked answers last : List ℕ) (at : ℕ) (rest : List ℕ) (ending : Ending)
-    (in_order : AreQuestions questions) (begins : BeginsWithCommands 38 asked questions at rest)
+    (in_order : AreQuestions questions) (begins : BeginsWithParts 38 asked (as_parts questions) at rest)
     (replies : AreTold rule_grammar one_text questions answers)
-    (ends : EndsAs (commands questions) at rest ending) (last_is : last ≡ last_line ending) where
+    (ends : EndsAs (script_with questions) at rest ending) (last_is : last ≡ last_line ending) where
   ascii : IsAscii (codes "a")
   ascii = IsAscii-from_all (codes "a") (All-from_recursion (λ (byte : ℕ). byte < 128) (codes "a") (omega arith, tt))
 
-  -- the input begins with the commands
-  begins_all : BeginsWithCommands 0 (front ++ asked) (commands questions) at rest
+  -- the input begins with the script
+  begins_all : BeginsWithScript (front ++ asked) (script_with questions) at rest
   begins_all =
-      next header (codes "script 1\n") 0 at (grammar rule_block ∷ opens (codes "a") ∷ questions) _ rest refl (omega arith) tt
-      (next (grammar rule_block) (codes "grammar 9\nA.S::=\"a\"\n") 9 at (opens (codes "a") ∷ questions) _ rest
+      next header (codes "script 1\n") 0 at (grammar rule_block ∷ as_parts (opens (codes "a") ∷ questions)) _ rest refl (omega arith) tt
+      (next (grammar rule_block) (codes "grammar 9\nA.S::=\"a\"\n") 9 at (as_parts (opens (codes "a") ∷ questions)) _ rest
       (ap (λ digits. (codes "grammar " ++ digits) ++ (10 ∷ (rule_block ++ 10 ∷ []))) (decimal_digit 9 (omega arith)))
       (omega arith) (omega arith)
-      (next (opens (codes "a")) (codes "open 1\na\n") 29 at questions asked rest
+      (next (of_command (opens (codes "a"))) (codes "open 1\na\n") 29 at (as_parts questions) asked rest
       (ap (λ digits. (codes "open " ++ digits) ++ codes "\na\n") (decimal_digit 1 (omega arith)))
       (omega arith) (omega arith, ascii) begins))
 
@@ -86,16 +88,16 @@ module _ (questions : List Command) (asked answers last : List ℕ) (at : ℕ) (
   -- the session is these replies and the last line
   pub small_session : IsSession (front ++ asked) (front_replies ++ (answers ++ last)) (last_status ending)
   small_session =
-      let script : IsScript (front ++ asked) (commands questions) ending =
+      let script : IsScript (front ++ asked) (script_with questions) ending =
       record { at = at; rest = rest; in_order = in_order; begins = begins_all; ends = ends } in
       let told_all : List ℕ = grammar_reply rule_grammar ++ (version ++ answers) in
       let out_is : front_replies ++ (answers ++ last) ≡ told_all ++ last_line ending =
       ap (λ bytes. (bytes ++ (version ++ answers)) ++ last) counts_are
       ∙ ap (λ bytes. told_all ++ bytes) last_is in
-      whole (commands questions) ending told_all script (rule_grammar, version ++ answers, accepted, all_replies, refl) out_is refl
+      whole (script_with questions) ending told_all script (rule_grammar, version ++ answers, accepted, all_replies, refl) out_is refl
 
 -- the bytes of a question on a span from 0 to one digit
-span_text : (end : ℕ) → end < 10 → text_of (ask (has (span_to end))) ≡ codes "has S 0 " ++ ((48 + end) ∷ 10 ∷ [])
+span_text : (end : ℕ) → end < 10 → text_of (of_command (ask (has (span_to end)))) ≡ codes "has S 0 " ++ ((48 + end) ∷ 10 ∷ [])
 span_text end small =
     ap (λ digits. codes "has S " ++ ((digits ++ (32 ∷ decimal end)) ++ 10 ∷ [])) (decimal_digit 0 (omega arith))
     ∙ ap (λ digits. codes "has S 0 " ++ (digits ++ 10 ∷ [])) (decimal_digit end small)
@@ -115,10 +117,10 @@ word_t : IsWord (codes "T")
 word_t = one_byte 84 (λ e. omega (arith, e)) (λ e. omega (arith, e))
 
 -- a question on such a span keeps the limits
-span_within : (end : ℕ) → end < 10 → IsWithinLimits (ask (has (span_to end)))
+span_within : (end : ℕ) → end < 10 → IsWithinLimits (of_command (ask (has (span_to end))))
 span_within end small =
     let named : IsNameable (span_to end) = (word_s, omega arith, omega arith) in
-    let size = length-append (line_of (ask (has (span_to end)))) (10 ∷ []) in
+    let size = length-append (line_of (of_command (ask (has (span_to end))))) (10 ∷ []) in
     (named, omega (arith, ap length (span_text end small), size))
 
 -- a script without questions
@@ -134,18 +136,18 @@ questions =
     ∷ ask (has (span_to 2)) ∷ []
 
 -- and their bytes
-questions_begin : BeginsWithCommands 38 (codes "has\nhas S\nhas S 0 0\nhas T\nhas S 0 2\nend\nhas") questions 74 (codes "end\nhas")
+questions_begin : BeginsWithParts 38 (codes "has\nhas S\nhas S 0 0\nhas T\nhas S 0 2\nend\nhas") (as_parts questions) 74 (codes "end\nhas")
 questions_begin =
     let end : List ℕ = codes "end\nhas" in
-    let fifth = next (ask (has (span_to 2))) (codes "has S 0 2\n") 64 74 [] end end
+    let fifth = next (of_command (ask (has (span_to 2)))) (codes "has S 0 2\n") 64 74 [] end end
     (span_text 2 (omega arith)) (omega arith) (span_within 2 (omega arith)) (refl, refl) in
-    let fourth = next (ask (has category_t)) (codes "has T\n") 58 74 (drop 4 questions) (codes "has S 0 2\nend\nhas") end
+    let fourth = next (of_command (ask (has category_t))) (codes "has T\n") 58 74 (as_parts (drop 4 questions)) (codes "has S 0 2\nend\nhas") end
     refl (omega arith) (word_t, omega arith) fifth in
-    let third = next (ask (has (span_to 0))) (codes "has S 0 0\n") 48 74 (drop 3 questions) (codes "has T\nhas S 0 2\nend\nhas") end
+    let third = next (of_command (ask (has (span_to 0)))) (codes "has S 0 0\n") 48 74 (as_parts (drop 3 questions)) (codes "has T\nhas S 0 2\nend\nhas") end
     (span_text 0 (omega arith)) (omega arith) (span_within 0 (omega arith)) fourth in
-    let second = next (ask (has category_s)) (codes "has S\n") 42 74 (drop 2 questions) (codes "has S 0 0\nhas T\nhas S 0 2\nend\nhas") end
+    let second = next (of_command (ask (has category_s))) (codes "has S\n") 42 74 (as_parts (drop 2 questions)) (codes "has S 0 0\nhas T\nhas S 0 2\nend\nhas") end
     refl (omega arith) (word_s, omega arith) third in
-    next (ask (has EntryWhole)) (codes "has\n") 38 74 (drop 1 questions) (codes "has S\nhas S 0 0\nhas T\nhas S 0 2\nend\nhas") end
+    next (of_command (ask (has EntryWhole))) (codes "has\n") 38 74 (as_parts (drop 1 questions)) (codes "has S\nhas S 0 0\nhas T\nhas S 0 2\nend\nhas") end
     refl (omega arith) (tt, omega arith) second
 
 -- and their answers
@@ -167,11 +169,12 @@ whole_session =
     (record { more = codes "has"; early = omega arith; complete = tt; spelled = refl }) refl
 
 -- a second text is no question
-no_second : (command : Command) (more : List ℕ) → AreQuestions (command ∷ []) → codes "open 1\na\nend\n" ≡ text_of command ++ more → ⊥
-no_second header more are e = are
-no_second (grammar block) more are e = are
-no_second (opens text) more are e = are
-no_second (ask (has constituent)) more are e = omega (arith, ap (λ bytes. get_or bytes 0 0) e)
+no_second : (part : Part) (more : List ℕ) → MayFollow (script_with (ask (has category_s) ∷ [])) part →
+    codes "open 1\na\nend\n" ≡ text_of part ++ more → ⊥
+no_second header more in_place e = in_place
+no_second (grammar block) more in_place e = in_place
+no_second (of_command (opens text)) more in_place e = in_place
+no_second (of_command (ask (has constituent))) more in_place e = omega (arith, ap (λ bytes. get_or bytes 0 0) e)
 
 -- a script that breaks at a place of two digits
 refused_line : codes "script refused 44\n" ≡ last_line (broken 44)
@@ -184,7 +187,7 @@ pub second_text : IsSession
     (front ++ codes "has S\nopen 1\na\nend\n") (front_replies ++ codes "yes\nscript refused 44\n") 3
 second_text =
     small_session (ask (has category_s) ∷ []) _ (codes "yes\n") (codes "script refused 44\n") 44 (codes "open 1\na\nend\n") (broken 44) tt
-    (next (ask (has category_s)) (codes "has S\n") 38 44 [] _ _ refl (omega arith) (word_s, omega arith) (refl, refl))
+    (next (of_command (ask (has category_s))) (codes "has S\n") 38 44 [] _ _ refl (omega arith) (word_s, omega arith) (refl, refl))
     (told category_s (codes "yes\n") [] [] category_reply refl)
-    (refl, (λ go. no_second go.command go.more go.in_order go.spelled), (λ end. omega (arith, ap (λ bytes. get_or bytes 0 0) end.spelled)))
+    (refl, (λ go. no_second go.part go.more go.in_place go.spelled), (λ end. omega (arith, ap (λ bytes. get_or bytes 0 0) end.spelled)))
     refused_line

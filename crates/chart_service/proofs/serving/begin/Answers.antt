@@ -3,7 +3,7 @@
 use Rattle.std.proofs.Common.{◌<◌, ◌^◌, ℕ, List, Option, arith}
 use Rattle.cyk_io.specs.Streams.{coming}
 use Rattle.chart_service.proofs.ProgressLemmas.{fault_stop}
-use Rattle.chart_service.proofs.BeginningLemmas.{with_header, no_header, no_grammar, with_grammar}
+use Rattle.chart_service.proofs.BeginningLemmas.{header_taken, no_header, no_grammar, grammar_taken}
 use Rattle.chart_service.proofs.BeginningLemmas.{grammar_ends, with_accepted, text_stopped, no_text}
 use Rattle.chart_service.proofs.BeginningLemmas.{text_opened, taken_early, grammar_early, on_ok}
 use Rattle.chart_service.proofs.serving.begin.Goals as goal
@@ -15,7 +15,7 @@ returns-then-not-found-clause-ok g c input before comes written =
 
 pub returns-in_default-clause-ok : goal.returns-in_default-clause-ok
 returns-in_default-clause-ok g c input before comes written =
-    let begun = with_header c.requires.start comes written
+    let begun = header_taken c.requires.start comes written
     (rw c.if-not-found.false at c.in_ok-found.ensures.ok) in
     no_grammar begun c.read_grammar.new.ahead.offset
     (coming c.read_grammar.new.ahead (g.S.Source.left c.read_grammar.new.source))
@@ -26,11 +26,11 @@ returns-in_default-clause-ok g c input before comes written =
 
 pub returns-in-Err-clause-ok : goal.returns-in-Err-clause-ok
 returns-in-Err-clause-ok g c input before comes written =
-    let begun = with_header c.requires.start comes written
+    let begun = header_taken c.requires.start comes written
     (rw c.if-not-found.false at c.in_ok-found.ensures.ok) in
     let later : Option (List ℕ) =
     coming c.read_grammar.new.ahead (g.S.Source.left c.read_grammar.new.source) in
-    let taken = with_grammar begun c.read_grammar.new.ahead.offset later c.in-Some.block
+    let taken = grammar_taken begun c.read_grammar.new.ahead.offset later c.in-Some.block
     (rw c.in-Some.is at c.in_ok-block.ensures.ok) in
     grammar_ends taken (g.K.Sink.written c.accept.new.sink) c.in-Err.status
     (c.in-Err.ensures.ok taken.block taken.is_block)
@@ -48,11 +48,11 @@ read_text-requires-clause-early g c =
 
 pub returns-in-Ok-Some-clause-ok : goal.returns-in-Ok-Some-clause-ok
 returns-in-Ok-Some-clause-ok g c input before comes written =
-    let begun = with_header c.requires.start comes written
+    let begun = header_taken c.requires.start comes written
     (rw c.if-not-found.false at c.in_ok-found.ensures.ok) in
     let later : Option (List ℕ) =
     coming c.read_grammar.new.ahead (g.S.Source.left c.read_grammar.new.source) in
-    let taken = with_grammar begun c.read_grammar.new.ahead.offset later c.in-Some.block
+    let taken = grammar_taken begun c.read_grammar.new.ahead.offset later c.in-Some.block
     (rw c.in-Some.is at c.in_ok-block.ensures.ok) in
     let accepted =
     with_accepted taken (g.K.Sink.written c.accept.new.sink) c.in-Ok.language c.in-Ok.ensures.ok in
@@ -69,11 +69,11 @@ returns-in-Ok-Some-clause-range g c =
 
 pub returns-in-Ok-None-clause-ok : goal.returns-in-Ok-None-clause-ok
 returns-in-Ok-None-clause-ok g c input before comes written =
-    let begun = with_header c.requires.start comes written
+    let begun = header_taken c.requires.start comes written
     (rw c.if-not-found.false at c.in_ok-found.ensures.ok) in
     let later : Option (List ℕ) =
     coming c.read_grammar.new.ahead (g.S.Source.left c.read_grammar.new.source) in
-    let taken = with_grammar begun c.read_grammar.new.ahead.offset later c.in-Some.block
+    let taken = grammar_taken begun c.read_grammar.new.ahead.offset later c.in-Some.block
     (rw c.in-Some.is at c.in_ok-block.ensures.ok) in
     let accepted =
     with_accepted taken (g.K.Sink.written c.accept.new.sink) c.in-Ok.language c.in-Ok.ensures.ok in
@@ -85,11 +85,11 @@ returns-in-Ok-None-clause-ok g c input before comes written =
 
 pub returns-clause-ok : goal.returns-clause-ok
 returns-clause-ok g c input before comes written =
-    let begun = with_header c.requires.start comes written
+    let begun = header_taken c.requires.start comes written
     (rw c.if-not-found.false at c.in_ok-found.ensures.ok) in
     let later : Option (List ℕ) =
     coming c.read_grammar.new.ahead (g.S.Source.left c.read_grammar.new.source) in
-    let taken = with_grammar begun c.read_grammar.new.ahead.offset later c.in-Some.block
+    let taken = grammar_taken begun c.read_grammar.new.ahead.offset later c.in-Some.block
     (rw c.in-Some.is at c.in_ok-block.ensures.ok) in
     let accepted =
     with_accepted taken (g.K.Sink.written c.accept.new.sink) c.in-Ok.language c.in-Ok.ensures.ok in
