@@ -1,17 +1,16 @@
--- Cycles and ranks by links, and the longest chains of at most so many steps.
-use Rattle.std.proofs.Common.{below_more, ◌≡◌, ℕ, zero, suc, ◌+◌, ◌^◌, ◌<◌, ◌≤◌, ◌⊎◌, ◌↔◌, inl, inr, List, [], ◌∷◌, ◌++◌, length, slice_index_or, replicate, refl, sym, ◌∙◌, subst, arith}
-use Rattle.std.specs.List.{Contains, All}
-use Rattle.std.proofs.lemmas.Bool.{cases_lt}
-use Rattle.std.proofs.lemmas.List.Elements.{Contains-append_left, Contains-push, Contains-push_cases, All-from_get_or}
-use Rattle.std.proofs.lemmas.List.{length-replicate, get_or-replicate, get_or_append_left, get_or_default, get_or_push}
-use Rattle.spec_grammar.specs.Cycles.{Leads, IsCyclic, IsAcyclic, HasChain, IsRank}
-use Rattle.spec_grammar.proofs.CycleLemmas.{leads_then, shorter_chain, step_lengthens, chain_is_short}
+-- Cycles and ranks by links.
+use Rattle.std.proofs.Common.{◌≡◌, ℕ, zero, suc, ◌<◌, ◌↔◌, List, Option, Some, None, map, unwrap_or, length, slice_index_or, refl, sym, ◌∙◌, subst, arith}
+use Rattle.std.specs.Option.{MatchOption}
+use Rattle.std.proofs.lemmas.List.{length-map, get_or-map, get_or_default}
+use Rattle.spec_grammar.specs.Cycles.{Leads, IsCyclic, IsAcyclic, IsRank}
+use Rattle.spec_grammar.proofs.CycleLemmas.{leads_then}
 use Rattle.spec_grammar.specs.Grammars.{Grammar}
 use Rattle.number_graph.specs.Graphs.{HasLink, AreLinksWithin, ReachesBy, stay, step, IsOnCycle}
+use Rattle.number_graph.specs.Chains.{LinksLead, IsHeight, LeadsToCycle, AreHeights, IsLeastOnCycle}
 use Rattle.number_graph.proofs.ReachLemmas.{reaches_on}
+use Rattle.numbered_grammar.specs.Making.{IsLeastCyclic}
 use Rattle.numbered_grammar.specs.StepLinks.{AreSteps}
 use Rattle.numbered_grammar.specs.Ranks.{AreRanks}
-use Rattle.numbered_grammar.specs.Heights.{IsHeight, AreHeights, AreLongestWithin}
 
 module _ (g : Grammar) (links : List (List ℕ)) (are : AreSteps g links) where
   -- links lead along a chain of steps
@@ -43,161 +42,60 @@ module _ (g : Grammar) (links : List (List ℕ)) (are : AreSteps g links) where
   pub steps_within : AreLinksWithin links
   steps_within m n has = omega (arith, are.count, are.to m n ((are.exact m n).0 has))
 
-  -- where no category of the grammar reaches itself, none does
-  pub none_cyclic :
-      ((c : ℕ) → c < length g.categories → IsCyclic g.rules c → ⊥) → IsAcyclic g.rules
-  none_cyclic none c cyclic =
+  -- the least number that reaches itself is that of the least such category
+  pub least_cyclic : (c : ℕ) → IsLeastOnCycle links c → IsLeastCyclic g c
+  least_cyclic c least =
+      let cyclic = (cyclic_number c).0 least.on_cycle in
       let first = cyclic.1 in
-      none c (are.from c first.0 first.1) cyclic
+      record {
+        within = are.from c first.0 first.1;
+        cyclic = cyclic;
+        earlier = λ lesser less is. least.earlier lesser less ((cyclic_number lesser).1 is);
+      }
 
-  -- one more category does not reach itself
-  pub none_cyclic_more :
-      (n : ℕ)
-      → ((c : ℕ) → c < n → IsCyclic g.rules c → ⊥) → (IsOnCycle links n → ⊥)
-      → (c : ℕ) → c < n + 1 → IsCyclic g.rules c → ⊥
-  none_cyclic_more n before last =
-      below_more (λ c. IsCyclic g.rules c → ⊥) n before (λ cyclic. last ((cyclic_number n).1 cyclic))
+  -- where no number reaches itself, no category does
+  pub none_cyclic : ((n : ℕ) → IsOnCycle links n → ⊥) → IsAcyclic g.rules
+  none_cyclic none c cyclic = none c ((cyclic_number c).1 cyclic)
 
--- one target more makes the height at least one more than its value
-pub height_more :
-    (targets values : List ℕ) (target old new : ℕ)
-    → IsHeight targets values old
-    → old ≤ new → slice_index_or values target 0 < new
-    → (new ≡ old) ⊎ (new ≡ slice_index_or values target 0 + 1)
-    → IsHeight (targets ++ target ∷ []) values new
-height_more targets values target old new before more above which = record {
-  found = found_in which;
-  above = λ t has. elim (Contains-push_cases targets target t has) [
-    | inl earlier ↦ omega (arith, before.above t earlier, more)
-    | inr same ↦ let P : ℕ → Type 0 = λ k. slice_index_or values k 0 < new in subst P same above
-  ];
-}
-  where
-    found_in :
-        (new ≡ old) ⊎ (new ≡ slice_index_or values target 0 + 1)
-        → (new ≡ 0) ⊎ ((t : ℕ) × Contains (targets ++ target ∷ []) t × (new ≡ slice_index_or values t 0 + 1))
-    found_in (inr own) = inr (target, Contains-push targets target, own)
-    found_in (inl same) = elim before.found [
-      | inl none ↦ inl (same ∙ none)
-      | inr x ↦ inr (x.0, Contains-append_left targets (target ∷ []) x.0 x.1, same ∙ x.2)
-    ]
+  -- chains of links are chains of steps
+  chains_alike : (n a b : ℕ) → LinksLead links n a b ↔ Leads g.rules n a b
+  chains_alike zero a b = ((λ same. same), (λ same. same))
+  chains_alike (suc n) a b = (
+    (λ chain. (chain.0, (are.exact a chain.0).0 chain.1, (chains_alike n chain.0 b).0 chain.2)),
+    (λ chain. (chain.0, (are.exact a chain.0).1 chain.1, (chains_alike n chain.0 b).1 chain.2)),
+  )
 
--- one number more has its height
-pub heights_more :
-    (links : List (List ℕ)) (values heights : List ℕ) (height : ℕ)
-    → ((n : ℕ) → n < length heights → IsHeight (slice_index_or links n []) values (slice_index_or heights n 0))
-    → IsHeight (slice_index_or links (length heights) []) values height
-    → (n : ℕ) → n < length heights + 1
-    → IsHeight (slice_index_or links n []) values (slice_index_or (heights ++ height ∷ []) n 0)
-heights_more links values heights height before last =
-    below_more Has (length heights)
-    (λ n earlier.
-    let P : ℕ → Type 0 = λ k. IsHeight (slice_index_or links n []) values k in
-    subst P (sym (get_or_append_left heights (height ∷ []) 0 n earlier)) (before n earlier))
-    (let P : ℕ → Type 0 = λ k. IsHeight (slice_index_or links (length heights) []) values k in
-    subst P (sym (get_or_push heights height 0 (length heights) refl)) last)
-  where
-    Has : ℕ → Type 0
-    Has n = IsHeight (slice_index_or links n []) values (slice_index_or (heights ++ height ∷ []) n 0)
+  -- so a height is a rank
+  height_is_rank : (c n : ℕ) → IsHeight links c n → IsRank g.rules c n
+  height_is_rank c n is =
+      let chain = is.0 in (
+        (chain.0, (chains_alike n c chain.0).0 chain.1),
+        (λ longer. is.1 (longer.0, (chains_alike (suc n) c longer.0).1 longer.1)),
+      )
 
-module _ (g : Grammar) (links : List (List ℕ)) (are : AreSteps g links) where
-  -- of no steps the longest chain has length 0
-  pub longest_start : AreLongestWithin g 0 (replicate (length links) 0)
-  longest_start = record {
-    count = length-replicate (length links) 0 ∙ are.count;
+  -- where no number reaches itself, each height is told, and they are the ranks
+  pub heights_are_ranks :
+      (heights : List (Option ℕ)) (told : List ℕ)
+      → ((n : ℕ) → IsOnCycle links n → ⊥) → AreHeights links heights
+      → told ≡ map (λ h. unwrap_or h 0) heights → AreRanks g told
+  heights_are_ranks heights told none all is = rw is (record {
+    count = length-map heights (λ h. unwrap_or h 0) ∙ all.count ∙ are.count;
     each = λ c below.
-        let none : slice_index_or (replicate (length links) 0) c 0 ≡ 0 = get_or-replicate (length links) c 0 0 (omega (arith, below, are.count)) in
-        record {
-          chain = subst (HasChain g.rules c) (sym none) (c, refl);
-          within = omega (arith, none);
-          longest = λ m few chain. omega (arith, few, none);
-        };
-  }
-
-  module _ (most : ℕ) (old new : List ℕ) (before : AreLongestWithin g most old) (heights : AreHeights links old new) where
-    -- a chain of the height's length begins at the category
-    chain_of_height : (c : ℕ) → c < length g.categories → HasChain g.rules c (slice_index_or new c 0) × (slice_index_or new c 0 ≤ most + 1)
-    chain_of_height c below =
-        let height = heights.each c (omega (arith, below, are.count)) in
-        elim height.found [
-          | inl none ↦ (subst (HasChain g.rules c) (sym none) (c, refl), omega (arith, none))
-          | inr (t, has, is) ↦
-              let s = (are.exact c t).0 has in
-              let behind = before.each t (are.to c t s) in
-              let more : slice_index_or new c 0 ≡ suc (slice_index_or old t 0) = omega (arith, is) in (
-                subst (HasChain g.rules c) (sym more) (step_lengthens g.rules c t (slice_index_or old t 0) s behind.chain),
-                omega (arith, is, behind.within),
-              )
-        ]
-
-    -- and no chain of at most one step more is longer
-    height_is_most : (c m : ℕ) → c < length g.categories → m ≤ most + 1 → HasChain g.rules c m → m ≤ slice_index_or new c 0
-    height_is_most c zero below few chain = omega arith
-    height_is_most c (suc m) below few chain =
-        let height = heights.each c (omega (arith, below, are.count)) in
-        let first = chain.1 in
-        let behind = before.each first.0 (are.to c first.0 first.1) in
-        let longest = behind.longest m (omega arith) (chain.0, first.2) in
-        omega (arith, longest, height.above first.0 ((are.exact c first.0).1 first.1))
-
-    -- so the heights are the lengths of the longest chains of one step more
-    pub longest_more : AreLongestWithin g (most + 1) new
-    longest_more = record {
-      count = heights.count ∙ are.count;
-      each = λ c below. record {
-        chain = (chain_of_height c below).0;
-        within = (chain_of_height c below).1;
-        longest = λ m few chain. height_is_most c m below few chain;
-      };
-    }
-
-  -- where a round more would allow as many steps as there are categories, all chains are measured
-  pub longest_are_ranks :
-      (most : ℕ) (lengths : List ℕ)
-      → IsAcyclic g.rules → length g.categories ≤ most + 1 → AreLongestWithin g most lengths
-      → AreRanks g lengths
-  longest_are_ranks most lengths acyclic enough longest = record {
-    count = longest.count;
-    each = λ c below. ((longest.each c below).chain, longer c below);
-  }
+        let within : c < length links = omega (arith, below, are.count) in
+        subst (IsRank g.rules c)
+        (sym (get_or-map (λ h. unwrap_or h 0) heights c None 0 (omega (arith, within, all.count))))
+        (of_each c within (slice_index_or heights c None) refl);
+  })
     where
-      longer : (c : ℕ) → c < length g.categories → HasChain g.rules c (suc (slice_index_or lengths c 0)) → ⊥
-      longer c below chain =
-          let n = suc (slice_index_or lengths c 0) in
-          elim (cases_lt most n) [
-            | inr few ↦ omega (arith, (longest.each c below).longest n few chain)
-            | inl more ↦
-                chain_is_short g.rules (length g.categories) are.to acyclic c below
-                (shorter_chain g.rules (length g.categories) n c (omega (arith, enough, more)) chain)
-          ]
-
-  module _ (lengths : List ℕ) (heights : AreHeights links lengths lengths) where
-    -- no chain is longer than the height that is the height above itself
-    chain_within_height : (n c : ℕ) → c < length g.categories → HasChain g.rules c n → n ≤ slice_index_or lengths c 0
-    chain_within_height zero c below chain = omega arith
-    chain_within_height (suc n) c below chain =
-        let first = chain.1 in
-        let behind = chain_within_height n first.0 (are.to c first.0 first.1) (chain.0, first.2) in
-        let height = heights.each c (omega (arith, below, are.count)) in
-        omega (arith, behind, height.above first.0 ((are.exact c first.0).1 first.1))
-
-    -- so lengths that a round does not change are ranks
-    pub settled_are_ranks : (most : ℕ) → AreLongestWithin g most lengths → AreRanks g lengths
-    settled_are_ranks most longest = record {
-      count = longest.count;
-      each = λ c below. (
-        (longest.each c below).chain,
-        (λ chain. omega (arith, chain_within_height (suc (slice_index_or lengths c 0)) c below chain)),
-      );
-    }
-
--- the longest chains of at most fewer steps than there are numbers are below them
-pub lengths_are_few :
-    (g : Grammar) (most : ℕ) (lengths : List ℕ)
-    → AreLongestWithin g most lengths → most + 1 < 2 ^ 16 → All (λ n. n + 1 < 2 ^ 16) lengths
-lengths_are_few g most lengths longest few =
-    All-from_get_or (λ n. n + 1 < 2 ^ 16) lengths 0
-    (λ c within. omega (arith, (longest.each c (omega (arith, within, longest.count))).within, few))
+      of_each :
+          (c : ℕ) → c < length links → (height : Option ℕ) → slice_index_or heights c None ≡ height
+          → IsRank g.rules c (unwrap_or height 0)
+      of_each c below height is_height =
+          by_height height (subst (λ o. MatchOption o (LeadsToCycle links c) (IsHeight links c)) is_height (all.each c below))
+        where
+          by_height : (height : Option ℕ) → MatchOption height (LeadsToCycle links c) (IsHeight links c) → IsRank g.rules c (unwrap_or height 0)
+          by_height (Some h) has = height_is_rank c h has
+          by_height None leads = absurd (none leads.0 leads.2)
 
 -- what stands at a category's place in the list is its rank
 pub rank_at :

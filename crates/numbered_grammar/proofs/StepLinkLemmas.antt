@@ -229,9 +229,9 @@ module _ (g : Grammar) (flags : List Bool) (are : AreNullableFlags g flags) (own
   -- the links that all rules give are the steps
   pub steps_are :
       (links : List (List ℕ))
-      → AreStepsSoFar flags g.rules (length g.rules) (length flags) links → AreSteps g links
+      → AreStepsSoFar flags g.rules (length g.rules) (length g.categories) links → AreSteps g links
   steps_are links all = record {
-    count = all.count ∙ are.count;
+    count = all.count;
     from = from_category;
     to = to_category;
     exact = λ a b. (

@@ -3,4 +3,3 @@ pub mod Nullable
 pub mod Ranks
 pub mod NullablePasses
 pub mod StepLinks
-pub mod Heights

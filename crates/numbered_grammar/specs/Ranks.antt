@@ -1,15 +1,11 @@
 -- The first category that reaches itself, and the ranks of all categories where none does. Serves
 -- the proofs alone.
-use Rattle.std.specs.Prelude.{◌≡◌, ℕ, ◌<◌, List, Option, length, slice_index_or, MatchOption}
+use Rattle.std.specs.Prelude.{◌≡◌, ℕ, ◌<◌, List, length, slice_index_or}
 use Rattle.spec_grammar.specs.Cycles.{IsAcyclic, IsRank}
 use Rattle.spec_grammar.specs.Grammars.{Grammar}
 use Rattle.numbered_grammar.specs.Making.{IsLeastCyclic}
 use Rattle.numbered_grammar.specs.declared.cycle_check.CycleCheck.{CycleCheck}
 use Rattle.numbered_grammar.specs.declared.cycle_check.CycleCheck.TheVariants.{Cyclic, Ranked}
-
--- the least category that reaches itself, and None exactly where none does
-abbrev pub FindsCyclic : Grammar → Option ℕ → Type 0
-FindsCyclic g found = MatchOption found (IsAcyclic g.rules) (IsLeastCyclic g)
 
 -- each category has its rank in the list
 pub record AreRanks (g : Grammar) (ranks : List ℕ) : Type 0 where

@@ -3,13 +3,11 @@
 #![tactic(auto)]
 
 mod cycle_check;
-mod cycles;
 mod fault;
 mod grammar;
 mod making;
 mod nullable;
 mod parts;
-mod ranking;
 mod stepping;
 
 pub use fault::CycleFault;

@@ -118,10 +118,10 @@ impl Grammar {
     /// The grammar of these parts, or the category of least number that reaches itself.
     ///
     /// It passes over the items for the nullable categories, at most once more than there are of
-    /// them, looks at each item twice for the steps, searches from each step of each category, and
-    /// for the ranks goes round by round over all steps, at most as many rounds as there are
-    /// categories. Beside the flags and the ranks, which the grammar keeps, it takes memory for the
-    /// steps and for a few numbers of each category.
+    /// them, looks at each item twice for the steps, and at each step at most three times for the
+    /// ranks. Where some category reaches itself, it also searches from each category that leads to
+    /// such a one, up to the first that is one. Beside the flags and the ranks, which the grammar
+    /// keeps, it takes memory for the steps and for a few numbers of each category.
     pub fn of_parts(alloc: Global, parts: GrammarParts) -> Result<Grammar, CycleFault>
         ensures { AcceptsParts parts result }
     {

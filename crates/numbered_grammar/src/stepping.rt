@@ -1,5 +1,5 @@
 //! Which categories step to which, as links between their numbers.
-ghost use Rattle.std.specs.Prelude.{◌≡◌, ◌<◌, ◌↔◌, IsTrue, IfOk, OnOk, length};
+ghost use Rattle.std.specs.Prelude.{◌≡◌, ◌<◌, ◌^◌, ◌↔◌, IsTrue, IfOk, OnOk, length};
 ghost use Rattle.number_graph.specs.Graphs.{AddsLinks};
 ghost use Rattle.numbered_grammar.specs.Nullable.{AreNullableFlags};
 ghost use Rattle.numbered_grammar.specs.StepLinks.{AreSteps, IsItemStep, IsRuleStep};
@@ -70,9 +70,10 @@ pub(crate) fn category_steps(
     nullable: &[bool],
 ) -> Result<Links, AllocError>
     requires { AreNullableFlags parts.now nullable.now }
-    ensures { IfOk result (AreSteps parts.now) }
+    ensures steps { IfOk result (AreSteps parts.now) }
+    ensures few { IfOk result (λ links. length links < 2 ^ 16) }
 {
-    let mut links = Links::new(alloc, nullable.len())?;
+    let mut links = Links::new(alloc, parts.category_count() as usize)?;
     for rule in parts.rules() {
         add_rule(&mut links, nullable, rule)?;
     }

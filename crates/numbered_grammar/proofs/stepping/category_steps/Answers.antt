@@ -9,11 +9,11 @@ loop-rule-preserved c =
     let read = rw c.rules-rule-items.ensures.items at c.rule-item.is in
     let before = rw c.rules-rule-items.ensures.items at c.loop-rule-test.true in
     let is = slice_get_read rules (length rules) c.loop-rule.rule-index c.rule-item.result refl before read in
-    rules_more c.args.nullable.now rules (length c.args.nullable.now) c.loop-rule.rule-index c.rule-item.result
+    rules_more c.args.nullable.now rules (length c.args.parts.now.categories) c.loop-rule.rule-index c.rule-item.result
     c.loop-rule.links c.add_rule.new.links is c.loop-rule.invariant c.in_ok-add_rule.ensures
 
-pub returns : goal.returns
-returns c =
+pub returns-clause-steps : goal.returns-clause-steps
+returns-clause-steps c =
     let rules = c.args.parts.now.rules in
     let past = rw c.rules-rule-items.ensures.items at c.loop-rule-test.false in
     let end = rw c.rules-rule-items.ensures.items at c.loop-rule.auto.rule-index-end in
