@@ -1,5 +1,6 @@
 pub mod NameLemmas
 pub mod MakingLemmas
 pub mod NullableLemmas
+pub mod RuleImplicationLemmas
 pub mod StepLinkLemmas
 pub mod RankLemmas

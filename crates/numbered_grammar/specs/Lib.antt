@@ -1,5 +1,5 @@
 pub mod Making
 pub mod Nullable
 pub mod Ranks
-pub mod NullablePasses
+pub mod RuleImplications
 pub mod StepLinks

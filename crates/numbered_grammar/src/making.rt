@@ -117,11 +117,12 @@ pub(crate) fn parts_of(
 impl Grammar {
     /// The grammar of these parts, or the category of least number that reaches itself.
     ///
-    /// It passes over the items for the nullable categories, at most once more than there are of
-    /// them, looks at each item twice for the steps, and at each step at most three times for the
-    /// ranks. Where some category reaches itself, it also searches from each category that leads to
-    /// such a one, up to the first that is one. Beside the flags and the ranks, which the grammar
-    /// keeps, it takes memory for the steps and for a few numbers of each category.
+    /// It looks at each item at most four times for the nullable categories and twice for the
+    /// steps, and at each step at most three times for the ranks. Where some category reaches
+    /// itself, it also searches from each category that leads to such a one, up to the first that
+    /// is one. Beside the flags and the ranks, which the grammar keeps, it takes memory for the
+    /// items of the rules without kinds, for the steps, and for a few numbers of each rule and each
+    /// category.
     pub fn of_parts(alloc: Global, parts: GrammarParts) -> Result<Grammar, CycleFault>
         ensures { AcceptsParts parts result }
     {

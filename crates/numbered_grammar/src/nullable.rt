@@ -1,13 +1,12 @@
-//! Which categories derive the empty span: passes over the rules, until one sets no more flag.
-ghost use Rattle.std.specs.Prelude.{◌≡◌, ◌<◌, ◌↔◌, IsTrue, IsFalse, IfOk, length, false};
-ghost use Rattle.std.specs.Prelude.{slice_index_or};
-ghost use Rattle.std.specs.List.{list_all};
+//! Which categories derive the empty span: those that follow from the rules, each of which is an
+//! implication from its items to its category.
+ghost use Rattle.std.specs.Prelude.{◌≡◌, ℕ, Contains, IfOk, OnOk, MatchOption, length};
+ghost use Rattle.spec_grammar.specs.declared.rule.Symbol.TheVariants.{Kind};
 ghost use Rattle.numbered_grammar.specs.Nullable.{AreNullableFlags, flag_of};
-ghost use Rattle.numbered_grammar.specs.NullablePasses.{AreSound, AreClosedUnder, HaveFlags};
-ghost use Rattle.numbered_grammar.specs.NullablePasses.{AppliesRule};
-ghost use Rattle.number_graph.specs.Flags.{clear_count};
+ghost use Rattle.numbered_grammar.specs.RuleImplications.{AddsRule, AreCategoryNumbers, AreOfRules};
 
 use crate::parts::GrammarParts;
+use number_graph::{Implications, consequences};
 use spec_grammar::{Rule, Symbol};
 use std::alloc::{AllocError, Global};
 
@@ -21,61 +20,51 @@ pub(crate) fn is_nullable(flags: &[bool], symbol: Symbol) -> bool
     }
 }
 
-/// Whether the items derive the empty span, by the flags of their grammar: each of them does.
-pub(crate) fn are_nullable(flags: &[bool], items: &[Symbol]) -> bool
-    ensures { result ≡ list_all (flag_of flags.now) items.now }
+/// The numbers of the items, and `None` where a kind is among them.
+pub(crate) fn category_numbers(
+    alloc: Global,
+    items: &[Symbol],
+) -> Result<Option<Vec<u16>>, AllocError>
+    ensures { IfOk result (λ found. MatchOption found ((k : ℕ) × Contains items.now (Kind k))
+        (λ numbers. AreCategoryNumbers items.now numbers.items)) }
 {
-    items.iter().all(|symbol| is_nullable(flags, *symbol))
-}
-
-/// Whether the rule's items are flagged, and its category is not yet.
-fn sets_flag(flags: &[bool], rule: &Rule) -> bool
-    requires { rule.now.category < length flags.now }
-    ensures { IsTrue result
-        ↔ (slice_index_or flags.now rule.now.category false ≡ false)
-        × IsTrue (list_all (flag_of flags.now) rule.now.items) }
-{
-    !flags[rule.category as usize] && are_nullable(flags, rule.items.as_slice())
-}
-
-/// Flags the rule's category where the rule gives cause to, and says whether it did.
-fn apply_rule(flags: &mut Vec<bool>, rule: &Rule) -> bool
-    requires { rule.now.category < length flags.old.items }
-    ensures { AppliesRule flags.old.items flags.new.items rule.now result }
-{
-    let sets = sets_flag(flags.as_slice(), rule);
-    if sets {
-        flags[rule.category as usize] = true;
-    }
-    sets
-}
-
-/// Applies each rule in turn, and says whether a flag was set.
-fn pass(rules: &[Rule], flags: &mut Vec<bool>) -> bool
-    requires sound { AreSound rules.now flags.old.items }
-    requires range { HaveFlags rules.now (length flags.old.items) }
-    ensures sound { AreSound rules.now flags.new.items }
-    ensures len { length flags.new.items ≡ length flags.old.items }
-    ensures some { IsTrue result → clear_count flags.new.items < clear_count flags.old.items }
-    ensures none { IsFalse result → AreClosedUnder rules.now flags.new.items (length rules.now) }
-{
-    let mut has_set = false;
-    for rule in rules {
-        if apply_rule(flags, rule) {
-            has_set = true;
+    let mut numbers = Vec::new(alloc);
+    for item in items {
+        match *item {
+            Symbol::Category(c) => numbers.push(c)?,
+            Symbol::Kind(_) => return Ok(None),
         }
     }
-    has_set
+    Ok(Some(numbers))
 }
 
-/// For each category, by number, whether it derives the empty span. A pass looks at each item of
-/// each rule at most once, and there is at most one pass more than there are such categories. The
-/// flags are all the memory that it takes.
+/// Adds that the rule's category follows from its items, where these are categories alone.
+fn add_rule(alloc: Global, implications: &mut Implications, rule: &Rule) -> Result<(), AllocError>
+    ensures { OnOk result (AddsRule implications.old implications.new rule.now) }
+{
+    match category_numbers(alloc, rule.items.as_slice())? {
+        Some(numbers) => implications.add(numbers.as_slice(), rule.category),
+        None => Ok(()),
+    }
+}
+
+/// The implications of the rules.
+fn implications_of(alloc: Global, rules: &[Rule]) -> Result<Implications, AllocError>
+    ensures { IfOk result (AreOfRules rules.now (length rules.now)) }
+{
+    let mut implications = Implications::new(alloc)?;
+    for rule in rules {
+        add_rule(alloc, &mut implications, rule)?;
+    }
+    Ok(implications)
+}
+
+/// For each category, by number, whether it derives the empty span. It looks at each item at most
+/// four times. Beside the flags it takes memory for the items of the rules without kinds, and for a
+/// few numbers of each such rule and each category.
 pub(crate) fn nullable_flags(alloc: Global, parts: &GrammarParts) -> Result<Vec<bool>, AllocError>
     ensures { IfOk result (λ flags. AreNullableFlags parts.now flags.items) }
 {
-    let rules = parts.rules();
-    let mut flags = vec![in alloc; false; parts.category_count() as usize]?;
-    while pass(rules, &mut flags) {}
-    Ok(flags)
+    let implications = implications_of(alloc, parts.rules())?;
+    consequences(alloc, parts.category_count() as usize, &implications)
 }

@@ -1,6 +1,6 @@
 //! Nullable categories of small grammars, whose rules are built by hand.
 use super::small_grammars::{A, B, C, D, EMPTY, Sides, WORD, grammar_of, small_parts};
-use crate::nullable::{are_nullable, is_nullable, nullable_flags};
+use crate::nullable::{category_numbers, is_nullable, nullable_flags};
 use crate::*;
 use std::test::*;
 
@@ -68,6 +68,16 @@ const CASES: &[Case] = &[
         [true, true, true, true],
     ),
     (
+        "A ::= B C B; C ::= B; B ::= D D; D ::= ;",
+        &[(0, &[B, C, B]), (2, &[B]), (1, &[D, D]), (3, EMPTY)],
+        [true, true, true, true],
+    ),
+    (
+        "A ::= B C; B ::= D; C ::= A; D ::= ;",
+        &[(0, &[B, C]), (1, &[D]), (2, &[A]), (3, EMPTY)],
+        [false, true, false, true],
+    ),
+    (
         "A ::= B; B ::= C; C ::= D; D ::= \"w\" D;",
         &[(0, &[B]), (1, &[C]), (2, &[D]), (3, &[WORD, D])],
         [false, false, false, false],
@@ -103,21 +113,20 @@ fn a_kind_is_not_nullable_and_a_category_is_where_its_flag_is_set(
 }
 
 #[test]
-fn a_side_is_nullable_where_each_of_its_items_is(rt: HostRuntime) -> Result<(), Fail> {
-    let cases = [
-        (EMPTY, true),
-        ([A].as_slice(), true),
-        ([B].as_slice(), false),
-        ([WORD].as_slice(), false),
-        ([A, C].as_slice(), true),
-        ([A, C, A].as_slice(), true),
-        ([A, B].as_slice(), false),
-        ([B, C].as_slice(), false),
-        ([A, WORD].as_slice(), false),
-        ([A, WORD, C].as_slice(), false),
+fn items_have_numbers_where_they_are_categories_alone(rt: HostRuntime) -> Result<(), Fail> {
+    let cases: [(&[Symbol], Option<&[u16]>); 7] = [
+        (EMPTY, Some(&[])),
+        (&[A], Some(&[0])),
+        (&[C, A, C], Some(&[2, 0, 2])),
+        (&[WORD], None),
+        (&[A, WORD], None),
+        (&[WORD, B], None),
+        (&[A, WORD, C], None),
     ];
     for (items, want) in cases {
-        assert_eq!(rt; are_nullable(FLAGS.as_slice(), items), want, "at {items:?}");
+        let numbers = category_numbers(rt.alloc(), items)?;
+        let numbers = numbers.as_ref().map(|numbers| numbers.as_slice());
+        assert_eq!(rt; numbers, want, "at {items:?}");
     }
     Ok(())
 }
