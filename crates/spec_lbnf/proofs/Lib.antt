@@ -11,3 +11,4 @@ pub mod PieceLemmas
 pub mod LeastLemmas
 pub mod DefSizeLemmas
 pub mod SmallLemmas
+pub mod MemoryLemmas

@@ -138,7 +138,7 @@ longer_by other = None
 abbrev pub IsLongestSign : Sign → List ℕ → Type 0
 IsLongestSign sign rest = IfSome (longer_by sign) (λ more. HasFront more rest → ⊥)
 
--- the bytes are this token, the longest that begins where they do and the rest is behind them
+-- the bytes are this token, and where the rest is behind them no longer token begins with them
 abbrev pub IsTokenBefore : FileToken → List ℕ → List ℕ → Type 0
 IsTokenBefore (Identifier name) bytes rest =
     IsIdentifier bytes × RunEnds is_name_byte rest × (name ≡ bytes)

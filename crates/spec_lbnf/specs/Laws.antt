@@ -5,7 +5,9 @@ use Rattle.std.specs.Prelude.{IfSome}
 use Rattle.spec_grammar.specs.Cycles.{IsAcyclic}
 use Rattle.spec_lbnf.specs.declared.definition.Def.{Def}
 use Rattle.spec_lbnf.specs.declared.fault.GrammarFault.{GrammarFault}
-use Rattle.spec_lbnf.specs.Faults.{Spells}
+use Rattle.spec_lbnf.specs.declared.fault.GrammarFault.TheVariants.{Memory as GrammarMemory}
+use Rattle.spec_lbnf.specs.declared.fault.TextFault.TheVariants.{Memory as FileMemory}
+use Rattle.spec_lbnf.specs.Faults.{Spells, IsFirstFault}
 use Rattle.spec_lbnf.specs.Limits.{size_of, AreFewAndSmall}
 use Rattle.spec_grammar.specs.Grammars.{Grammar, name_number, HasOwnSymbols}
 use Rattle.spec_lbnf.specs.Expansion.{distinct, expansion_of}
@@ -30,6 +32,14 @@ FitOrUnfit = (defs : List Def) (fault : GrammarFault) → AreFit defs → IsUnfi
 abbrev pub OneUnfitness : Type 0
 OneUnfitness =
     (defs : List Def) (a b : GrammarFault) → IsUnfit defs a → IsUnfit defs b → a ≡ b
+
+-- no first fault of a file is want of memory
+abbrev pub NoMemoryFault : Type 0
+NoMemoryFault = (bytes : List ℕ) → IsFirstFault bytes FileMemory → ⊥
+
+-- no definitions are unfit for want of memory
+abbrev pub NoMemoryUnfitness : Type 0
+NoMemoryUnfitness = (defs : List Def) → IsUnfit defs GrammarMemory → ⊥
 
 -- no grammar both is without a cycle and has a first cyclic category
 abbrev pub AcyclicOrCyclic : Type 0

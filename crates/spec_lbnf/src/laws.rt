@@ -1,6 +1,6 @@
 //! Laws of the definitions: each function here does nothing, and its clause is a theorem.
 ghost use Rattle.spec_lbnf.specs.Laws.{OwnSymbols, OwnEntry, FitOrUnfit, OneUnfitness};
-ghost use Rattle.spec_lbnf.specs.Laws.{NumbersNameBack};
+ghost use Rattle.spec_lbnf.specs.Laws.{NumbersNameBack, NoMemoryFault, NoMemoryUnfitness};
 ghost use Rattle.spec_lbnf.specs.Laws.{AcyclicOrCyclic, OneCyclic, DistinctNames};
 ghost use Rattle.spec_lbnf.specs.Laws.{TwoBytesForEach, DefsWithinLimits};
 
@@ -14,6 +14,12 @@ pub fn own_symbols()
 pub fn fit_or_unfit()
     ensures either { FitOrUnfit }
     ensures one { OneUnfitness }
+{}
+
+/// Want of memory is no first fault of a file, and definitions are not unfit for it.
+pub fn never_memory()
+    ensures file { NoMemoryFault }
+    ensures definitions { NoMemoryUnfitness }
 {}
 
 /// Where all categories are known, the entry is a symbol of the grammar.
