@@ -4,7 +4,7 @@ use Rattle.std.proofs.Common.{◌≡◌, ℕ, ◌+◌, ◌^◌, ◌<◌, ◌≤�
 use Rattle.std.proofs.Common.{None, Result, Ok, Err, OnOk, refl, sym, ◌∙◌, ap, subst, arith}
 use Rattle.std.proofs.Common.{append_assoc, append-nil, length-append}
 use Rattle.spec_grammar.specs.Grammars.{Grammar}
-use Rattle.spec_script.specs.Script.{opens, ask, Part, header, grammar, of_command, nothing, header_alone}
+use Rattle.spec_script.specs.Script.{question_form, opens, ask, Part, header, grammar, of_command, nothing, header_alone}
 use Rattle.spec_script.specs.Script.{with_grammar, parts_of, line_of, block_of, text_of, IsWithinLimits}
 use Rattle.spec_script.specs.Script.{MayFollow, BeginsWithScript, broken}
 use Rattle.spec_session.specs.GrammarReplies.{IsAccepted, grammar_reply}
@@ -52,17 +52,17 @@ grammar_early from to old new found finds =
     taken_early from to old new (grammar f.0) f.2
 
 -- the part in its place
-is_header : (part : Part) → MayFollow nothing part → IsHeader part
+is_header : (part : Part) → MayFollow question_form nothing part → IsHeader part
 is_header header h = tt
 is_header (grammar block) h = absurd h
 is_header (of_command command) h = absurd h
 
-is_grammar : (part : Part) → MayFollow header_alone part → IsGrammar part
+is_grammar : (part : Part) → MayFollow question_form header_alone part → IsGrammar part
 is_grammar header h = absurd h
 is_grammar (grammar block) h = tt
 is_grammar (of_command command) h = absurd h
 
-is_text : (block : List ℕ) (part : Part) → MayFollow (with_grammar block []) part → IsText part
+is_text : (block : List ℕ) (part : Part) → MayFollow question_form (with_grammar block []) part → IsText part
 is_text block header h = absurd h
 is_text block (grammar other) h = absurd h
 is_text block (of_command (opens text)) h = tt

@@ -6,7 +6,7 @@ use Rattle.std.proofs.lemmas.List.{take-append-drop}
 use Rattle.cyk_io.specs.Streams.{Takes, Grows, GrowsByPrefix}
 use Rattle.cyk_io.specs.Lines.{IsLine}
 use Rattle.spec_grammar.specs.Grammars.{Grammar}
-use Rattle.spec_script.specs.Script.{Constituent, Query, has, Command, opens, ask, Part, header, grammar}
+use Rattle.spec_script.specs.Script.{question_form, Constituent, Query, has, Command, opens, ask, Part, header, grammar}
 use Rattle.spec_script.specs.Script.{of_command, Script, with_grammar, parts_of, line_of, block_of}
 use Rattle.spec_script.specs.Script.{text_of, IsWithinLimits, AreQuestions, IsInOrder, MayFollow}
 use Rattle.spec_script.specs.Script.{BeginsWithParts, BeginsWithScript, Ending, ended, broken, EndsAs, IsScript}
@@ -14,7 +14,7 @@ use Rattle.spec_session.specs.GrammarReplies.{IsAccepted, grammar_reply}
 use Rattle.spec_session.specs.Steps.{no_texts, with_text, IsReply, version_reply}
 use Rattle.spec_session.specs.Runs.{AreReplies}
 use Rattle.spec_session.specs.Answers.{IsAnswer}
-use Rattle.spec_session.specs.Sessions.{AreAllReplies, IsSession, refused, whole, last_line, last_status}
+use Rattle.spec_session.specs.Sessions.{serve_mode, AreAllReplies, IsSession, refused, whole, last_line, last_status}
 use Rattle.spec_script.proofs.ScriptLemmas.{tested, each_differs, lacks_if_each_differs, cut_same}
 use Rattle.spec_script.proofs.ScriptLemmas.{part_line, line_lacks_lf, line_is_short}
 use Rattle.spec_script.proofs.BeginningLemmas.{parts_more}
@@ -65,7 +65,7 @@ BeginsWithParts-append at bytes (first ∷ parts) mid rest h part more early w e
 module _ (input before : List ℕ) where
   -- a fault left a prefix: the replies so far and a part of the next line
   pub cut_short : (told line : List ℕ)
-      → ((out : List ℕ) (status : ℕ) → IsSession input out status → (more : List ℕ) × (out ≡ (told ++ line) ++ more))
+      → ((out : List ℕ) (status : ℕ) → IsSession serve_mode input out status → (more : List ℕ) × (out ≡ (told ++ line) ++ more))
       → (old new : Option (List ℕ)) → old ≡ Some (before ++ told) → GrowsByPrefix old new line
       → (status : Status) → IsFaultStatus (number_of status) → Ends input before new status
   cut_short told line sure old new written cut status fault = (
@@ -86,20 +86,20 @@ module _ (input before : List ℕ) where
 
   -- nothing more was written
   pub stopped : (told : List ℕ)
-      → ((out : List ℕ) (status : ℕ) → IsSession input out status → (more : List ℕ) × (out ≡ told ++ more))
+      → ((out : List ℕ) (status : ℕ) → IsSession serve_mode input out status → (more : List ℕ) × (out ≡ told ++ more))
       → (now : Option (List ℕ)) → now ≡ Some (before ++ told) → (status : Status)
       → IsFaultStatus (number_of status) → Ends input before now status
   stopped told sure now written status fault = (told, written, inr (fault, sure))
 
-  module _ (front : Script) (at : ℕ) (rest told : List ℕ) (in_order : IsInOrder front)
-      (begins : BeginsWithScript input front at rest) (replies : AreAllReplies front told) where
+  module _ (front : Script) (at : ℕ) (rest told : List ℕ) (in_order : IsInOrder question_form front)
+      (begins : BeginsWithScript input front at rest) (replies : AreAllReplies serve_mode front told) where
     -- a fault behind this script
     pub stopped_behind : (now : Option (List ℕ)) → now ≡ Some (before ++ told) → (status : Status)
         → IsFaultStatus (number_of status) → Ends input before now status
     stopped_behind = stopped told (replies_come_first input front at rest told begins in_order replies)
 
     -- the last line of the session
-    pub last : (ending : Ending) → EndsAs front at rest ending → (old new : Option (List ℕ))
+    pub last : (ending : Ending) → EndsAs question_form front at rest ending → (old new : Option (List ℕ))
         → old ≡ Some (before ++ told) → (wanted status : Status) → number_of wanted ≡ last_status ending
         → EndsWith old new (last_line ending) wanted status → Ends input before new status
     last ending ends old new written wanted status final (inl h) = (
@@ -108,23 +108,23 @@ module _ (input before : List ℕ) where
       inl (whole front ending told script replies refl (ap number_of h.1 ∙ final)),
     )
       where
-        script : IsScript input front ending
+        script : IsScript question_form input front ending
         script = record { at = at; rest = rest; in_order = in_order; begins = begins; ends = ends }
     last ending ends old new written wanted status final (inr h) =
         cut_short told (last_line ending) sure old new written h.0 status (write_stop status h.1)
       where
-        script : IsScript input front ending
+        script : IsScript question_form input front ending
         script = record { at = at; rest = rest; in_order = in_order; begins = begins; ends = ends }
 
-        sure : (out : List ℕ) (n : ℕ) → IsSession input out n
+        sure : (out : List ℕ) (n : ℕ) → IsSession serve_mode input out n
             → (more : List ℕ) × (out ≡ (told ++ last_line ending) ++ more)
         sure out n s =
             let all = replies_then_last_line input front ending told script replies out n s in
             ([], all.0 ∙ sym (append-nil (told ++ last_line ending)))
 
   -- one more part whose reply was cut short
-  pub cut_behind : (front : Script) (at : ℕ) (rest told line : List ℕ) → IsInOrder front
-      → BeginsWithScript input front at rest → AreAllReplies front (told ++ line) → (old new : Option (List ℕ))
+  pub cut_behind : (front : Script) (at : ℕ) (rest told line : List ℕ) → IsInOrder question_form front
+      → BeginsWithScript input front at rest → AreAllReplies serve_mode front (told ++ line) → (old new : Option (List ℕ))
       → old ≡ Some (before ++ told) → GrowsByPrefix old new line → (status : Status)
       → IsFaultStatus (number_of status) → Ends input before new status
   cut_behind front at rest told line in_order begins replies =
@@ -147,7 +147,7 @@ module _ (input before : List ℕ) where
           (λ out n s. ([], (refusal_is_all input block line at rest begins r out n s).0 ∙ sym (append-nil line)))
           old new none_yet cut status fault
       by_line line (inr a) cut status fault =
-          let P : List ℕ → Type 0 = AreAllReplies (with_grammar block []) in
+          let P : List ℕ → Type 0 = AreAllReplies serve_mode (with_grammar block []) in
           cut_behind (with_grammar block []) at rest [] line tt begins
           (subst P (sym a.2) (grammar_told a.0 block a.1)) old new none_yet cut status fault
 
@@ -171,7 +171,7 @@ module _ (input before : List ℕ) where
       by_status status h
     where
       sure : (line : List ℕ) → IsReply g no_texts (opens text) line → (out : List ℕ) (n : ℕ)
-          → IsSession input out n → (more : List ℕ) × (out ≡ (grammar_reply g ++ line) ++ more)
+          → IsSession serve_mode input out n → (more : List ℕ) × (out ≡ (grammar_reply g ++ line) ++ more)
       sure line t out n s =
           let told = text_told g block text t.0 [] [] accepted t.1 (none_told g (with_text no_texts text)) in
           let front : Script = with_grammar block (opens text ∷ []) in
@@ -183,7 +183,7 @@ module _ (input before : List ℕ) where
           → (status : Status) → IsFaultStatus (number_of status) → Ends input before new status
       by_line line t cut status fault = cut_short (grammar_reply g) line (sure line t) old new written cut status fault
 
-      before_text : (out : List ℕ) (n : ℕ) → IsSession input out n → (more : List ℕ) × (out ≡ grammar_reply g ++ more)
+      before_text : (out : List ℕ) (n : ℕ) → IsSession serve_mode input out n → (more : List ℕ) × (out ≡ grammar_reply g ++ more)
       before_text =
           replies_come_first input (with_grammar block []) mid mid_rest (grammar_reply g)
           mid_begins tt (grammar_told g block accepted)
@@ -264,7 +264,7 @@ no_text_behind (opens other ∷ questions) text h = h
 
 -- behind a text and questions the part in its place is a question
 next_question : (block text : List ℕ) (questions : List Command) (part : Part)
-    → MayFollow (with_grammar block (opens text ∷ questions)) part
+    → MayFollow question_form (with_grammar block (opens text ∷ questions)) part
     → (query : Query) × (part ≡ of_command (ask query))
 next_question block text questions header h = absurd h
 next_question block text questions (grammar other) h = absurd h
@@ -280,7 +280,7 @@ module _ {input before : List ℕ} {coming : Option (List ℕ)} {at : ℕ} {now 
   told : List ℕ
   told = grammar_reply opened.language.grammar ++ (version_reply 0 (length r.tokens) ++ r.replies)
 
-  all_replies : AreAllReplies front told
+  all_replies : AreAllReplies serve_mode front told
   unfolding front told
   all_replies =
       text_told opened.language.grammar r.block r.text r.tokens r.questions r.replies
@@ -416,7 +416,7 @@ module _ {input before : List ℕ} {coming : Option (List ℕ)} {at : ℕ} {now 
     running_cut new cut status fault =
         let questions : List Command = r.questions ++ ask query ∷ [] in
         let script : Script = with_grammar r.block (opens r.text ∷ questions) in
-        let P : List ℕ → Type 0 = AreAllReplies script in
+        let P : List ℕ → Type 0 = AreAllReplies serve_mode script in
         cut_behind input before script to behind.0 told line are_more begins_more
         (subst P (sym (longer line)) (text_told opened.language.grammar r.block r.text r.tokens questions
         (r.replies ++ line) r.accepted (r.is_opened).are_tokens replies_are))

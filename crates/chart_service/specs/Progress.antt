@@ -7,7 +7,7 @@ use Rattle.spec_script.specs.Script.{BeginsWithScript}
 use Rattle.spec_session.specs.GrammarReplies.{IsAccepted, grammar_reply}
 use Rattle.spec_session.specs.Steps.{no_texts, with_text, version_reply}
 use Rattle.spec_session.specs.Runs.{AreReplies}
-use Rattle.spec_session.specs.Sessions.{IsSession}
+use Rattle.spec_session.specs.Sessions.{serve_mode, IsSession}
 use Rattle.chart_service.specs.declared.opening.Opened.{Opened}
 use Rattle.chart_service.specs.declared.status.Status.{Status}
 use Rattle.chart_service.specs.Statuses.{number_of}
@@ -38,7 +38,7 @@ pub record Running (input before : List ℕ) (coming : Option (List ℕ)) (at : 
 abbrev pub Ends : List ℕ → List ℕ → Option (List ℕ) → Status → Type 0
 Ends input before now status =
     (out : List ℕ) × (now ≡ Some (before ++ out))
-    × (IsSession input out (number_of status)
+    × (IsSession serve_mode input out (number_of status)
     ⊎ (IsFaultStatus (number_of status) × IsPrefixOfSession input out))
 
 -- a text was opened, or the session was ended before

@@ -1,7 +1,7 @@
 -- What `serve` promises: the session that its input defines, or a prefix of it and a fault's
 -- status.
 use Rattle.std.specs.Prelude.{◌≡◌, ℕ, ◌<◌, ◌≤◌, ◌^◌, ◌⊎◌, List, ◌++◌, Option, Some}
-use Rattle.spec_session.specs.Sessions.{IsSession}
+use Rattle.spec_session.specs.Sessions.{serve_mode, IsSession}
 use Rattle.chart_service.specs.declared.options.Options.{Options}
 
 -- the options are allowed, each within its limits
@@ -24,7 +24,7 @@ IsStatus status = (status ≡ 0) ⊎ (status ≡ 2) ⊎ (status ≡ 3) ⊎ IsFau
 -- the bytes are a prefix of what the input's session writes
 abbrev pub IsPrefixOfSession : List ℕ → List ℕ → Type 0
 IsPrefixOfSession input written =
-    (out : List ℕ) (status : ℕ) → IsSession input out status
+    (out : List ℕ) (status : ℕ) → IsSession serve_mode input out status
     → (rest : List ℕ) × (out ≡ written ++ rest)
 
 -- where the source tells its bytes and the sink those written: the new bytes and the status are the
@@ -34,4 +34,4 @@ abbrev pub WritesSession : Option (List ℕ) → Option (List ℕ) → Option (L
 WritesSession left old new status =
     (input before : List ℕ) → left ≡ Some input → old ≡ Some before
     → (out : List ℕ) × (new ≡ Some (before ++ out))
-    × (IsSession input out status ⊎ (IsFaultStatus status × IsPrefixOfSession input out))
+    × (IsSession serve_mode input out status ⊎ (IsFaultStatus status × IsPrefixOfSession input out))

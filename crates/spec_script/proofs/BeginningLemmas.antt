@@ -1,6 +1,6 @@
 -- Of two beginnings of an input one is the front of the other. So an input is one script.
 use Rattle.std.proofs.Common.{arith, drop, get_or, ◌<◌, ◌^◌, ◌≡◌, ℕ, ◌+◌, ◌⊎◌, inl, inr, List, [], ◌∷◌, ◌++◌, length, refl, sym, ◌∙◌, ap, subst, append_assoc, append-nil}
-use Rattle.spec_script.specs.Script.{Command, opens, ask, Part, header, grammar, of_command, Script, nothing, header_alone, with_grammar, as_parts, parts_of, text_of, IsWithinLimits, AreQuestions, AreInOrder, IsInOrder, MayFollow, BeginsWithParts, BeginsWithScript, Ending, ended, broken, EndsAs, IsScript}
+use Rattle.spec_script.specs.Script.{Command, opens, ask, Part, header, grammar, of_command, Script, nothing, header_alone, with_grammar, as_parts, parts_of, Form, question_form, text_of, IsWithinLimits, AreQuestions, AreInOrder, IsInOrder, MayFollow, BeginsWithParts, BeginsWithScript, Ending, ended, broken, EndsAs, IsScript}
 use Rattle.spec_script.specs.Laws.{OneScript}
 use Rattle.spec_script.proofs.ScriptLemmas.{same_part, end_is_no_part}
 
@@ -49,7 +49,7 @@ questions_front (ask query ∷ front) back h = questions_front front back h
 questions_front (opens text ∷ front) back h = h
 
 -- the first of commands in order are in order
-in_order_front : (front back : List Command) → AreInOrder (front ++ back) → AreInOrder front
+pub in_order_front : (front back : List Command) → AreInOrder (front ++ back) → AreInOrder front
 in_order_front [] back h = tt
 in_order_front (opens text ∷ questions) back h = questions_front questions back h
 in_order_front (ask query ∷ commands) back h = h
@@ -110,105 +110,115 @@ same_parts (with_grammar block commands) (with_grammar other others) e =
     let behind : commands ≡ others = same_commands commands others (ap (drop 2) e) in
     ap (λ (b : List ℕ). with_grammar b commands) blocks ∙ ap (λ (all : List Command). with_grammar other all) behind
 
--- the command behind some, where all are in order, is in its place
-next_in_place : (block : List ℕ) (commands longer more : List Command) (part : Part) (behind : List Part) →
-    longer ≡ commands ++ more → part ∷ behind ≡ as_parts more → AreInOrder longer →
-    MayFollow (with_grammar block commands) part
-next_in_place block commands longer [] part behind e f in_order = absurd (omega (arith, ap length f))
-next_in_place block commands longer (command ∷ more) part behind e f in_order =
-    let whole : AreInOrder ((commands ++ command ∷ []) ++ more) =
-    rw (append_assoc commands (command ∷ []) more) (subst AreInOrder e in_order) in
-    let P : Part → Type 0 = MayFollow (with_grammar block commands) in
-    let same : part ≡ of_command command = ap (part_at 0) f in
-    subst P (sym same) (in_order_front (commands ++ command ∷ []) more whole)
+-- commands that may stand behind a grammar may stand there without the last of them
+abbrev pub HasFronts : Form → Type 0
+HasFronts form = (front back : List Command) → form.MayStand (front ++ back) → form.MayStand front
 
--- the part with which a longer script goes on is in its place
-part_in_place : (script longer : Script) (part : Part) (behind : List Part) →
-    parts_of longer ≡ parts_of script ++ (part ∷ behind) → IsInOrder longer → MayFollow script part
-part_in_place nothing nothing part behind e in_order = absurd (omega (arith, ap length e))
-part_in_place nothing header_alone part behind e in_order =
-    let P : Part → Type 0 = MayFollow nothing in subst P (ap (part_at 0) e) tt
-part_in_place nothing (with_grammar block commands) part behind e in_order =
-    let P : Part → Type 0 = MayFollow nothing in subst P (ap (part_at 0) e) tt
-part_in_place header_alone nothing part behind e in_order = absurd (omega (arith, ap length e))
-part_in_place header_alone header_alone part behind e in_order = absurd (omega (arith, ap length e))
-part_in_place header_alone (with_grammar block commands) part behind e in_order =
-    let P : Part → Type 0 = MayFollow header_alone in subst P (ap (part_at 1) e) tt
-part_in_place (with_grammar block commands) nothing part behind e in_order = absurd (omega (arith, ap length e))
-part_in_place (with_grammar block commands) header_alone part behind e in_order =
-    absurd (omega (arith, ap length e))
-part_in_place (with_grammar block commands) (with_grammar other longer) part behind e in_order =
-    let f = commands_behind commands longer (part ∷ behind) (ap (drop 2) e) in
-    next_in_place block commands longer f.0 part behind f.1 f.2 in_order
+-- where the form has fronts
+module _ (form : Form) (fronts : HasFronts form) where
+  -- the command behind some, where all are in order, is in its place
+  next_in_place : (block : List ℕ) (commands longer more : List Command) (part : Part) (behind : List Part) →
+      longer ≡ commands ++ more → part ∷ behind ≡ as_parts more → form.MayStand longer →
+      MayFollow form (with_grammar block commands) part
+  next_in_place block commands longer [] part behind e f in_order = absurd (omega (arith, ap length f))
+  next_in_place block commands longer (command ∷ more) part behind e f in_order =
+      let whole : form.MayStand ((commands ++ command ∷ []) ++ more) =
+      rw (append_assoc commands (command ∷ []) more) (subst form.MayStand e in_order) in
+      let P : Part → Type 0 = MayFollow form (with_grammar block commands) in
+      let same : part ≡ of_command command = ap (part_at 0) f in
+      subst P (sym same) (fronts (commands ++ command ∷ []) more whole)
 
--- where a script ends in some way
-module _ (script : Script) (at : ℕ) (rest : List ℕ) where
-  -- no part of a longer one follows
-  pub no_part_behind : (ending : Ending) → EndsAs script at rest ending →
-      (part : Part) (behind : List Part) (later : ℕ) (more : List ℕ) →
-      BeginsWithParts at rest (part ∷ behind) later more → MayFollow script part → ⊥
-  no_part_behind ended h part behind later more k in_place =
-      end_is_no_part part h.more k.0 k.2 (sym h.spelled ∙ k.3)
-  no_part_behind (broken place) h part behind later more k in_place =
-      h.1 (record {
-        part = part;
-        more = k.0;
-        early = k.1;
-        in_place = in_place;
-        within_limits = k.2;
-        spelled = k.3;
-      })
+  -- the part with which a longer script goes on is in its place
+  part_in_place : (script longer : Script) (part : Part) (behind : List Part) →
+      parts_of longer ≡ parts_of script ++ (part ∷ behind) → IsInOrder form longer → MayFollow form script part
+  part_in_place nothing nothing part behind e in_order = absurd (omega (arith, ap length e))
+  part_in_place nothing header_alone part behind e in_order =
+      let P : Part → Type 0 = MayFollow form nothing in subst P (ap (part_at 0) e) tt
+  part_in_place nothing (with_grammar block commands) part behind e in_order =
+      let P : Part → Type 0 = MayFollow form nothing in subst P (ap (part_at 0) e) tt
+  part_in_place header_alone nothing part behind e in_order = absurd (omega (arith, ap length e))
+  part_in_place header_alone header_alone part behind e in_order = absurd (omega (arith, ap length e))
+  part_in_place header_alone (with_grammar block commands) part behind e in_order =
+      let P : Part → Type 0 = MayFollow form header_alone in subst P (ap (part_at 1) e) tt
+  part_in_place (with_grammar block commands) nothing part behind e in_order = absurd (omega (arith, ap length e))
+  part_in_place (with_grammar block commands) header_alone part behind e in_order =
+      absurd (omega (arith, ap length e))
+  part_in_place (with_grammar block commands) (with_grammar other longer) part behind e in_order =
+      let f = commands_behind commands longer (part ∷ behind) (ap (drop 2) e) in
+      next_in_place block commands longer f.0 part behind f.1 f.2 in_order
 
-  -- it does so in no other way
-  pub same_ending : (ending final : Ending) → EndsAs script at rest ending → EndsAs script at rest final →
-      ending ≡ final
-  same_ending ended ended h k = refl
-  same_ending ended (broken place) h k = absurd (k.2 h)
-  same_ending (broken place) ended h k = absurd (h.2 k)
-  same_ending (broken place) (broken other) h k = ap broken (h.0 ∙ sym k.0)
+  -- where a script ends in some way
+  module _ (script : Script) (at : ℕ) (rest : List ℕ) where
+    -- no part of a longer one follows
+    pub no_part_behind : (ending : Ending) → EndsAs form script at rest ending →
+        (part : Part) (behind : List Part) (later : ℕ) (more : List ℕ) →
+        BeginsWithParts at rest (part ∷ behind) later more → MayFollow form script part → ⊥
+    no_part_behind ended h part behind later more k in_place =
+        end_is_no_part part h.more k.0 k.2 (sym h.spelled ∙ k.3)
+    no_part_behind (broken place) h part behind later more k in_place =
+        h.1 (record {
+          part = part;
+          more = k.0;
+          early = k.1;
+          in_place = in_place;
+          within_limits = k.2;
+          spelled = k.3;
+        })
 
--- where an input is a script
-module _ (input : List ℕ) (script : Script) (ending : Ending) (s : IsScript input script ending) where
-  -- it goes on from each script that the input begins with
-  pub script_goes_on : (other : Script) (later : ℕ) (more : List ℕ) →
-      BeginsWithScript input other later more → IsInOrder other →
-      IsFollowed (parts_of other) later more (parts_of script) s.at s.rest
-  script_goes_on other later more k in_order =
-      elim (two_beginnings (parts_of script) (parts_of other) 0 s.at later input s.rest more s.begins k) [
-        | inl f ↦ cut f.0 f.1 f.2
-        | inr f ↦ f
-      ]
-    where
-      cut : (behind : List Part) → parts_of other ≡ parts_of script ++ behind →
-          BeginsWithParts s.at s.rest behind later more →
-          IsFollowed (parts_of other) later more (parts_of script) s.at s.rest
-      cut [] e f =
-          let back : parts_of script ≡ parts_of other ++ [] =
-          sym (append-nil (parts_of script)) ∙ sym e ∙ sym (append-nil (parts_of other)) in
-          ([], back, (sym f.0, sym f.1))
-      cut (part ∷ behind) e f =
-          let in_place = part_in_place script other part behind e in_order in
-          absurd (no_part_behind script s.at s.rest ending s.ends part behind later more f in_place)
+    -- it does so in no other way
+    pub same_ending : (ending final : Ending) → EndsAs form script at rest ending → EndsAs form script at rest final →
+        ending ≡ final
+    same_ending ended ended h k = refl
+    same_ending ended (broken place) h k = absurd (k.2 h)
+    same_ending (broken place) ended h k = absurd (h.2 k)
+    same_ending (broken place) (broken other) h k = ap broken (h.0 ∙ sym k.0)
 
-  -- it is no other script
-  pub same_script : (other : Script) (final : Ending) → IsScript input other final →
-      (script ≡ other) × (ending ≡ final)
-  same_script other final t =
-      let f = script_goes_on other t.at t.rest t.begins t.in_order in
-      cut f.0 f.1 f.2
-    where
-      cut : (behind : List Part) → parts_of script ≡ parts_of other ++ behind →
-          BeginsWithParts t.at t.rest behind s.at s.rest → (script ≡ other) × (ending ≡ final)
-      cut [] e f =
-          let same : script ≡ other = same_parts script other (e ∙ append-nil (parts_of other)) in
-          let Ends : Script → Type 0 = λ (one : Script). EndsAs one s.at s.rest ending in
-          let ends_so : EndsAs other s.at s.rest ending = subst Ends same s.ends in
-          let ends : EndsAs other t.at t.rest ending = rw (sym f.0, sym f.1) ends_so in
-          (same, same_ending other t.at t.rest ending final ends t.ends)
-      cut (part ∷ behind) e f =
-          let in_place = part_in_place other script part behind e s.in_order in
-          absurd (no_part_behind other t.at t.rest final t.ends part behind s.at s.rest f in_place)
+  -- where an input is a script
+  module _ (input : List ℕ) (script : Script) (ending : Ending) (s : IsScript form input script ending) where
+    -- it goes on from each script that the input begins with
+    pub script_goes_on : (other : Script) (later : ℕ) (more : List ℕ) →
+        BeginsWithScript input other later more → IsInOrder form other →
+        IsFollowed (parts_of other) later more (parts_of script) s.at s.rest
+    script_goes_on other later more k in_order =
+        elim (two_beginnings (parts_of script) (parts_of other) 0 s.at later input s.rest more s.begins k) [
+          | inl f ↦ cut f.0 f.1 f.2
+          | inr f ↦ f
+        ]
+      where
+        cut : (behind : List Part) → parts_of other ≡ parts_of script ++ behind →
+            BeginsWithParts s.at s.rest behind later more →
+            IsFollowed (parts_of other) later more (parts_of script) s.at s.rest
+        cut [] e f =
+            let back : parts_of script ≡ parts_of other ++ [] =
+            sym (append-nil (parts_of script)) ∙ sym e ∙ sym (append-nil (parts_of other)) in
+            ([], back, (sym f.0, sym f.1))
+        cut (part ∷ behind) e f =
+            let in_place = part_in_place script other part behind e in_order in
+            absurd (no_part_behind script s.at s.rest ending s.ends part behind later more f in_place)
 
--- an input is one script
-pub one_script : OneScript
-one_script input script other ending final s t = same_script input script ending s other final t
+    -- it is no other script
+    pub same_script : (other : Script) (final : Ending) → IsScript form input other final →
+        (script ≡ other) × (ending ≡ final)
+    same_script other final t =
+        let f = script_goes_on other t.at t.rest t.begins t.in_order in
+        cut f.0 f.1 f.2
+      where
+        cut : (behind : List Part) → parts_of script ≡ parts_of other ++ behind →
+            BeginsWithParts t.at t.rest behind s.at s.rest → (script ≡ other) × (ending ≡ final)
+        cut [] e f =
+            let same : script ≡ other = same_parts script other (e ∙ append-nil (parts_of other)) in
+            let Ends : Script → Type 0 = λ (one : Script). EndsAs form one s.at s.rest ending in
+            let ends_so : EndsAs form other s.at s.rest ending = subst Ends same s.ends in
+            let ends : EndsAs form other t.at t.rest ending = rw (sym f.0, sym f.1) ends_so in
+            (same, same_ending other t.at t.rest ending final ends t.ends)
+        cut (part ∷ behind) e f =
+            let in_place = part_in_place other script part behind e s.in_order in
+            absurd (no_part_behind other t.at t.rest final t.ends part behind s.at s.rest f in_place)
+
+  -- an input is one script
+  pub one_script_of : OneScript form
+  one_script_of input script other ending final s t = same_script input script ending s other final t
+
+-- so it is where texts and questions stand behind a grammar
+pub one_script : OneScript question_form
+one_script = one_script_of question_form in_order_front

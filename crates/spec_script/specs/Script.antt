@@ -119,26 +119,36 @@ AreComplete [] = ⊥
 AreComplete (opens text ∷ questions) = AreQuestions questions
 AreComplete (ask query ∷ commands) = ⊥
 
--- the script's commands, if it has any, are in order
-abbrev pub IsInOrder : Script → Type 0
-IsInOrder nothing = Unit {0}
-IsInOrder header_alone = Unit {0}
-IsInOrder (with_grammar block commands) = AreInOrder commands
+-- a form of scripts: which commands may stand behind a grammar, and behind which of them the line
+-- `end` may follow
+pub record Form : Type 1 where
+  pub MayStand : List Command → Type 0
+  pub MayEnd : List Command → Type 0
 
--- the script has all that it needs, so that the line `end` may follow
-abbrev pub IsComplete : Script → Type 0
-IsComplete nothing = ⊥
-IsComplete header_alone = ⊥
-IsComplete (with_grammar block commands) = AreComplete commands
+-- the form of the scripts that open a text and ask questions of it
+abbrev pub question_form : Form
+question_form = record { MayStand = AreInOrder; MayEnd = AreComplete }
+
+-- the script is of this form: its commands, if it has any, may stand behind a grammar
+abbrev pub IsInOrder : Form → Script → Type 0
+IsInOrder form nothing = Unit {0}
+IsInOrder form header_alone = Unit {0}
+IsInOrder form (with_grammar block commands) = form.MayStand commands
+
+-- the script has all that a script of this form needs, so that the line `end` may follow
+abbrev pub IsComplete : Form → Script → Type 0
+IsComplete form nothing = ⊥
+IsComplete form header_alone = ⊥
+IsComplete form (with_grammar block commands) = form.MayEnd commands
 
 -- behind the script the part is in its place: the header behind nothing, a grammar behind the
--- header, and behind a grammar the next command in order
-abbrev pub MayFollow : Script → Part → Type 0
-MayFollow nothing header = Unit {0}
-MayFollow header_alone (grammar block) = Unit {0}
-MayFollow (with_grammar block commands) (of_command command) =
-    AreInOrder (commands ++ command ∷ [])
-MayFollow script part = ⊥
+-- header, and behind a grammar the next command that the form lets stand there
+abbrev pub MayFollow : Form → Script → Part → Type 0
+MayFollow form nothing header = Unit {0}
+MayFollow form header_alone (grammar block) = Unit {0}
+MayFollow form (with_grammar block commands) (of_command command) =
+    form.MayStand (commands ++ command ∷ [])
+MayFollow form script part = ⊥
 
 -- the bytes from the offset `at` on begin with these parts, behind which `rest` stands at the
 -- offset `end`; each line begins below 2 ^ 48
@@ -153,19 +163,19 @@ abbrev pub BeginsWithScript : List ℕ → Script → ℕ → List ℕ → Type 
 BeginsWithScript input script at rest = BeginsWithParts 0 input (parts_of script) at rest
 
 -- at the offset `at` the rest goes on with one more part, in its place
-pub record GoesOn (script : Script) (at : ℕ) (rest : List ℕ) : Type 0 where
+pub record GoesOn (form : Form) (script : Script) (at : ℕ) (rest : List ℕ) : Type 0 where
   pub part : Part
   pub more : List ℕ
   pub early : at < 2 ^ 48
-  pub in_place : MayFollow script part
+  pub in_place : MayFollow form script part
   pub within_limits : IsWithinLimits part
   pub spelled : rest ≡ text_of part ++ more
 
 -- at the offset `at` the rest begins with the line `end`, in its place
-pub record HasEndLine (script : Script) (at : ℕ) (rest : List ℕ) : Type 0 where
+pub record HasEndLine (form : Form) (script : Script) (at : ℕ) (rest : List ℕ) : Type 0 where
   pub more : List ℕ
   pub early : at < 2 ^ 48
-  pub complete : IsComplete script
+  pub complete : IsComplete form script
   pub spelled : rest ≡ codes "end" ++ (10 ∷ more)
 
 -- how a script ends: by its line `end`, or broken at this offset
@@ -175,15 +185,17 @@ pub data Ending : Type 0 where
 
 -- behind these parts the script ends so: its line `end` follows, or it is broken where neither
 -- `end` nor a part in its place follows
-abbrev pub EndsAs : Script → ℕ → List ℕ → Ending → Type 0
-EndsAs script at rest ended = HasEndLine script at rest
-EndsAs script at rest (broken place) =
-    (place ≡ at) × (GoesOn script at rest → ⊥) × (HasEndLine script at rest → ⊥)
+abbrev pub EndsAs : Form → Script → ℕ → List ℕ → Ending → Type 0
+EndsAs form script at rest ended = HasEndLine form script at rest
+EndsAs form script at rest (broken place) =
+    (place ≡ at) × (GoesOn form script at rest → ⊥) × (HasEndLine form script at rest → ⊥)
 
--- the input is this script, which ends so; what stands behind its `end` or its break has no effect
-pub record IsScript (input : List ℕ) (script : Script) (ending : Ending) : Type 0 where
+-- the input is this script of the form, which ends so; what stands behind its `end` or its break
+-- has no effect
+pub record IsScript (form : Form) (input : List ℕ) (script : Script) (ending : Ending)
+    : Type 0 where
   pub at : ℕ
   pub rest : List ℕ
-  pub in_order : IsInOrder script
+  pub in_order : IsInOrder form script
   pub begins : BeginsWithScript input script at rest
-  pub ends : EndsAs script at rest ending
+  pub ends : EndsAs form script at rest ending

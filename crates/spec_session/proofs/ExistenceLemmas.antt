@@ -7,7 +7,7 @@ use Rattle.spec_grammar.specs.Grammars.{Grammar}
 use Rattle.spec_script.specs.Script.{Constituent, Query, has, Command, opens, ask, Part, header, grammar}
 use Rattle.spec_script.specs.Script.{of_command, Script, nothing, header_alone, with_grammar, parts_of}
 use Rattle.spec_script.specs.Script.{as_parts, line_of, block_of, text_of, AreQuestions, AreInOrder}
-use Rattle.spec_script.specs.Script.{IsInOrder, MayFollow, BeginsWithParts, BeginsWithScript, GoesOn}
+use Rattle.spec_script.specs.Script.{IsInOrder, MayFollow, question_form, BeginsWithParts, BeginsWithScript, GoesOn}
 use Rattle.spec_script.specs.Script.{HasEndLine, Ending, ended, broken, IsScript}
 use Rattle.spec_script.proofs.BeginningLemmas.{begins_more, parts_more}
 use Rattle.spec_session.specs.GrammarReplies.{grammar_reply}
@@ -16,7 +16,7 @@ use Rattle.spec_session.specs.Answers.{HasCategory, first_of, end_of, IsWithin, 
 use Rattle.spec_session.specs.Answers.{IsDerived, unknown_category_line, outside_line, yes_line}
 use Rattle.spec_session.specs.Answers.{no_line, of_no_category, of_no_span, IsHasAnswer, refused_has}
 use Rattle.spec_session.specs.Answers.{yes, no, IsAnswer}
-use Rattle.spec_session.specs.Sessions.{last_line, last_status, IsSession, refused, whole}
+use Rattle.spec_session.specs.Sessions.{serve_mode, last_line, last_status, IsSession, refused, whole}
 use Rattle.spec_session.specs.Existence.{SomeSession}
 use Rattle.spec_session.proofs.DenialLemmas.{IsUndeniable, decided}
 use Rattle.spec_session.proofs.RunLemmas.{AreTold, replies_told}
@@ -35,8 +35,8 @@ fewer_behind part rest more e =
     )
 
 -- a script and a part in its place are a longer script
-longer_script : (script : Script) (part : Part) → MayFollow script part →
-    (longer : Script) × IsInOrder longer × (parts_of longer ≡ parts_of script ++ part ∷ [])
+longer_script : (script : Script) (part : Part) → MayFollow question_form script part →
+    (longer : Script) × IsInOrder question_form longer × (parts_of longer ≡ parts_of script ++ part ∷ [])
 longer_script nothing header h = (header_alone, tt, refl)
 longer_script header_alone (grammar block) h = (with_grammar block [], tt, refl)
 longer_script (with_grammar block commands) (of_command command) h =
@@ -48,19 +48,19 @@ longer_script script part h = absurd h
 module _ (input : List ℕ) where
   -- the input is a script
   abbrev HasScript : Type 0
-  HasScript = (script : Script) × (ending : Ending) × IsScript input script ending
+  HasScript = (script : Script) × (ending : Ending) × IsScript question_form input script ending
 
   -- the input has a session
   abbrev HasSession : Type 0
-  HasSession = (out : List ℕ) × (status : ℕ) × IsSession input out status
+  HasSession = (out : List ℕ) × (status : ℕ) × IsSession serve_mode input out status
 
   -- where an input goes on by no part, a script ends or is broken there
   script_here :
       (script : Script) (at : ℕ) (rest : List ℕ) →
-      IsInOrder script → BeginsWithScript input script at rest → (GoesOn script at rest → ⊥) →
+      IsInOrder question_form script → BeginsWithScript input script at rest → (GoesOn question_form script at rest → ⊥) →
       IsUndeniable HasScript
   script_here script at rest in_order begins stops denied =
-      let Ends : Type 0 = HasEndLine script at rest in
+      let Ends : Type 0 = HasEndLine question_form script at rest in
       decided Ends (λ (split : Ends ⊎ (Ends → ⊥)). elim split [
         | inl end ↦ denied (
           script,
@@ -89,11 +89,11 @@ module _ (input : List ℕ) where
   -- from each beginning the input goes on to the end of a script: each part takes a byte or more
   script_from :
       (size : ℕ) (script : Script) (at : ℕ) (rest : List ℕ) →
-      length rest < size → IsInOrder script → BeginsWithScript input script at rest →
+      length rest < size → IsInOrder question_form script → BeginsWithScript input script at rest →
       IsUndeniable HasScript
   script_from zero script at rest lt in_order begins denied = omega arith
   script_from (suc size) script at rest lt in_order begins denied =
-      let On : Type 0 = GoesOn script at rest in
+      let On : Type 0 = GoesOn question_form script at rest in
       decided On (λ (split : On ⊎ (On → ⊥)). elim split [
         | inl on ↦
             let fewer : length on.more < length rest =
@@ -201,7 +201,7 @@ module _ (input : List ℕ) where
   -- a script with a grammar has a session
   session_of_grammar :
       (block : List ℕ) (commands : List Command) (ending : Ending) →
-      IsScript input (with_grammar block commands) ending → IsUndeniable (HasSession input)
+      IsScript question_form input (with_grammar block commands) ending → IsUndeniable (HasSession input)
   session_of_grammar block commands ending script denied =
       let h = script.begins in
       some_verdict block (λ (split : HasVerdict block). elim split [
@@ -213,7 +213,7 @@ module _ (input : List ℕ) where
               all ++ last_line ending,
               last_status ending,
               whole (with_grammar block commands) ending all script
-                  (accepted.0, told.0, accepted.1, replied, refl) refl refl,
+                  (accepted.0, [], told.0, accepted.1, refl, replied, refl) refl refl,
             ))
         | inr refusal ↦
             let end : ℕ = length (text_of header) + length (text_of (grammar block)) in
@@ -224,13 +224,13 @@ module _ (input : List ℕ) where
 
   -- the input has a session by each script that it is
   session_of :
-      (script : Script) (ending : Ending) → IsScript input script ending → IsUndeniable (HasSession input)
+      (script : Script) (ending : Ending) → IsScript question_form input script ending → IsUndeniable (HasSession input)
   session_of nothing ending script denied =
-      let session : IsSession input (last_line ending) (last_status ending) =
+      let session : IsSession serve_mode input (last_line ending) (last_status ending) =
       whole nothing ending [] script refl refl refl in
       denied (last_line ending, last_status ending, session)
   session_of header_alone ending script denied =
-      let session : IsSession input (last_line ending) (last_status ending) =
+      let session : IsSession serve_mode input (last_line ending) (last_status ending) =
       whole header_alone ending [] script refl refl refl in
       denied (last_line ending, last_status ending, session)
   session_of (with_grammar block commands) ending script denied =

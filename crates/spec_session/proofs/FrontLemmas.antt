@@ -3,12 +3,12 @@ use Rattle.std.proofs.Common.{◌≡◌, ℕ, List, [], ◌∷◌, ◌++◌, len
 use Rattle.spec_lexing.specs.declared.token.Token.{Token}
 use Rattle.spec_lexing.specs.Tokens.{AreTokensOf}
 use Rattle.spec_grammar.specs.Grammars.{Grammar}
-use Rattle.spec_script.specs.Script.{Query, Command, opens, ask, AreQuestions, Script, with_grammar, IsInOrder}
+use Rattle.spec_script.specs.Script.{Query, Command, opens, ask, AreQuestions, Script, with_grammar, question_form, IsInOrder}
 use Rattle.spec_script.specs.Script.{BeginsWithScript, Ending, IsScript}
 use Rattle.spec_session.specs.GrammarReplies.{IsAccepted, IsRefused, grammar_reply}
 use Rattle.spec_session.specs.Steps.{version_reply, State, no_texts, with_text, IsReply, Leaves}
 use Rattle.spec_session.specs.Runs.{AreReplies}
-use Rattle.spec_session.specs.Sessions.{AreAllReplies, last_line, IsSession}
+use Rattle.spec_session.specs.Sessions.{serve_mode, AreAllReplies, last_line, IsSession}
 use Rattle.spec_session.proofs.RunLemmas.{AreTold, told_of, replies_told}
 use Rattle.spec_session.proofs.SessionsLemmas.{StartsWith, replies_come_first, replies_then_last_line, refusal_is_all}
 
@@ -49,21 +49,21 @@ none_told g from = replies_told g from [] [] refl
 
 -- the replies to a grammar alone
 pub grammar_told : (g : Grammar) (block : List ℕ) → IsAccepted block g →
-    AreAllReplies (with_grammar block []) (grammar_reply g)
-grammar_told g block accepted = (g, [], accepted, none_told g no_texts, sym (append-nil (grammar_reply g)))
+    AreAllReplies serve_mode (with_grammar block []) (grammar_reply g)
+grammar_told g block accepted = (g, [], [], accepted, refl, none_told g no_texts, sym (append-nil (grammar_reply g)))
 
 -- the replies to a grammar, a text and questions
 pub text_told : (g : Grammar) (block text : List ℕ) (tokens : List Token) (questions : List Command)
     (replies : List ℕ) → IsAccepted block g → AreTokensOf g.lexicon text tokens →
     AreReplies g (with_text no_texts text) questions replies →
-    AreAllReplies (with_grammar block (opens text ∷ questions))
+    AreAllReplies serve_mode (with_grammar block (opens text ∷ questions))
     (grammar_reply g ++ (version_reply 0 (length tokens) ++ replies))
 text_told g block text tokens questions replies accepted are_tokens h =
     let version : List ℕ = version_reply 0 (length tokens) in
     let behind = told_of g (with_text no_texts text) questions replies h in
     let all = replies_told g no_texts (opens text ∷ questions) (version ++ replies)
     (version, replies, with_text no_texts text, (tokens, are_tokens, refl), refl, refl, behind) in
-    (g, version ++ replies, accepted, all, refl)
+    (g, [], version ++ replies, accepted, refl, all, refl)
 
 -- a front of a front is a front
 pub starts_through : (out told cut : List ℕ) → StartsWith out told → StartsWith told cut → StartsWith out cut
@@ -72,16 +72,16 @@ starts_through out told cut h k =
 
 -- a front of the replies to the script that an input begins with is a front of its session
 pub front_of_replies : (input : List ℕ) (front : Script) (at : ℕ) (rest told cut : List ℕ) →
-    BeginsWithScript input front at rest → IsInOrder front → AreAllReplies front told → StartsWith told cut →
-    (out : List ℕ) (status : ℕ) → IsSession input out status → StartsWith out cut
+    BeginsWithScript input front at rest → IsInOrder question_form front → AreAllReplies serve_mode front told → StartsWith told cut →
+    (out : List ℕ) (status : ℕ) → IsSession serve_mode input out status → StartsWith out cut
 front_of_replies input front at rest told cut begins in_order replies starts out status session =
     let first = replies_come_first input front at rest told begins in_order replies out status session in
     starts_through out told cut first starts
 
 -- a front of the replies to a script and of its last line is one too
 pub front_of_script : (input : List ℕ) (script : Script) (ending : Ending) (told cut : List ℕ) →
-    IsScript input script ending → AreAllReplies script told → StartsWith (told ++ last_line ending) cut →
-    (out : List ℕ) (status : ℕ) → IsSession input out status → StartsWith out cut
+    IsScript question_form input script ending → AreAllReplies serve_mode script told → StartsWith (told ++ last_line ending) cut →
+    (out : List ℕ) (status : ℕ) → IsSession serve_mode input out status → StartsWith out cut
 front_of_script input script ending told cut s replies starts out status session =
     let all = replies_then_last_line input script ending told s replies out status session in
     (starts.0, all.0 ∙ starts.1)
@@ -89,7 +89,7 @@ front_of_script input script ending told cut s replies starts out status session
 -- and so is a front of the line that refuses the grammar
 pub front_of_refusal : (input block line cut : List ℕ) (at : ℕ) (rest : List ℕ) →
     BeginsWithScript input (with_grammar block []) at rest → IsRefused block line → StartsWith line cut →
-    (out : List ℕ) (status : ℕ) → IsSession input out status → StartsWith out cut
+    (out : List ℕ) (status : ℕ) → IsSession serve_mode input out status → StartsWith out cut
 front_of_refusal input block line cut at rest begins refusal starts out status session =
     let all = refusal_is_all input block line at rest begins refusal out status session in
     (starts.0, all.0 ∙ starts.1)

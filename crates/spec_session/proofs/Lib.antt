@@ -5,3 +5,4 @@ pub mod FrontLemmas
 pub mod DenialLemmas
 pub mod VerdictLemmas
 pub mod ExistenceLemmas
+pub mod CheckingLemmas

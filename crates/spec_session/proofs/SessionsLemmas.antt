@@ -6,9 +6,9 @@ use Rattle.spec_script.specs.Script.{Command, Part, Script, nothing, header_alon
 use Rattle.spec_session.specs.GrammarReplies.{IsRefused, grammar_reply}
 use Rattle.spec_session.specs.Steps.{State, no_texts}
 use Rattle.spec_session.specs.Runs.{AreReplies}
-use Rattle.spec_session.specs.Sessions.{AreAllReplies, last_line, last_status, IsSession, refused, whole}
+use Rattle.spec_session.specs.Sessions.{Mode, serve_mode, AreAllReplies, last_line, last_status, IsSession, refused, whole}
 use Rattle.spec_session.specs.Laws.{OneSession, RepliesComeFirst, RepliesThenLastLine, RefusalIsAll}
-use Rattle.spec_script.proofs.BeginningLemmas.{two_beginnings, commands_behind, second_block, script_goes_on, same_script}
+use Rattle.spec_script.proofs.BeginningLemmas.{two_beginnings, commands_behind, second_block, HasFronts, in_order_front, script_goes_on, same_script}
 use Rattle.spec_session.proofs.RunLemmas.{AreTold, told_of, one_after}
 use Rattle.spec_session.proofs.RepliesLemmas.{one_grammar, accepted_or_refused, one_refusal, one_reply}
 
@@ -48,130 +48,159 @@ replies_start g from commands behind told out h k =
     told_start g from commands behind told out (told_of g from commands told h)
     (told_of g from (commands ++ behind) out k)
 
--- so are the replies to the first part of a script behind its grammar
-grammar_start : (block : List ℕ) (commands : List Command) (other : List ℕ) (longer : List Command)
-    (behind : List Part) (told out : List ℕ) →
-    parts_of (with_grammar other longer) ≡ parts_of (with_grammar block commands) ++ behind →
-    AreAllReplies (with_grammar block commands) told → AreAllReplies (with_grammar other longer) out →
-    StartsWith out told
-grammar_start block commands other longer behind told out e h k =
-    let f = commands_behind commands longer behind (ap (drop 2) e) in
-    let blocks : other ≡ block = ap second_block e in
-    let one : k.0 ≡ h.0 = one_grammar block k.0 h.0 (rw (sym blocks) k.2) h.2 in
-    let again : out ≡ grammar_reply h.0 ++ k.1 = k.4 ∙ ap (λ g. grammar_reply g ++ k.1) one in
-    let replies : AreReplies h.0 no_texts (commands ++ f.0) k.1 = rw (sym one, sym f.1) k.3 in
-    let tail = replies_start h.0 no_texts commands f.0 h.1 k.1 h.3 replies in
-    starts_after (grammar_reply h.0) out k.1 told h.1 h.4 again tail
+-- the mode is definite: its form lets no command stand behind a grammar, and the fronts of what may
+-- stand there; and one text at most follows the reply to a grammar
+pub record IsDefinite (mode : Mode) : Type 0 where
+  pub bare : mode.form.MayStand []
+  pub fronts : HasFronts mode.form
+  pub one_text : (g : Grammar) (lines others : List ℕ) → mode.Follow g lines → mode.Follow g others → lines ≡ others
 
--- and those to a script of which another is a beginning
-all_replies_start : (script longer : Script) (behind : List Part) (told out : List ℕ) →
-    parts_of longer ≡ parts_of script ++ behind → AreAllReplies script told → AreAllReplies longer out →
-    StartsWith out told
-all_replies_start nothing longer behind told out e h k = (out, rw h refl)
-all_replies_start header_alone longer behind told out e h k = (out, rw h refl)
-all_replies_start (with_grammar block commands) nothing behind told out e h k = absurd (omega (arith, ap length e))
-all_replies_start (with_grammar block commands) header_alone behind told out e h k =
-    absurd (omega (arith, ap length e))
-all_replies_start (with_grammar block commands) (with_grammar other longer) behind told out e h k =
-    grammar_start block commands other longer behind told out e h k
+-- in a mode that is definite
+module _ (mode : Mode) (definite : IsDefinite mode) where
+  -- so are the replies to the first part of a script behind its grammar
+  grammar_start : (block : List ℕ) (commands : List Command) (other : List ℕ) (longer : List Command)
+      (behind : List Part) (told out : List ℕ) →
+      parts_of (with_grammar other longer) ≡ parts_of (with_grammar block commands) ++ behind →
+      AreAllReplies mode (with_grammar block commands) told → AreAllReplies mode (with_grammar other longer) out →
+      StartsWith out told
+  grammar_start block commands other longer behind told out e h k =
+      let f = commands_behind commands longer behind (ap (drop 2) e) in
+      let blocks : other ≡ block = ap second_block e in
+      let one : k.0 ≡ h.0 = one_grammar block k.0 h.0 (rw (sym blocks) k.3) h.3 in
+      let again : out ≡ grammar_reply h.0 ++ (k.1 ++ k.2) =
+      k.6 ∙ ap (λ g. grammar_reply g ++ (k.1 ++ k.2)) one in
+      let Follows : Grammar → Type 0 = λ (g : Grammar). mode.Follow g k.1 in
+      let lines : k.1 ≡ h.1 = definite.one_text h.0 k.1 h.1 (subst Follows one k.4) h.4 in
+      let replies : AreReplies h.0 no_texts (commands ++ f.0) k.2 = rw (sym one, sym f.1) k.5 in
+      let tail = replies_start h.0 no_texts commands f.0 h.2 k.2 h.5 replies in
+      let middle = starts_after h.1 (k.1 ++ k.2) k.2 (h.1 ++ h.2) h.2 refl (ap (λ these. these ++ k.2) lines) tail in
+      starts_after (grammar_reply h.0) out (k.1 ++ k.2) told (h.1 ++ h.2) h.6 again middle
 
--- a script has one text of replies
-same_replies : (script : Script) (told out : List ℕ) →
-    AreAllReplies script told → AreAllReplies script out → told ≡ out
-same_replies script told out h k =
-    let whole : parts_of script ≡ parts_of script ++ [] = sym (append-nil (parts_of script)) in
-    same_starts told out
-    (all_replies_start script script [] out told whole k h)
-    (all_replies_start script script [] told out whole h k)
+  -- and those to a script of which another is a beginning
+  all_replies_start : (script longer : Script) (behind : List Part) (told out : List ℕ) →
+      parts_of longer ≡ parts_of script ++ behind → AreAllReplies mode script told → AreAllReplies mode longer out →
+      StartsWith out told
+  all_replies_start nothing longer behind told out e h k = (out, rw h refl)
+  all_replies_start header_alone longer behind told out e h k = (out, rw h refl)
+  all_replies_start (with_grammar block commands) nothing behind told out e h k = absurd (omega (arith, ap length e))
+  all_replies_start (with_grammar block commands) header_alone behind told out e h k =
+      absurd (omega (arith, ap length e))
+  all_replies_start (with_grammar block commands) (with_grammar other longer) behind told out e h k =
+      grammar_start block commands other longer behind told out e h k
 
--- where a grammar is refused
-module _ (block line : List ℕ) (refusal : IsRefused block line) where
-  -- a script that begins with it has no replies
-  no_replies : (script : Script) (behind : List Part) (told : List ℕ) →
-      parts_of script ≡ parts_of (with_grammar block []) ++ behind → AreAllReplies script told → ⊥
-  no_replies nothing behind told e h = omega (arith, ap length e)
-  no_replies header_alone behind told e h = omega (arith, ap length e)
-  no_replies (with_grammar other commands) behind told e h =
-      let same : other ≡ block = ap second_block e in
-      accepted_or_refused block line h.0 (rw (sym same) h.2) refusal
+  -- a script has one text of replies
+  same_replies : (script : Script) (told out : List ℕ) →
+      AreAllReplies mode script told → AreAllReplies mode script out → told ≡ out
+  same_replies script told out h k =
+      let whole : parts_of script ≡ parts_of script ++ [] = sym (append-nil (parts_of script)) in
+      same_starts told out
+      (all_replies_start script script [] out told whole k h)
+      (all_replies_start script script [] told out whole h k)
 
-  -- before it nothing is told
-  nothing_told : (script : Script) (behind : List Part) (told : List ℕ) →
-      parts_of (with_grammar block []) ≡ parts_of script ++ behind → AreAllReplies script told → told ≡ []
-  nothing_told nothing behind told e h = h
-  nothing_told header_alone behind told e h = h
-  nothing_told (with_grammar other commands) behind told e h =
-      let same : block ≡ other = ap second_block e in
-      absurd (accepted_or_refused block line h.0 (rw same h.2) refusal)
+  -- where a grammar is refused
+  module _ (block line : List ℕ) (refusal : IsRefused block line) where
+    -- a script that begins with it has no replies
+    no_replies : (script : Script) (behind : List Part) (told : List ℕ) →
+        parts_of script ≡ parts_of (with_grammar block []) ++ behind → AreAllReplies mode script told → ⊥
+    no_replies nothing behind told e h = omega (arith, ap length e)
+    no_replies header_alone behind told e h = omega (arith, ap length e)
+    no_replies (with_grammar other commands) behind told e h =
+        let same : other ≡ block = ap second_block e in
+        accepted_or_refused block line h.0 (rw (sym same) h.3) refusal
 
--- where an input is a script with these replies
-module _ (input : List ℕ) (script : Script) (ending : Ending) (told : List ℕ)
-    (s : IsScript input script ending) (replies : AreAllReplies script told) where
-  -- its session tells the replies and the last line, and has the status of the script's end
-  pub script_session : (out : List ℕ) (status : ℕ) → IsSession input out status →
-      (out ≡ told ++ last_line ending) × (status ≡ last_status ending)
-  script_session out status (refused block rest at begins refusal e) =
-      let f = script_goes_on input script ending s (with_grammar block []) at rest begins tt in
-      absurd (no_replies block out refusal script f.0 told f.1 replies)
-  script_session out status (whole other final bytes t k e d) =
-      let same = same_script input other final t script ending s in
-      let again : AreAllReplies script bytes = subst (λ all. AreAllReplies all bytes) same.0 k in
-      let one : bytes ≡ told = same_replies script bytes told again replies in
-      let last : bytes ++ last_line final ≡ told ++ last_line ending =
-      ap (λ front. front ++ last_line final) one ∙ ap (λ end. told ++ last_line end) same.1 in
-      (e ∙ last, d ∙ ap last_status same.1)
+    -- before it nothing is told
+    nothing_told : (script : Script) (behind : List Part) (told : List ℕ) →
+        parts_of (with_grammar block []) ≡ parts_of script ++ behind → AreAllReplies mode script told → told ≡ []
+    nothing_told nothing behind told e h = h
+    nothing_told header_alone behind told e h = h
+    nothing_told (with_grammar other commands) behind told e h =
+        let same : block ≡ other = ap second_block e in
+        absurd (accepted_or_refused block line h.0 (rw same h.3) refusal)
 
--- where an input begins with a header and a grammar that is refused
-module _ (input block line : List ℕ) (at : ℕ) (rest : List ℕ)
-    (begins : BeginsWithScript input (with_grammar block []) at rest) (refusal : IsRefused block line) where
-  -- the grammar behind the header is this one
-  same_block : (other : List ℕ) (place : ℕ) (more : List ℕ) →
-      BeginsWithScript input (with_grammar other []) place more → block ≡ other
-  same_block other place more k =
-      let front : List Part = parts_of (with_grammar block []) in
-      elim (two_beginnings front (parts_of (with_grammar other [])) 0 at place input rest more begins k) [
-        | inl f ↦ sym (ap second_block f.1)
-        | inr f ↦ ap second_block f.1
+  -- where an input is a script with these replies
+  module _ (input : List ℕ) (script : Script) (ending : Ending) (told : List ℕ)
+      (s : IsScript mode.form input script ending) (replies : AreAllReplies mode script told) where
+    -- its session tells the replies and the last line, and has the status of the script's end
+    pub script_session : (out : List ℕ) (status : ℕ) → IsSession mode input out status →
+        (out ≡ told ++ last_line ending) × (status ≡ last_status ending)
+    script_session out status (refused block rest at begins refusal e) =
+        let f = script_goes_on mode.form definite.fronts input script ending s (with_grammar block []) at rest begins definite.bare in
+        absurd (no_replies block out refusal script f.0 told f.1 replies)
+    script_session out status (whole other final bytes t k e d) =
+        let same = same_script mode.form definite.fronts input other final t script ending s in
+        let again : AreAllReplies mode script bytes = subst (λ all. AreAllReplies mode all bytes) same.0 k in
+        let one : bytes ≡ told = same_replies script bytes told again replies in
+        let last : bytes ++ last_line final ≡ told ++ last_line ending =
+        ap (λ front. front ++ last_line final) one ∙ ap (λ end. told ++ last_line end) same.1 in
+        (e ∙ last, d ∙ ap last_status same.1)
+
+  -- where an input begins with a header and a grammar that is refused
+  module _ (input block line : List ℕ) (at : ℕ) (rest : List ℕ)
+      (begins : BeginsWithScript input (with_grammar block []) at rest) (refusal : IsRefused block line) where
+    -- the grammar behind the header is this one
+    same_block : (other : List ℕ) (place : ℕ) (more : List ℕ) →
+        BeginsWithScript input (with_grammar other []) place more → block ≡ other
+    same_block other place more k =
+        let front : List Part = parts_of (with_grammar block []) in
+        elim (two_beginnings front (parts_of (with_grammar other [])) 0 at place input rest more begins k) [
+          | inl f ↦ sym (ap second_block f.1)
+          | inr f ↦ ap second_block f.1
+        ]
+
+    -- the session tells the refusal alone, and has status 2
+    pub refused_session : (out : List ℕ) (status : ℕ) → IsSession mode input out status → (out ≡ line) × (status ≡ 2)
+    refused_session out status (refused other more place k refusal' e) =
+        (one_refusal block out line (rw (same_block other place more k) refusal') refusal, e)
+    refused_session out status (whole script ending replies s k e d) =
+        let f = script_goes_on mode.form definite.fronts input script ending s (with_grammar block []) at rest begins definite.bare in
+        absurd (no_replies block line refusal script f.0 replies f.1 k)
+
+  -- where the grammar is refused, the refusal is all that is told
+  pub refusal_is_all_of : RefusalIsAll mode
+  refusal_is_all_of input block line at rest begins refusal out status session =
+      refused_session input block line at rest begins refusal out status session
+
+  -- behind the replies to a script its last line is told, and nothing more
+  pub replies_then_last_line_of : RepliesThenLastLine mode
+  replies_then_last_line_of input script ending told s replies out status session =
+      script_session input script ending told s replies out status session
+
+  -- the replies to the first parts are told first
+  pub replies_come_first_of : RepliesComeFirst mode
+  replies_come_first_of input front at rest told h in_order replies out status (refused block more place k refusal e) =
+      let refused_parts : List Part = parts_of (with_grammar block []) in
+      elim (two_beginnings (parts_of front) refused_parts 0 at place input rest more h k) [
+        | inl f ↦ (out, rw (nothing_told block out refusal front f.0 told f.1 replies) refl)
+        | inr f ↦ absurd (no_replies block out refusal front f.0 told f.1 replies)
       ]
+  replies_come_first_of input front at rest told h in_order replies out status (whole script ending all s k e d) =
+      let f = script_goes_on mode.form definite.fronts input script ending s front at rest h in_order in
+      let start = all_replies_start front script f.0 told all f.1 replies k in
+      let last : all ++ last_line ending ≡ told ++ (start.0 ++ last_line ending) =
+      ap (λ bytes. bytes ++ last_line ending) start.1 ∙ append_assoc told start.0 (last_line ending) in
+      (start.0 ++ last_line ending, e ∙ last)
 
-  -- the session tells the refusal alone, and has status 2
-  pub refused_session : (out : List ℕ) (status : ℕ) → IsSession input out status → (out ≡ line) × (status ≡ 2)
-  refused_session out status (refused other more place k refusal' e) =
-      (one_refusal block out line (rw (same_block other place more k) refusal') refusal, e)
-  refused_session out status (whole script ending replies s k e d) =
-      let f = script_goes_on input script ending s (with_grammar block []) at rest begins tt in
-      absurd (no_replies block line refusal script f.0 replies f.1 k)
+  -- an input has one session
+  pub one_session_of : OneSession mode
+  one_session_of input out other status final (refused block rest at h refusal e) session =
+      let same = refused_session input block out at rest h refusal other final session in
+      (sym same.0, e ∙ sym same.1)
+  one_session_of input out other status final (whole script ending replies s h e d) session =
+      let same = script_session input script ending replies s h other final session in
+      (e ∙ sym same.0, d ∙ sym same.1)
 
--- where the grammar is refused, the refusal is all that is told
-pub refusal_is_all : RefusalIsAll
-refusal_is_all input block line at rest begins refusal out status session =
-    refused_session input block line at rest begins refusal out status session
+-- the mode `serve` is definite
+serve_definite : IsDefinite serve_mode
+serve_definite = record { bare = tt; fronts = in_order_front; one_text = λ g lines others h k. h ∙ sym k }
 
--- behind the replies to a script its last line is told, and nothing more
-pub replies_then_last_line : RepliesThenLastLine
-replies_then_last_line input script ending told s replies out status session =
-    script_session input script ending told s replies out status session
+pub refusal_is_all : RefusalIsAll serve_mode
+refusal_is_all = refusal_is_all_of serve_mode serve_definite
 
--- the replies to the first parts are told first
-pub replies_come_first : RepliesComeFirst
-replies_come_first input front at rest told h in_order replies out status (refused block more place k refusal e) =
-    let refused_parts : List Part = parts_of (with_grammar block []) in
-    elim (two_beginnings (parts_of front) refused_parts 0 at place input rest more h k) [
-      | inl f ↦ (out, rw (nothing_told block out refusal front f.0 told f.1 replies) refl)
-      | inr f ↦ absurd (no_replies block out refusal front f.0 told f.1 replies)
-    ]
-replies_come_first input front at rest told h in_order replies out status (whole script ending all s k e d) =
-    let f = script_goes_on input script ending s front at rest h in_order in
-    let start = all_replies_start front script f.0 told all f.1 replies k in
-    let last : all ++ last_line ending ≡ told ++ (start.0 ++ last_line ending) =
-    ap (λ bytes. bytes ++ last_line ending) start.1 ∙ append_assoc told start.0 (last_line ending) in
-    (start.0 ++ last_line ending, e ∙ last)
+pub replies_then_last_line : RepliesThenLastLine serve_mode
+replies_then_last_line = replies_then_last_line_of serve_mode serve_definite
 
--- an input has one session
-pub one_session : OneSession
-one_session input out other status final (refused block rest at h refusal e) session =
-    let same = refused_session input block out at rest h refusal other final session in
-    (sym same.0, e ∙ sym same.1)
-one_session input out other status final (whole script ending replies s h e d) session =
-    let same = script_session input script ending replies s h other final session in
-    (e ∙ sym same.0, d ∙ sym same.1)
+pub replies_come_first : RepliesComeFirst serve_mode
+replies_come_first = replies_come_first_of serve_mode serve_definite
+
+pub one_session : OneSession serve_mode
+one_session = one_session_of serve_mode serve_definite

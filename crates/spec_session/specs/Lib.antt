@@ -6,3 +6,4 @@ pub mod GrammarReplies
 pub mod Lines
 pub mod Laws
 pub mod Existence
+pub mod Checking

@@ -1,4 +1,6 @@
-//! Laws of sessions. Each is the contract of a function with an empty body.
+//! Laws of runs, and of the sessions of the mode `serve`. Each is the contract of a function with an
+//! empty body.
+ghost use Rattle.spec_session.specs.Sessions.{serve_mode};
 ghost use Rattle.spec_session.specs.Laws.{OneRun, OneSession, RepliesComeFirst};
 ghost use Rattle.spec_session.specs.Laws.{RepliesThenLastLine, RefusalIsAll};
 
@@ -9,22 +11,22 @@ pub fn one_run()
 
 /// An input has at most one session: the bytes that it writes, and its status.
 pub fn one_session()
-    ensures { OneSession }
+    ensures { OneSession serve_mode }
 {}
 
 /// The replies to the commands that an input begins with are what its session writes first, where
 /// the grammar among them is accepted. So replies may be written before the next command is read.
 pub fn replies_come_first()
-    ensures { RepliesComeFirst }
+    ensures { RepliesComeFirst serve_mode }
 {}
 
 /// Behind the replies to all commands of a script its session writes the last line, and no more.
 /// Its status is that of the script's end: 0, or 3 where the script is broken.
 pub fn replies_then_last_line()
-    ensures { RepliesThenLastLine }
+    ensures { RepliesThenLastLine serve_mode }
 {}
 
 /// Where the grammar is refused, its refusal is all that the session writes, and its status is 2.
 pub fn refusal_is_all()
-    ensures { RefusalIsAll }
+    ensures { RefusalIsAll serve_mode }
 {}

@@ -2,8 +2,10 @@
 //! code here than laws of these.
 #![tactic(auto)]
 
+mod checking;
 mod existence;
 mod laws;
 
+pub use checking::one_check_session;
 pub use existence::some_session;
 pub use laws::{one_run, one_session, refusal_is_all, replies_come_first, replies_then_last_line};

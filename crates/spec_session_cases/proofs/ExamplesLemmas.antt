@@ -16,13 +16,13 @@ use Rattle.lbnf_readers.specs.FileReading.{next_on, take_token, sign_at, name_at
 use Rattle.lbnf_readers.specs.FileDefinitions.{piece_def, defs_at}
 use Rattle.lbnf_readers.proofs.ScanLemmas.{scanned}
 use Rattle.lbnf_readers.proofs.FaultLemmas.{defs_are, fault_is}
-use Rattle.spec_script.specs.Script.{Part, header, grammar, of_command, nothing, header_alone}
+use Rattle.spec_script.specs.Script.{question_form, Part, header, grammar, of_command, nothing, header_alone}
 use Rattle.spec_script.specs.Script.{line_of, block_of, text_of, IsWithinLimits, MayFollow, broken}
 use Rattle.spec_script.specs.Script.{IsScript}
 use Rattle.spec_session.specs.Lines.{as_line, with_number}
 use Rattle.spec_session.specs.GrammarReplies.{IsRefused, faulty, unfit, fault_reason, unfit_reason}
 use Rattle.spec_session.specs.GrammarReplies.{refusal_line}
-use Rattle.spec_session.specs.Sessions.{last_line, IsSession, refused, whole}
+use Rattle.spec_session.specs.Sessions.{serve_mode, last_line, IsSession, refused, whole}
 use Rattle.spec_script.proofs.ScriptLemmas.{tested, part_line, same_rest, same_number}
 
 -- the line that refuses a script at a place of one digit
@@ -47,16 +47,16 @@ part_is_some part more e =
 -- an input that does not begin with the header
 module _ (input : List ℕ) (other : (more : List ℕ) → input ≡ codes "script 1\n" ++ more → ⊥) where
   -- begins with no part in its place
-  no_first : (part : Part) (more : List ℕ) → MayFollow nothing part → input ≡ text_of part ++ more → ⊥
+  no_first : (part : Part) (more : List ℕ) → MayFollow question_form nothing part → input ≡ text_of part ++ more → ⊥
   no_first header more in_place e = other more e
   no_first (grammar block) more in_place e = in_place
   no_first (of_command command) more in_place e = in_place
 
   -- so it is a script that breaks at its first byte
-  pub refused_at_0 : IsSession input (refused_at 0) 3
+  pub refused_at_0 : IsSession serve_mode input (refused_at 0) 3
   refused_at_0 = whole nothing (broken 0) [] script refl (broken_line 0 (omega arith)) refl
     where
-      script : IsScript input nothing (broken 0)
+      script : IsScript question_form input nothing (broken 0)
       script = record {
         at = 0;
         rest = input;
@@ -72,16 +72,16 @@ module _ (input : List ℕ) (other : (more : List ℕ) → input ≡ codes "scri
 -- an input that begins with the header, behind which no grammar stands
 module _ (rest : List ℕ) (other : (block more : List ℕ) → IsWithinLimits (grammar block) → rest ≡ text_of (grammar block) ++ more → ⊥) where
   -- goes on with no part in its place
-  no_second : (part : Part) (more : List ℕ) → MayFollow header_alone part → IsWithinLimits part → rest ≡ text_of part ++ more → ⊥
+  no_second : (part : Part) (more : List ℕ) → MayFollow question_form header_alone part → IsWithinLimits part → rest ≡ text_of part ++ more → ⊥
   no_second header more in_place within e = in_place
   no_second (grammar block) more in_place within e = other block more within e
   no_second (of_command command) more in_place within e = in_place
 
   -- so it is a script that breaks behind the header
-  pub refused_at_9 : IsSession (codes "script 1\n" ++ rest) (refused_at 9) 3
+  pub refused_at_9 : IsSession serve_mode (codes "script 1\n" ++ rest) (refused_at 9) 3
   refused_at_9 = whole header_alone (broken 9) [] script refl (broken_line 9 (omega arith)) refl
     where
-      script : IsScript (codes "script 1\n" ++ rest) header_alone (broken 9)
+      script : IsScript question_form (codes "script 1\n" ++ rest) header_alone (broken 9)
       script = record {
         at = 9;
         rest = rest;
@@ -119,7 +119,7 @@ block_text block small =
 module _ (block more word : List ℕ) (digit : ℕ) (short : length block < 10) (small : digit < 10)
     (refusal : IsRefused block (refusal_line (with_number word digit))) where
   -- that is the session
-  pub refused_grammar : IsSession (codes "script 1\n" ++ ((codes "grammar " ++ ((48 + length block) ∷ (10 ∷ (block ++ 10 ∷ [])))) ++ more))
+  pub refused_grammar : IsSession serve_mode (codes "script 1\n" ++ ((codes "grammar " ++ ((48 + length block) ∷ (10 ∷ (block ++ 10 ∷ [])))) ++ more))
       (refusal_line (word ++ (codes " " ++ (48 + digit) ∷ []))) 2
   refused_grammar =
       let size : ℕ = length (text_of header) + length (text_of (grammar block)) in

@@ -4,7 +4,7 @@ use Rattle.std.proofs.lemmas.Fmt.{decimal_digit, decimal-digits_value}
 use Rattle.std.specs.Str.{IsAscii}
 use Rattle.std.proofs.lemmas.Str.Ascii.{IsAscii-from_all}
 use Rattle.std.proofs.lemmas.List.Elements.{All-from_recursion}
-use Rattle.spec_script.specs.Script.{Constituent, Command, opens, has, ask, Part, header, grammar}
+use Rattle.spec_script.specs.Script.{question_form, Constituent, Command, opens, has, ask, Part, header, grammar}
 use Rattle.spec_script.specs.Script.{of_command, Script, with_grammar, as_parts, text_of}
 use Rattle.spec_script.specs.Script.{line_of, IsWord, IsNameable, IsWithinLimits, AreQuestions}
 use Rattle.spec_script.specs.Script.{MayFollow, BeginsWithParts, BeginsWithScript, EndsAs, Ending}
@@ -14,7 +14,8 @@ use Rattle.spec_session.specs.Lines.{as_line}
 use Rattle.spec_session.specs.GrammarReplies.{grammar_reply}
 use Rattle.spec_session.specs.Steps.{version_reply, no_texts, IsReply}
 use Rattle.spec_session.specs.Runs.{AreReplies}
-use Rattle.spec_session.specs.Sessions.{last_line, last_status, IsSession, whole}
+use Rattle.spec_session.specs.Sessions.{serve_mode, AreAllReplies, last_line, last_status, IsSession, whole}
+use Rattle.spec_session.specs.Checking.{lines_from, bare_form, check_mode}
 use Rattle.spec_session_cases.specs.Examples.{front, front_replies}
 use Rattle.spec_script.proofs.ScriptLemmas.{model}
 use Rattle.spec_session.proofs.RunLemmas.{AreTold, replies_told}
@@ -64,7 +65,7 @@ script_with questions = with_grammar rule_block (opens (codes "a") ∷ questions
 module _ (questions : List Command) (asked answers last : List ℕ) (at : ℕ) (rest : List ℕ) (ending : Ending)
     (in_order : AreQuestions questions) (begins : BeginsWithParts 38 asked (as_parts questions) at rest)
     (replies : AreTold rule_grammar one_text questions answers)
-    (ends : EndsAs (script_with questions) at rest ending) (last_is : last ≡ last_line ending) where
+    (ends : EndsAs question_form (script_with questions) at rest ending) (last_is : last ≡ last_line ending) where
   ascii : IsAscii (codes "a")
   ascii = IsAscii-from_all (codes "a") (All-from_recursion (λ (byte : ℕ). byte < 128) (codes "a") (omega arith, tt))
 
@@ -86,15 +87,15 @@ module _ (questions : List Command) (asked answers last : List ℕ) (at : ℕ) (
       (version, answers, one_text, (one_token, are_tokens, version_is), refl, refl, replies)
 
   -- the session is these replies and the last line
-  pub small_session : IsSession (front ++ asked) (front_replies ++ (answers ++ last)) (last_status ending)
+  pub small_session : IsSession serve_mode (front ++ asked) (front_replies ++ (answers ++ last)) (last_status ending)
   small_session =
-      let script : IsScript (front ++ asked) (script_with questions) ending =
+      let script : IsScript question_form (front ++ asked) (script_with questions) ending =
       record { at = at; rest = rest; in_order = in_order; begins = begins_all; ends = ends } in
       let told_all : List ℕ = grammar_reply rule_grammar ++ (version ++ answers) in
       let out_is : front_replies ++ (answers ++ last) ≡ told_all ++ last_line ending =
       ap (λ bytes. (bytes ++ (version ++ answers)) ++ last) counts_are
       ∙ ap (λ bytes. told_all ++ bytes) last_is in
-      whole (script_with questions) ending told_all script (rule_grammar, version ++ answers, accepted, all_replies, refl) out_is refl
+      whole (script_with questions) ending told_all script (rule_grammar, [], version ++ answers, accepted, refl, all_replies, refl) out_is refl
 
 -- the bytes of a question on a span from 0 to one digit
 span_text : (end : ℕ) → end < 10 → text_of (of_command (ask (has (span_to end)))) ≡ codes "has S 0 " ++ ((48 + end) ∷ 10 ∷ [])
@@ -124,7 +125,7 @@ span_within end small =
     (named, omega (arith, ap length (span_text end small), size))
 
 -- a script without questions
-pub no_question : IsSession (front ++ codes "end\n") (front_replies ++ codes "end\n") 0
+pub no_question : IsSession serve_mode (front ++ codes "end\n") (front_replies ++ codes "end\n") 0
 no_question =
     small_session [] (codes "end\n") [] (codes "end\n") 38 (codes "end\n") ended tt (refl, refl) refl
     (record { more = []; early = omega arith; complete = tt; spelled = refl }) refl
@@ -160,7 +161,7 @@ questions_told =
     told EntryWhole (codes "yes\n") (codes "yes\nno\nrefused category\nrefused span 1\n") (drop 1 questions) entry_reply second
 
 -- each answer once, and the end
-pub whole_session : IsSession
+pub whole_session : IsSession serve_mode
     (front ++ codes "has\nhas S\nhas S 0 0\nhas T\nhas S 0 2\nend\nhas")
     (front_replies ++ codes "yes\nyes\nno\nrefused category\nrefused span 1\nend\n") 0
 whole_session =
@@ -169,7 +170,7 @@ whole_session =
     (record { more = codes "has"; early = omega arith; complete = tt; spelled = refl }) refl
 
 -- a second text is no question
-no_second : (part : Part) (more : List ℕ) → MayFollow (script_with (ask (has category_s) ∷ [])) part →
+no_second : (part : Part) (more : List ℕ) → MayFollow question_form (script_with (ask (has category_s) ∷ [])) part →
     codes "open 1\na\nend\n" ≡ text_of part ++ more → ⊥
 no_second header more in_place e = in_place
 no_second (grammar block) more in_place e = in_place
@@ -183,7 +184,7 @@ refused_line =
     (sym (decimal-digits_value model (codes "44") refl (omega arith) (λ e. omega (arith, e)) (omega arith)))
 
 -- behind a question no text follows
-pub second_text : IsSession
+pub second_text : IsSession serve_mode
     (front ++ codes "has S\nopen 1\na\nend\n") (front_replies ++ codes "yes\nscript refused 44\n") 3
 second_text =
     small_session (ask (has category_s) ∷ []) _ (codes "yes\n") (codes "script refused 44\n") 44 (codes "open 1\na\nend\n") (broken 44) tt
@@ -191,3 +192,37 @@ second_text =
     (told category_s (codes "yes\n") [] [] category_reply refl)
     (refl, (λ go. no_second go.part go.more go.in_place go.spelled), (λ end. omega (arith, ap (λ bytes. get_or bytes 0 0) end.spelled)))
     refused_line
+
+-- the line of the rule
+rule_lines_are : codes "0 A S ::= \"a\"\n" ≡ lines_from rule_grammar 0 rule_grammar.rules
+rule_lines_are =
+    ap (λ digits. as_line (digits ++ codes " A S ::= \"a\"") ++ []) (sym (decimal_digit 0 (omega arith)))
+
+-- a script of the mode `check`
+abbrev checked : List ℕ
+checked = codes "script 1\ngrammar 9\nA.S::=\"a\"\nend\n"
+
+checked_script : IsScript bare_form checked (with_grammar rule_block []) ended
+checked_script = record {
+  at = 29;
+  rest = codes "end\n";
+  in_order = refl;
+  begins = next header (codes "script 1\n") 0 29 (grammar rule_block ∷ []) _ (codes "end\n") refl (omega arith) tt
+      (next (grammar rule_block) (codes "grammar 9\nA.S::=\"a\"\n") 9 29 [] (codes "end\n") (codes "end\n")
+      (ap (λ digits. (codes "grammar " ++ digits) ++ (10 ∷ (rule_block ++ 10 ∷ []))) (decimal_digit 9 (omega arith)))
+      (omega arith) (omega arith) (refl, refl));
+  ends = record { more = []; early = omega arith; complete = refl; spelled = refl };
+}
+
+-- its session has the line of the rule
+pub checked_grammar : IsSession check_mode checked (codes "grammar rules 1 categories 1 kinds 1\n0 A S ::= \"a\"\nend\n") 0
+checked_grammar =
+    let lines : List ℕ = lines_from rule_grammar 0 rule_grammar.rules in
+    let told_all : List ℕ = grammar_reply rule_grammar ++ (lines ++ []) in
+    let replies : AreAllReplies check_mode (with_grammar rule_block []) told_all =
+    (rule_grammar, lines, [], accepted, refl, replies_told rule_grammar no_texts [] [] refl, refl) in
+    let end : List ℕ = codes "end\n" in
+    let front_is = ap (λ bytes. (bytes ++ (codes "0 A S ::= \"a\"\n" ++ [])) ++ end) counts_are in
+    let out_is : codes "grammar rules 1 categories 1 kinds 1\n0 A S ::= \"a\"\nend\n" ≡ told_all ++ last_line ended =
+    front_is ∙ ap (λ bytes. (grammar_reply rule_grammar ++ (bytes ++ [])) ++ end) rule_lines_are in
+    whole (with_grammar rule_block []) ended told_all checked_script replies out_is refl

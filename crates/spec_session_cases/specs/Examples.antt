@@ -1,6 +1,7 @@
 -- The sessions of small inputs, by hand.
 use Rattle.std.specs.Prelude.{ℕ, List, ◌++◌, codes}
-use Rattle.spec_session.specs.Sessions.{IsSession}
+use Rattle.spec_session.specs.Sessions.{serve_mode, IsSession}
+use Rattle.spec_session.specs.Checking.{check_mode}
 
 -- the bytes of a script up to its questions: a grammar of one rule, and a text of one token
 abbrev pub front : List ℕ
@@ -13,30 +14,34 @@ front_replies = codes "grammar rules 1 categories 1 kinds 1\nversion 0 tokens 1\
 -- what the sessions of small inputs write, and their status
 pub record SmallSessions : Type 0 where
   -- the empty input breaks at its first byte
-  pub empty_input : IsSession (codes "") (codes "script refused 0\n") 3
+  pub empty_input : IsSession serve_mode (codes "") (codes "script refused 0\n") 3
   -- a header without its LF is none
-  pub cut_header : IsSession (codes "script 1") (codes "script refused 0\n") 3
+  pub cut_header : IsSession serve_mode (codes "script 1") (codes "script refused 0\n") 3
   -- nor is the header of another version
-  pub other_header : IsSession (codes "script 2\n") (codes "script refused 0\n") 3
+  pub other_header : IsSession serve_mode (codes "script 2\n") (codes "script refused 0\n") 3
   -- nor is any other command
-  pub no_header : IsSession (codes "end\n") (codes "script refused 0\n") 3
+  pub no_header : IsSession serve_mode (codes "end\n") (codes "script refused 0\n") 3
   -- behind the header alone the input breaks at its end
-  pub header_alone : IsSession (codes "script 1\n") (codes "script refused 9\n") 3
+  pub header_alone : IsSession serve_mode (codes "script 1\n") (codes "script refused 9\n") 3
   -- a grammar's block that is shorter than its line says breaks the script at that line
-  pub cut_block : IsSession (codes "script 1\ngrammar 2\n;\n") (codes "script refused 9\n") 3
+  pub cut_block : IsSession serve_mode (codes "script 1\ngrammar 2\n;\n")
+      (codes "script refused 9\n") 3
   -- a grammar with a fault of syntax ends the session, whatever stands behind it
-  pub faulty_grammar : IsSession (codes "script 1\ngrammar 1\n)\nopen")
+  pub faulty_grammar : IsSession serve_mode (codes "script 1\ngrammar 1\n)\nopen")
       (codes "grammar refused syntax 0\n") 2
   -- so does one with a bad coercion
-  pub unfit_grammar : IsSession (codes "script 1\ngrammar 6\n_.S::=\n")
+  pub unfit_grammar : IsSession serve_mode (codes "script 1\ngrammar 6\n_.S::=\n")
       (codes "grammar refused coercion 0\n") 2
   -- a script without questions
-  pub no_question : IsSession (front ++ codes "end\n") (front_replies ++ codes "end\n") 0
+  pub no_question : IsSession serve_mode (front ++ codes "end\n") (front_replies ++ codes "end\n") 0
   -- the entry derives the text, and an empty span is not derived; no category has the name `T`,
   -- and the text has no two tokens; what stands behind `end` has no effect
-  pub whole_session : IsSession
+  pub whole_session : IsSession serve_mode
       (front ++ codes "has\nhas S\nhas S 0 0\nhas T\nhas S 0 2\nend\nhas")
       (front_replies ++ codes "yes\nyes\nno\nrefused category\nrefused span 1\nend\n") 0
   -- a second text breaks the script behind the replies to what stands before it
-  pub second_text : IsSession (front ++ codes "has S\nopen 1\na\nend\n")
+  pub second_text : IsSession serve_mode (front ++ codes "has S\nopen 1\na\nend\n")
       (front_replies ++ codes "yes\nscript refused 44\n") 3
+  -- in the mode `check` the rule has a line behind the reply to its grammar
+  pub checked_grammar : IsSession check_mode (codes "script 1\ngrammar 9\nA.S::=\"a\"\nend\n")
+      (codes "grammar rules 1 categories 1 kinds 1\n0 A S ::= \"a\"\nend\n") 0
