@@ -29,7 +29,7 @@ abbrev pub kind_text : KindDef → List ℕ
 kind_text (Word word) = 34 ∷ (printed word ++ 34 ∷ [])
 kind_text (Token name expr) = name
 
--- the symbol as an item
+-- the symbol as an item: a category by its name, and a kind of token as above
 abbrev pub symbol_text : Grammar → Symbol → List ℕ
 symbol_text g (Category category) = get_or g.categories category []
 symbol_text g (Kind kind) = get_or (map kind_text g.lexicon.kinds) kind []
