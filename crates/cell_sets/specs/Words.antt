@@ -1,6 +1,7 @@
 -- Sets of symbols as the bits of words, 64 symbols to a word. The ghost symbols of Bits names
 -- symbols_of, so the page serves the clauses of Bits, and the proofs.
-use Rattle.std.specs.Prelude.{ℕ, ◌*◌, ◌/◌, ◌%◌, List, length, slice_index, Bool, nat_eq, Option, MatchOption, ◌≡◌, ◌≤◌, ◌<◌}
+use Rattle.std.specs.Prelude.{◌≡◌, ◌≤◌, ◌<◌, ℕ, ◌*◌, ◌/◌, ◌%◌, List, length, slice_index}
+use Rattle.std.specs.Prelude.{Bool, nat_eq, Option, MatchOption}
 use Rattle.std.specs.List.{filter, range_with_len}
 use Rattle.std.specs.Int.{bit_at}
 

@@ -6,13 +6,13 @@ use Rattle.chart_service.specs.declared.options.Options.{Options}
 use Rattle.cyk_io.specs.Streams.{Grows, GrowsByPrefix}
 
 -- the bytes of the words
-abbrev pub words_of : List (String Global) → List (List ℕ)
-words_of [] = []
-words_of (word ∷ words) = string_bytes word ∷ words_of words
+abbrev pub word_bytes : List (String Global) → List (List ℕ)
+word_bytes [] = []
+word_bytes (word ∷ words) = string_bytes word ∷ word_bytes words
 
 -- the words are the one word `serve`
 abbrev pub IsServe : List (String Global) → Type 0
-IsServe words = words_of words ≡ codes "serve" ∷ []
+IsServe words = word_bytes words ≡ codes "serve" ∷ []
 
 -- the line that says which words the program takes, with its LF
 abbrev pub usage_line : List ℕ

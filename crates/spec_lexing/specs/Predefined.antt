@@ -5,13 +5,15 @@ use Rattle.spec_lexing.specs.declared.expression.Class.TheVariants.{Digit, Lette
 use Rattle.spec_lexing.specs.Expressions.{Expression, class, scalar, any_of, either, minus, star}
 use Rattle.spec_lexing.specs.Expressions.{plus, optional, all_in_turn, one_of}
 
--- a digit, a letter, any scalar
+-- a digit
 abbrev pub digit : Expression
 digit = class Digit
 
+-- a letter
 abbrev pub letter : Expression
 letter = class Letter
 
+-- any scalar
 abbrev pub char : Expression
 char = class AnyChar
 

@@ -12,10 +12,11 @@ use Rattle.spec_lexing.specs.Predefined.{integer, double, ident, string, char_li
 abbrev pub texts : List String → List (List ℕ)
 texts strings = map codes strings
 
--- a scalar of two bytes, and one of four
+-- a scalar of two bytes
 abbrev pub two_bytes : List ℕ
 two_bytes = 195 ∷ 169 ∷ []
 
+-- a scalar of four bytes
 abbrev pub four_bytes : List ℕ
 four_bytes = 240 ∷ 159 ∷ 152 ∷ 128 ∷ []
 
