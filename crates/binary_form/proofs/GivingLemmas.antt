@@ -5,7 +5,7 @@ use Rattle.std.proofs.lemmas.Option.{slice_get_read}
 use Rattle.std.proofs.lemmas.List.{take_more, take_all}
 use Rattle.std.proofs.lemmas.List.Elements.{Contains-append_left, Contains-append_right, Contains-append_cases}
 use Rattle.cell_sets.specs.Cells.{Adds, IsUnion, IsNextFrom}
-use Rattle.binary_form.specs.Products.{OneGives, OneGivesBelow, GoesOn, SuffixGives, IsNextBelow}
+use Rattle.binary_form.specs.Products.{OneGives, OneGivesBelow, HasNextItem, SuffixGives, IsNextBelow}
 use Rattle.number_graph.proofs.LinkLemmas.{Contains-one}
 
 -- where the next number of a cell is none, there is none below the count
@@ -33,7 +33,7 @@ same_item cells n a b is_a is_b = cc
 pub adds_closure :
     {C : Type 0} (symbols : C → List ℕ) (cells : List C) (right : List ℕ) (suffix : ℕ) (closure : C)
     (old new : List ℕ)
-    → GoesOn right suffix → suffix < length cells → closure ≡ get_or cells suffix closure
+    → HasNextItem right suffix → suffix < length cells → closure ≡ get_or cells suffix closure
     → IsUnion old (symbols closure) new → Adds (SuffixGives symbols cells right suffix) old new
 adds_closure {C = C} symbols cells right suffix closure old new goes_on within is union n = (to, from)
   where

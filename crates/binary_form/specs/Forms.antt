@@ -19,8 +19,8 @@ AreClosures symbols g cells = AreClosuresUpTo symbols g (symbol_count g) cells
 
 -- the grammar's rules have its own symbols, and the parts are those of its binary form: where
 -- suffixes are numbered from, flags of what is nullable, closures, links to longer suffixes
-pub record AreParts {C : Type 0} (symbols : C → List ℕ) (most : ℕ) (g : Grammar) (firsts : List ℕ)
-    (flags : List Bool) (cells : List C) (links : List (List ℕ)) : Type 0 where
+pub record AreBinaryParts {C : Type 0} (symbols : C → List ℕ) (most : ℕ) (g : Grammar)
+    (firsts : List ℕ) (flags : List Bool) (cells : List C) (links : List (List ℕ)) : Type 0 where
   pub own_symbols : HasOwnSymbols g
   pub few : symbol_count g ≤ MAX_SYMBOLS
   pub room : symbol_count g ≤ most

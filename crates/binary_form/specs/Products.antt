@@ -12,8 +12,8 @@ OneGivesBelow Gives givers limit n =
     (giver : ℕ) × (giver < limit) × Contains givers giver × Gives giver n
 
 -- the suffix goes on with a symbol of the right cell: the one behind its item has the next number
-abbrev pub GoesOn : List ℕ → ℕ → Type 0
-GoesOn right suffix = Contains right (suffix + 1)
+abbrev pub HasNextItem : List ℕ → ℕ → Type 0
+HasNextItem right suffix = Contains right (suffix + 1)
 
 -- the cell at this place has the number
 abbrev pub IsInCellAt : {C : Type 0} → (C → List ℕ) → List C → ℕ → ℕ → Type 0
@@ -22,7 +22,8 @@ IsInCellAt {C = C} symbols cells at n =
 
 -- the suffix goes on with a symbol of the right cell, and its closure has the number
 abbrev pub SuffixGives : {C : Type 0} → (C → List ℕ) → List C → List ℕ → ℕ → ℕ → Type 0
-SuffixGives symbols cells right suffix n = GoesOn right suffix × IsInCellAt symbols cells suffix n
+SuffixGives symbols cells right suffix n =
+    HasNextItem right suffix × IsInCellAt symbols cells suffix n
 
 -- a suffix that begins with the item goes on with a symbol of the right cell, and its closure has
 -- the number
@@ -34,7 +35,7 @@ ItemGives symbols cells links right item n =
 -- a suffix that begins with the item goes on with a symbol of the right cell
 abbrev pub IsItemMet : List (List ℕ) → List ℕ → ℕ → Type 0
 IsItemMet links right item =
-    (suffix : ℕ) × Contains (slice_index_or links item []) suffix × GoesOn right suffix
+    (suffix : ℕ) × Contains (slice_index_or links item []) suffix × HasNextItem right suffix
 
 -- each cell has numbers below the count alone
 abbrev pub AreBelow : {C : Type 0} → (C → List ℕ) → ℕ → List C → Type 0

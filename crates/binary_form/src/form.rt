@@ -4,7 +4,7 @@ ghost use Rattle.spec_grammar.specs.Grammars.{IsSymbolOf, HasOwnSymbols, symbol_
 ghost use Rattle.binary_form.specs.Symbols.{plain, suffix, IsBinarySymbolOf, symbol_number};
 ghost use Rattle.binary_form.specs.BinaryForm.{IsNullableNumber, IsClosureOf, IsTokenCell};
 ghost use Rattle.binary_form.specs.BinaryForm.{IsProductOf, AddsProductOf, HasProduct};
-ghost use Rattle.binary_form.specs.Forms.{AreParts};
+ghost use Rattle.binary_form.specs.Forms.{AreBinaryParts};
 ghost use Rattle.spec_text.specs.declared.limits.TheConstants.{MAX_SYMBOLS};
 
 use crate::product::{is_met, product_of};
@@ -39,12 +39,12 @@ impl<C: Cell> Model for Binary<C> {
 
     ghost coded = { Prim.hlevel (codes, expr.the_row.coded) };
 
-    ghost use Rattle.binary_form.specs.Forms.{AreParts, AreCounts};
+    ghost use Rattle.binary_form.specs.Forms.{AreBinaryParts, AreCounts};
 
     ghost view = { λ b. b.grammar.value };
 
     ghost invariant = { λ b.
-        AreParts C.symbols C.ROOM b.grammar.value
+        AreBinaryParts C.symbols C.ROOM b.grammar.value
         b.first_suffixes b.nullable.items b.closures.items b.longer_suffixes
         × AreCounts b.grammar.value b.category_count b.kind_count
         × (C.symbols b.none ≡ []) };
@@ -59,7 +59,7 @@ impl<C: Cell> Binary<C> {
         closures: Vec<C>,
         longer_suffixes: Links,
     ) -> Binary<C>
-        requires { AreParts C.symbols C.ROOM grammar.now
+        requires { AreBinaryParts C.symbols C.ROOM grammar.now
             first_suffixes nullable.items closures.items longer_suffixes }
         ensures { result ≡ grammar.now }
     {

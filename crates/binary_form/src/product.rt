@@ -2,7 +2,7 @@
 ghost use Rattle.std.specs.Prelude.{◌≡◌, ◌+◌, ◌<◌, ◌≤◌, ◌↔◌, ℕ, length, Contains, IsTrue, IfOk};
 ghost use Rattle.cell_sets.specs.Cells.{Adds};
 ghost use Rattle.spec_text.specs.declared.limits.TheConstants.{MAX_SYMBOLS};
-ghost use Rattle.binary_form.specs.Products.{AreBelow, GoesOn, GoOnBelow, IsItemMet};
+ghost use Rattle.binary_form.specs.Products.{AreBelow, HasNextItem, GoOnBelow, IsItemMet};
 ghost use Rattle.binary_form.specs.Products.{IsNextBelow};
 ghost use Rattle.binary_form.specs.Products.{ItemGives, LinksGoOnBelow, OneGives, SuffixGives};
 
@@ -124,7 +124,7 @@ fn goes_on<C: Cell>(suffixes: &[u16], right: &C, count: usize) -> bool
     requires few { count ≤ MAX_SYMBOLS }
     requires room { count ≤ C.ROOM }
     ensures { IsTrue result
-        ↔ ((suffix : ℕ) × Contains suffixes.now suffix × GoesOn (C.symbols right.now) suffix) }
+        ↔ ((suffix : ℕ) × Contains suffixes.now suffix × HasNextItem (C.symbols right.now) suffix) }
 {
     for suffix in suffixes {
         if right.has(*suffix + 1) {

@@ -3,6 +3,6 @@ use Rattle.std.specs.Prelude.{ℕ, List, [], Option, None, Some, Vec}
 use Rattle.std.specs.declared.alloc.Global.{Global}
 
 -- the items of a vector, or none where there is no vector
-abbrev pub items_of : Option (Vec ℕ Global) → List ℕ
-items_of None = []
-items_of (Some vector) = vector.items
+abbrev pub vector_items : Option (Vec ℕ Global) → List ℕ
+vector_items None = []
+vector_items (Some vector) = vector.items

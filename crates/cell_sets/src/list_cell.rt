@@ -1,7 +1,7 @@
 //! A set of symbols that is a list in rising order.
 ghost use Rattle.std.specs.Prelude.{◌≡◌};
 ghost use Rattle.cell_sets.specs.Cells.{IsRising};
-ghost use Rattle.cell_sets.specs.ListCells.{items_of};
+ghost use Rattle.cell_sets.specs.ListCells.{vector_items};
 
 use crate::comparing::{are_same, common_of, have_common};
 use crate::merging::merged;
@@ -20,13 +20,13 @@ pub struct ListCell {
 impl Model for ListCell {
     ghost use Rattle.std.specs.Prelude.{List, ℕ};
     ghost use Rattle.cell_sets.specs.Cells.{IsRising};
-    ghost use Rattle.cell_sets.specs.ListCells.{items_of};
+    ghost use Rattle.cell_sets.specs.ListCells.{vector_items};
 
     ghost Value = { List ℕ };
 
-    ghost view = { λ c. items_of c.items };
+    ghost view = { λ c. vector_items c.items };
 
-    ghost invariant = { λ c. IsRising (items_of c.items) };
+    ghost invariant = { λ c. IsRising (vector_items c.items) };
 }
 
 impl ListCell {
@@ -44,7 +44,7 @@ impl ListCell {
 
 /// The vector, or an empty one.
 fn vector_of(alloc: Global, items: Option<Vec<u16>>) -> Vec<u16>
-    ensures { result.items ≡ items_of items }
+    ensures { result.items ≡ vector_items items }
 {
     match items {
         Some(items) => items,

@@ -9,7 +9,7 @@ use Rattle.cyk_io.specs.Streams.{GrowsByPrefix}
 use Rattle.spec_lexing.specs.declared.token.Token.{Token}
 use Rattle.spec_lexing.specs.declared.kind_def.KindDef.TheVariants.{Word as WordKind}
 use Rattle.spec_lexing.specs.Lexicon.{lexicon_of}
-use Rattle.spec_lexing.specs.Kinds.{IsWord, HasWordsAlone}
+use Rattle.spec_lexing.specs.Kinds.{IsWordKind, HasWordsAlone}
 use Rattle.spec_lbnf.specs.declared.definition.Def.{Def}
 use Rattle.spec_grammar.specs.Grammars.{Grammar, symbol_count}
 use Rattle.spec_lbnf.specs.Expansion.{expansion_of, rules_of, words_of}
@@ -49,7 +49,7 @@ words_alone : (words : List (List ℕ)) → HasWordsAlone (lexicon_of (map WordK
 words_alone words = record {
   no_lines = refl;
   no_blocks = refl;
-  words = All-map IsWord WordKind words (λ other place below. tt);
+  words = All-map IsWordKind WordKind words (λ other place below. tt);
 }
 
 -- no category's text stands twice in the grammar that definitions stand for, and its kinds are words

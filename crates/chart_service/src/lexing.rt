@@ -3,7 +3,7 @@ ghost use Rattle.std.specs.Prelude.{◌≡◌, [], ◌+◌, ◌^◌, ◌<◌, �
 ghost use Rattle.std.specs.Str.{IsAscii};
 ghost use Rattle.spec_lexing.specs.declared.kind_def.KindDef.TheVariants.{Word};
 ghost use Rattle.spec_lexing.specs.Lexicon.{lexicon_of};
-ghost use Rattle.spec_lexing.specs.Kinds.{IsWord, HasWordsAlone};
+ghost use Rattle.spec_lexing.specs.Kinds.{IsWordKind, HasWordsAlone};
 ghost use Rattle.spec_lexing.specs.Tokens.{AreTokensOf, kinds_of};
 ghost use Rattle.chart_service.specs.Lexing.{IsKindEnd, IsBest, IsStep};
 
@@ -36,7 +36,7 @@ struct Step {
 
 /// Where the kind's longest match at start ends. None if it matches no byte there.
 fn kind_end(kind: &KindDef, text: &[u8], start: usize) -> Option<usize>
-    requires word { IsWord kind.now }
+    requires word { IsWordKind kind.now }
     requires start { start ≤ length text.now }
     ensures { IsKindEnd kind.now text.now start result }
 {
@@ -85,7 +85,7 @@ fn with_kind(
     best: Option<LongestMatch>,
 ) -> Option<LongestMatch>
     requires few { length kinds.now < 2 ^ 16 }
-    requires words { All IsWord kinds.now }
+    requires words { All IsWordKind kinds.now }
     requires number { number < length kinds.now }
     requires start { start ≤ length text.now }
     requires best { IsBest (take number kinds.now) text.now start best }
@@ -107,7 +107,7 @@ fn with_kind(
 /// The longest match at a place, of the least kind. None where nothing matches.
 fn longest_match(kinds: &[KindDef], text: &[u8], start: usize) -> Option<LongestMatch>
     requires few { length kinds.now < 2 ^ 16 }
-    requires words { All IsWord kinds.now }
+    requires words { All IsWordKind kinds.now }
     requires start { start < length text.now }
     ensures { IsBest kinds.now text.now start result }
 {
@@ -121,7 +121,7 @@ fn longest_match(kinds: &[KindDef], text: &[u8], start: usize) -> Option<Longest
 /// What lies at a place: a match, or a stray byte where nothing matches.
 fn step_at(kinds: &[KindDef], text: &[u8], start: usize) -> Step
     requires few { length kinds.now < 2 ^ 16 }
-    requires words { All IsWord kinds.now }
+    requires words { All IsWordKind kinds.now }
     requires ascii { IsAscii text.now }
     requires short { length text.now < 2 ^ 32 }
     requires start { start < length text.now }
@@ -222,7 +222,7 @@ mod tests {
 
     /// Whether each of the kinds is a word.
     fn are_words(kinds: &[KindDef]) -> bool
-        ensures { IsTrue result → All IsWord kinds.now }
+        ensures { IsTrue result → All IsWordKind kinds.now }
     {
         for kind in kinds {
             match kind {

@@ -12,7 +12,7 @@ use Rattle.spec_lbnf.specs.declared.token.FileToken.{FileToken}
 use Rattle.spec_lbnf.specs.declared.token.FileToken.TheVariants.{Identifier, Number, Text, Character}
 use Rattle.spec_lbnf.specs.declared.token.FileToken.TheVariants.{Sign as SignToken}
 use Rattle.spec_lbnf.specs.declared.token.PlacedToken.{PlacedToken}
-use Rattle.spec_lbnf.specs.FileTokens.{IsScan, AreTokensFrom, IsTokenBefore}
+use Rattle.spec_lbnf.specs.FileTokens.{IsScan, AreFileTokensFrom, IsTokenBefore}
 use Rattle.spec_lbnf.specs.GrammarFile.{category_tokens, SpellsDefs, AreSpelledBy, pieces_of}
 use Rattle.spec_lbnf.specs.declared.fault.TextFault.{TextFault}
 use Rattle.spec_lbnf.specs.declared.fault.TextFault.TheVariants.{NotUtf8, Syntax, TooLarge}
@@ -191,7 +191,7 @@ stops_early (byte ∷ bytes) none =
     rw whole (omega (arith, valid_within (byte ∷ bytes) n))
 
 -- no identifier of a scan has more than 64 bytes
-scan_short : (start : ℕ) (bytes : List ℕ) (tokens : List PlacedToken) (stop : ℕ) → AreTokensFrom start bytes tokens stop → HaveShortNames tokens
+scan_short : (start : ℕ) (bytes : List ℕ) (tokens : List PlacedToken) (stop : ℕ) → AreFileTokensFrom start bytes tokens stop → HaveShortNames tokens
 scan_short start bytes [] stop scan = tt
 scan_short start bytes (token ∷ tokens) stop (skipped, written, rest, whole, skips, offset, begins, more) =
     (short token.token written rest begins, scan_short (token.offset + length written) rest tokens stop more)

@@ -12,7 +12,7 @@ use Rattle.std.proofs.lemmas.List.Elements.{All-from_recursion, recursion_from_A
 use Rattle.std.proofs.lemmas.Str.{chars-encodes}
 use Rattle.spec_lbnf.specs.declared.token.FileToken.{FileToken}
 use Rattle.spec_lbnf.specs.declared.token.FileToken.TheVariants.{Text, Character}
-use Rattle.spec_lbnf.specs.FileTokens.{LiteralPart, plain, escape, IsPart, part_bytes, part_value, escaped, IsLiteral}
+use Rattle.spec_lbnf.specs.FileTokens.{LiteralPart, plain, escape, IsLiteralPart, part_bytes, part_value, escaped, IsLiteral}
 use Rattle.lbnf_readers.specs.Scanning.{is_escape, byte_before, literal_from, string_of, string_at, is_encoded, character_of, character_at, IsTokenAt}
 
 -- the bytes that an escape may have behind its backslash
@@ -40,14 +40,14 @@ pub record StandsPlain (quote byte : ℕ) : Type 0 where
   pub no_line_end : eqb byte 10 ≡ false
 
 -- the two forms of this are one
-stands_plain : (quote byte : ℕ) → IsPart quote (plain byte) → StandsPlain quote byte
+stands_plain : (quote byte : ℕ) → IsLiteralPart quote (plain byte) → StandsPlain quote byte
 stands_plain quote byte apart = record {
   no_quote = ne_eqb byte quote (λ e. apart (0, omega arith, sym e));
   no_backslash = ne_eqb byte 92 (λ e. apart (1, omega arith, sym e));
   no_line_end = ne_eqb byte 10 (λ e. apart (2, omega arith, sym e));
 }
 
-plain_part : (quote byte : ℕ) → StandsPlain quote byte → IsPart quote (plain byte)
+plain_part : (quote byte : ℕ) → StandsPlain quote byte → IsLiteralPart quote (plain byte)
 plain_part quote byte stands (zero, l, e) = eqb-false byte quote stands.no_quote (sym e)
 plain_part quote byte stands (suc zero, l, e) = eqb-false byte 92 stands.no_backslash (sym e)
 plain_part quote byte stands (suc (suc zero), l, e) = eqb-false byte 10 stands.no_line_end (sym e)
@@ -56,7 +56,7 @@ plain_part quote byte stands (suc (suc (suc k)), l, e) = absurd (omega arith)
 module _ (quote : ℕ) where
   -- the parts, up to a quote, are read
   pub parts_again : (parts : List LiteralPart) (rest : List ℕ) → eqb 92 quote ≡ false
-      → AllByRecursion (IsPart quote) parts
+      → AllByRecursion (IsLiteralPart quote) parts
       → literal_from quote false (flat_map part_bytes parts ++ quote ∷ rest) ≡ Some (map part_value parts, rest)
   unfolding literal_from
   parts_again [] rest apart all = rw (eq-eqb quote quote refl) refl
@@ -69,7 +69,7 @@ module _ (quote : ℕ) where
   -- what is read where no backslash stands before it: parts, up to a quote
   pub record ReadsParts (bytes value rest : List ℕ) : Type 0 where
     pub parts : List LiteralPart
-    pub each : AllByRecursion (IsPart quote) parts
+    pub each : AllByRecursion (IsLiteralPart quote) parts
     pub whole : bytes ≡ flat_map part_bytes parts ++ quote ∷ rest
     pub means : value ≡ map part_value parts
 
@@ -167,7 +167,7 @@ module _ (quote : ℕ) where
       → (behind : List ℕ) × (bytes ≡ quote ∷ behind) × (literal_from quote false behind ≡ Some (value, rest))
   literal_again value bytes written rest apart e is =
       let parts : List ℕ = flat_map part_bytes is.parts in
-      let each = recursion_from_All (IsPart quote) is.parts is.each in
+      let each = recursion_from_All (IsLiteralPart quote) is.parts is.each in
       let read = parts_again is.parts rest apart each in
       let whole : bytes ≡ quote ∷ (parts ++ quote ∷ rest) =
       e ∙ ap (λ l. l ++ rest) is.whole ∙ ap (λ l. quote ∷ l) (append_assoc parts (quote ∷ []) rest) in
@@ -181,7 +181,7 @@ module _ (quote : ℕ) where
       let parts : List ℕ = flat_map part_bytes reads.parts in
       let is : IsLiteral quote value (quote ∷ parts ++ quote ∷ []) = record {
         parts = reads.parts;
-        each = All-from_recursion (IsPart quote) reads.parts reads.each;
+        each = All-from_recursion (IsLiteralPart quote) reads.parts reads.each;
         whole = refl;
         means = reads.means;
       } in

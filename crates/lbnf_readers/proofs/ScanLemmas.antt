@@ -12,18 +12,18 @@ use Rattle.spec_lbnf.specs.declared.token.FileToken.TheVariants.{Identifier, Num
 use Rattle.spec_lbnf.specs.declared.token.FileToken.TheVariants.{Sign as SignToken}
 use Rattle.spec_lbnf.specs.declared.token.PlacedToken.{PlacedToken}
 use Rattle.spec_text.specs.Bytes.{is_white}
-use Rattle.spec_lbnf.specs.FileTokens.{FirstIs, IsTokenBefore, sign_bytes, Separates, Skips, nothing, goes_on, IsStuck, AreTokensFrom, IsScan}
+use Rattle.spec_lbnf.specs.FileTokens.{FirstIs, IsTokenBefore, sign_bytes, Separates, Skips, nothing, goes_on, IsStuck, AreFileTokensFrom, IsScan}
 use Rattle.spec_text.specs.Bytes.{is_letter, is_digit}
 use Rattle.lbnf_readers.specs.FileLaws.{RiseTo}
-use Rattle.lbnf_readers.specs.Scanning.{has_front, behind_space, identifier_at, number_token_at, byte_sign, longest_of, sign_token_at, token_at, tokens_by, tokens_from, scan_of, IsSpaceAt, SkipsTo, IsTokenAt}
+use Rattle.lbnf_readers.specs.Scanning.{has_front, behind_space, identifier_at, number_token_at, byte_sign, longest_of, sign_token_at, file_token_at, tokens_by, tokens_from, scan_of, IsSpaceAt, SkipsTo, IsTokenAt}
 use Rattle.lbnf_readers.proofs.SpaceLemmas.{space_again, space_read}
 use Rattle.lbnf_readers.proofs.LiteralLemmas.{string_again, string_read, character_again, character_read}
 use Rattle.lbnf_readers.proofs.SignLemmas.{sign_again, sign_read}
 use Rattle.lbnf_readers.proofs.RunTokenLemmas.{identifier_again, identifier_read, number_again, number_read}
 
 -- bytes that begin with a letter are read as an identifier
-letter_first : (bytes rest : List ℕ) → FirstIs is_letter bytes → token_at (bytes ++ rest) ≡ identifier_at (bytes ++ rest)
-unfolding token_at
+letter_first : (bytes rest : List ℕ) → FirstIs is_letter bytes → file_token_at (bytes ++ rest) ≡ identifier_at (bytes ++ rest)
+unfolding file_token_at
 letter_first [] rest begins = elim begins [ ]
 letter_first (byte ∷ bytes) rest begins = rw begins refl
 
@@ -32,13 +32,13 @@ digit_is_no_letter : (byte : ℕ) → is_digit byte ≡ true → is_letter byte 
 digit_is_no_letter byte h = grind (arith, nat_tests)
 
 -- bytes that begin with a digit are read as a number
-digit_first : (byte : ℕ) (bytes : List ℕ) → is_digit byte ≡ true → token_at (byte ∷ bytes) ≡ number_token_at (byte ∷ bytes)
-unfolding token_at
+digit_first : (byte : ℕ) (bytes : List ℕ) → is_digit byte ≡ true → file_token_at (byte ∷ bytes) ≡ number_token_at (byte ∷ bytes)
+unfolding file_token_at
 digit_first byte bytes h = rw (digit_is_no_letter byte h, h) refl
 
 -- bytes that begin with a sign are read as one
-sign_first : (sign : Sign) (bytes rest : List ℕ) → bytes ≡ sign_bytes sign ++ rest → token_at bytes ≡ sign_token_at bytes
-unfolding token_at
+sign_first : (sign : Sign) (bytes rest : List ℕ) → bytes ≡ sign_bytes sign ++ rest → file_token_at bytes ≡ sign_token_at bytes
+unfolding file_token_at
 sign_first Dot bytes rest e = rw e refl
 sign_first Semicolon bytes rest e = rw e refl
 sign_first Gives bytes rest e = rw e refl
@@ -59,33 +59,33 @@ sign_first Underscore bytes rest e = rw e refl
 
 -- a number that stands before a rest is read
 number_token_again : (value : ℕ) (bytes rest : List ℕ) → IsTokenAt (Number value) bytes rest
-    → token_at bytes ≡ Some (Number value, rest)
+    → file_token_at bytes ≡ Some (Number value, rest)
 number_token_again value bytes rest ([], e, (is, stops, means)) = absurd (omega (arith, is.some))
 number_token_again value bytes rest (digit ∷ digits, e, (is, stops, means)) =
-    ap token_at e ∙ digit_first digit (digits ++ rest) (is.each 0 0 (omega arith))
+    ap file_token_at e ∙ digit_first digit (digits ++ rest) (is.each 0 0 (omega arith))
     ∙ ap number_token_at (sym e) ∙ number_again value bytes rest (digit ∷ digits, e, (is, stops, means))
 
 -- a string that stands before a rest is read
 string_token_again : (value bytes rest : List ℕ) → IsTokenAt (Text value) bytes rest
-    → token_at bytes ≡ Some (Text value, rest)
-unfolding token_at
+    → file_token_at bytes ≡ Some (Text value, rest)
+unfolding file_token_at
 string_token_again value bytes rest is =
     let read = string_again value bytes rest is in
     rw read.1 read.2
 
 -- a character that stands before a rest is read
 character_token_again : (scalar : ℕ) (bytes rest : List ℕ) → IsTokenAt (Character scalar) bytes rest
-    → token_at bytes ≡ Some (Character scalar, rest)
-unfolding token_at
+    → file_token_at bytes ≡ Some (Character scalar, rest)
+unfolding file_token_at
 character_token_again scalar bytes rest is =
     let read = character_again scalar bytes rest is in
     rw read.1 read.2
 
 -- a token that stands before a rest is read
 pub token_again : (token : FileToken) (bytes rest : List ℕ) → IsTokenAt token bytes rest
-    → token_at bytes ≡ Some (token, rest)
+    → file_token_at bytes ≡ Some (token, rest)
 token_again (Identifier name) bytes rest (written, e, is) =
-    ap token_at e ∙ letter_first written rest is.0.letter ∙ ap identifier_at (sym e)
+    ap file_token_at e ∙ letter_first written rest is.0.letter ∙ ap identifier_at (sym e)
     ∙ identifier_again name bytes rest (written, e, is)
 token_again (Number value) bytes rest is = number_token_again value bytes rest is
 token_again (Text value) bytes rest is = string_token_again value bytes rest is
@@ -95,9 +95,9 @@ token_again (SignToken sign) bytes rest (written, e, (longest, same)) =
     sign_first sign bytes rest whole ∙ sign_again sign bytes rest longest whole
 
 -- what is read stands before the rest
-pub token_read : (bytes : List ℕ) (token : FileToken) (rest : List ℕ) → token_at bytes ≡ Some (token, rest)
+pub token_read : (bytes : List ℕ) (token : FileToken) (rest : List ℕ) → file_token_at bytes ≡ Some (token, rest)
     → IsTokenAt token bytes rest
-unfolding token_at
+unfolding file_token_at
 token_read [] token rest e = absurd (none-some _ e)
 token_read (byte ∷ bytes) token rest e = elim (cases_Bool (is_letter byte)) [
   | inl letter ↦ identifier_read byte bytes token rest letter (rw letter at e)
@@ -125,8 +125,8 @@ same_front v w r s e same = append_cancel_right v w s (ap (λ l. v ++ l) (sym sa
 pub one_token : (v w r s : List ℕ) (a b : FileToken) → v ++ r ≡ w ++ s → IsTokenBefore a v r → IsTokenBefore b w s
     → (a ≡ b) × (v ≡ w) × (r ≡ s)
 one_token v w r s a b e first second =
-    let read : token_at (v ++ r) ≡ Some (a, r) = token_again a (v ++ r) r (v, refl, first) in
-    let again : token_at (v ++ r) ≡ Some (b, s) = token_again b (v ++ r) s (w, e, second) in
+    let read : file_token_at (v ++ r) ≡ Some (a, r) = token_again a (v ++ r) r (v, refl, first) in
+    let again : file_token_at (v ++ r) ≡ Some (b, s) = token_again b (v ++ r) s (w, e, second) in
     let same = some_pair_parts a b r s (sym read ∙ again) in
     (same.0, same_front v w r s e same.1, same.1)
 
@@ -175,8 +175,8 @@ white_no_longest byte bytes h =
     ∙ ap (option_and_then (longest_of bytes)) (white_no_sign byte h)
 
 -- a white byte begins no token
-white_no_token : (byte : ℕ) (bytes : List ℕ) → is_white byte ≡ true → token_at (byte ∷ bytes) ≡ None
-unfolding token_at
+white_no_token : (byte : ℕ) (bytes : List ℕ) → is_white byte ≡ true → file_token_at (byte ∷ bytes) ≡ None
+unfolding file_token_at
 white_no_token byte bytes h =
     let no_letter : is_letter byte ≡ false = grind (arith, nat_tests) in
     let no_digit : is_digit byte ≡ false = grind (arith, nat_tests) in
@@ -184,10 +184,10 @@ white_no_token byte bytes h =
     rw (no_letter, no_digit, apart 34 refl, apart 39 refl) (white_no_longest byte bytes h)
 
 -- what begins with what separates tokens begins with no token
-no_token_in_space : (bytes rest : List ℕ) → IsSpaceAt bytes rest → token_at bytes ≡ None
-unfolding token_at sign_token_at
+no_token_in_space : (bytes rest : List ℕ) → IsSpaceAt bytes rest → file_token_at bytes ≡ None
+unfolding file_token_at sign_token_at
 no_token_in_space bytes rest (space, e, inl (byte, white, one)) =
-    ap token_at (e ∙ ap (λ l. l ++ rest) one) ∙ white_no_token byte rest white
+    ap file_token_at (e ∙ ap (λ l. l ++ rest) one) ∙ white_no_token byte rest white
 no_token_in_space bytes rest (space, e, inr (inl is)) = rw (e, is.whole) refl
 no_token_in_space bytes rest (space, e, inr (inr is)) = rw (e, is.whole) refl
 
@@ -195,7 +195,7 @@ no_token_in_space bytes rest (space, e, inr (inr is)) = rw (e, is.whole) refl
 pub token_or_space : (token : FileToken) (v w r s : List ℕ) → v ++ r ≡ w ++ s → IsTokenBefore token v r
     → Separates w s → ⊥
 token_or_space token v w r s e begins space =
-    let read : token_at (v ++ r) ≡ Some (token, r) = token_again token (v ++ r) r (v, refl, begins) in
+    let read : file_token_at (v ++ r) ≡ Some (token, r) = token_again token (v ++ r) r (v, refl, begins) in
     none-some (token, r) (sym (no_token_in_space (v ++ r) s (w, e, space)) ∙ read)
 
 -- what separates tokens is not empty
@@ -282,7 +282,7 @@ same_tokens token other tokens others t p e = λ i. record { token = t i; offset
 
 -- bytes at one offset have at most one list of tokens, up to one offset
 pub one_list : (a b : List PlacedToken) (m n : ℕ) (bytes other : List ℕ) (s t : ℕ) → m ≡ n → bytes ≡ other
-    → AreTokensFrom m bytes a s → AreTokensFrom n other b t → (a ≡ b) × (s ≡ t)
+    → AreFileTokensFrom m bytes a s → AreFileTokensFrom n other b t → (a ≡ b) × (s ≡ t)
 one_list [] [] m n bytes other s t at_one one (v, here, e, skips, stop, stuck) (w, there, f, skips', stop', stuck') =
     let whole : v ++ here ≡ w ++ there = sym e ∙ one ∙ f in
     let same = one_skip v w here there whole skips skips' stuck.no_space stuck'.no_space in
@@ -314,7 +314,7 @@ one_scan bytes a b s t = one_list a b 0 0 bytes bytes s t refl refl
 
 -- the offsets of tokens rise from where the bytes begin
 offsets_rise : (tokens : List PlacedToken) (bytes : List ℕ) (from start stop : ℕ) → from ≤ start
-    → AreTokensFrom start bytes tokens stop → RiseTo from tokens stop × (stop ≤ start + length bytes)
+    → AreFileTokensFrom start bytes tokens stop → RiseTo from tokens stop × (stop ≤ start + length bytes)
 offsets_rise [] bytes from start stop l (skipped, rest, e, skips, is, stuck) =
     (omega (arith, l, is), omega (arith, is, ap length e, length-append skipped rest))
 offsets_rise (token ∷ tokens) bytes from start stop l (skipped, written, rest, e, skips, offset, begins, more) =
@@ -331,7 +331,7 @@ rises bytes tokens stop scan =
 
 -- the tokens behind what separates tokens are those from its beginning on
 behind_a_space : (tokens : List PlacedToken) (start : ℕ) (space behind : List ℕ) (stop : ℕ) → Separates space behind
-    → AreTokensFrom (start + length space) behind tokens stop → AreTokensFrom start (space ++ behind) tokens stop
+    → AreFileTokensFrom (start + length space) behind tokens stop → AreFileTokensFrom start (space ++ behind) tokens stop
 behind_a_space [] start space behind stop is (skipped, rest, e, skips, at_stop, stuck) = (
   space ++ skipped,
   rest,
@@ -352,7 +352,7 @@ behind_a_space (token ∷ tokens) start space behind stop is (skipped, written, 
 )
 
 -- bytes at which nothing is read are stuck
-pub nothing_read : (bytes : List ℕ) → behind_space bytes ≡ None → token_at bytes ≡ None → IsStuck bytes
+pub nothing_read : (bytes : List ℕ) → behind_space bytes ≡ None → file_token_at bytes ≡ None → IsStuck bytes
 nothing_read bytes e f = record {
   no_token = λ token written rest g begins. none-some _ (sym f ∙ token_again token bytes rest (written, g, begins));
   no_space = λ space rest g is. none-some _ (sym e ∙ space_again bytes rest (space, g, is));
@@ -361,24 +361,24 @@ nothing_read bytes e f = record {
 module _ (size : ℕ) where
   -- what is read of bytes are their tokens
   pub tokens_are : (turns : ℕ) (bytes : List ℕ) (start : ℕ) → length bytes < turns → start + length bytes ≡ size
-      → AreTokensFrom start bytes (tokens_from turns size bytes).0 (tokens_from turns size bytes).1
+      → AreFileTokensFrom start bytes (tokens_from turns size bytes).0 (tokens_from turns size bytes).1
   unfolding tokens_from
   tokens_are zero bytes start l fits = absurd (omega arith)
   tokens_are (suc turns) bytes start l fits =
       by (tokens_from turns size) (λ behind from shorter fits. tokens_are turns behind from (omega arith) fits)
-      (behind_space bytes) refl (token_at bytes) refl
+      (behind_space bytes) refl (file_token_at bytes) refl
     where
       by : (others : List ℕ → List PlacedToken × ℕ)
           → ((behind : List ℕ) (from : ℕ) → length behind < length bytes → from + length behind ≡ size
-          → AreTokensFrom from behind (others behind).0 (others behind).1)
+          → AreFileTokensFrom from behind (others behind).0 (others behind).1)
           → (space : Option (List ℕ)) → behind_space bytes ≡ space
-          → (read : Option (FileToken × List ℕ)) → token_at bytes ≡ read
-          → AreTokensFrom start bytes (tokens_by others (size - length bytes) space read).0 (tokens_by others (size - length bytes) space read).1
+          → (read : Option (FileToken × List ℕ)) → file_token_at bytes ≡ read
+          → AreFileTokensFrom start bytes (tokens_by others (size - length bytes) space read).0 (tokens_by others (size - length bytes) space read).1
       by others are (Some behind) e read f =
           let space = space_read bytes behind e in
           let lens : length bytes ≡ length space.0 + length behind = omega (arith, ap length space.1, length-append space.0 behind) in
           let more = are behind (start + length space.0) (omega (arith, lens, space_some space.0 behind space.2)) (omega (arith, lens, fits)) in
-          subst (λ l. AreTokensFrom start l (others behind).0 (others behind).1) (sym space.1)
+          subst (λ l. AreFileTokensFrom start l (others behind).0 (others behind).1) (sym space.1)
           (behind_a_space (others behind).0 start space.0 behind (others behind).1 space.2 more)
       by others are None e None f = ([], bytes, refl, nothing [] bytes refl, omega (arith, fits), nothing_read bytes e f)
       by others are None e (Some read) f =

@@ -1,6 +1,7 @@
 -- Scanning a grammar file: a function for each sort of token and of what separates tokens. Serves
 -- the proofs alone: what tokens are is said in FileTokens.
-use Rattle.std.specs.Prelude.{◌≡◌, ◌++◌, ℕ, zero, suc, ◌-◌, List, [], ◌∷◌, length, take, drop, codes, Bool}
+use Rattle.std.specs.Prelude.{◌≡◌, ◌++◌, ℕ, zero, suc, ◌-◌, List, [], ◌∷◌, length, take, drop}
+use Rattle.std.specs.Prelude.{codes, Bool}
 use Rattle.std.specs.Prelude.{true, false, cond, not, ◌&&◌, nat_eq, nat_le, bytes_eq, Option, Some}
 use Rattle.std.specs.Prelude.{None, chars, option_map, option_and_then, slice_index}
 use Rattle.std.specs.Char.{encode_utf8}
@@ -152,9 +153,9 @@ sign_token_at (byte ∷ bytes) =
     (option_and_then (longest_of bytes) (byte_sign byte))
 
 -- the token at the front, by its first byte, and what is behind it
-unfoldable pub token_at : List ℕ → Option (FileToken × List ℕ)
-token_at [] = None
-token_at (byte ∷ bytes) =
+unfoldable pub file_token_at : List ℕ → Option (FileToken × List ℕ)
+file_token_at [] = None
+file_token_at (byte ∷ bytes) =
     cond (is_letter byte) (identifier_at (byte ∷ bytes))
     (cond (is_digit byte) (number_token_at (byte ∷ bytes))
     (cond (nat_eq byte 34) (string_at bytes)
@@ -177,7 +178,8 @@ tokens_by others offset None None = ([], offset)
 unfoldable pub tokens_from : ℕ → ℕ → List ℕ → List PlacedToken × ℕ
 tokens_from zero size bytes = ([], size - length bytes)
 tokens_from (suc turns) size bytes =
-    tokens_by (tokens_from turns size) (size - length bytes) (behind_space bytes) (token_at bytes)
+    tokens_by (tokens_from turns size) (size - length bytes) (behind_space bytes)
+    (file_token_at bytes)
 
 -- the tokens of a file, and the offset up to which they reach
 abbrev pub scan_of : List ℕ → List PlacedToken × ℕ

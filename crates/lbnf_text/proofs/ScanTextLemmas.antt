@@ -2,8 +2,8 @@
 use Rattle.std.proofs.Common.{◌≡◌, ℕ, ◌+◌, ◌-◌, ◌<◌, ◌≤◌, List, [], ◌∷◌, ◌++◌, length, Some, None, refl, sym, ap, subst, ◌∙◌, append_assoc, arith, length-append}
 use Rattle.spec_lbnf.specs.declared.token.FileToken.{FileToken}
 use Rattle.spec_lbnf.specs.declared.token.PlacedToken.{PlacedToken}
-use Rattle.spec_lbnf.specs.FileTokens.{Separates, Skips, nothing, goes_on, AreTokensFrom}
-use Rattle.lbnf_readers.specs.Scanning.{behind_space, token_at, SkipsTo}
+use Rattle.spec_lbnf.specs.FileTokens.{Separates, Skips, nothing, goes_on, AreFileTokensFrom}
+use Rattle.lbnf_readers.specs.Scanning.{behind_space, file_token_at, SkipsTo}
 use Rattle.lbnf_readers.proofs.SpaceLemmas.{space_read}
 use Rattle.lbnf_readers.proofs.ScanLemmas.{space_shorter, skip_shorter, token_read, token_shorter, nothing_read}
 
@@ -25,16 +25,16 @@ skips_none bytes = ([], refl, nothing [] bytes refl)
 
 -- what is behind all spaces and a token is shorter
 pub behind_token_is_shorter : (bytes here behind : List ℕ) (token : FileToken) → SkipsTo bytes here
-    → Some (token, behind) ≡ token_at here → length behind < length bytes
+    → Some (token, behind) ≡ file_token_at here → length behind < length bytes
 behind_token_is_shorter bytes here behind token skips e =
     omega (arith, skip_shorter bytes here skips, token_shorter token here behind (token_read here token behind (sym e)))
 
 module _ (size : ℕ) where
   -- a token that is read comes before the tokens behind it
   pub token_then : (bytes here behind : List ℕ) (token : FileToken) (tokens : List PlacedToken) (stop : ℕ)
-      → length bytes ≤ size → SkipsTo bytes here → Some (token, behind) ≡ token_at here
-      → AreTokensFrom (size - length behind) behind tokens stop
-      → AreTokensFrom (size - length bytes) bytes (record { token = token; offset = size - length here } ∷ tokens) stop
+      → length bytes ≤ size → SkipsTo bytes here → Some (token, behind) ≡ file_token_at here
+      → AreFileTokensFrom (size - length behind) behind tokens stop
+      → AreFileTokensFrom (size - length bytes) bytes (record { token = token; offset = size - length here } ∷ tokens) stop
   token_then bytes here behind token tokens stop fits (skipped, e, skips) f more =
       let begins = token_read here token behind (sym f) in
       let lens : length bytes ≡ length skipped + length here = omega (arith, ap length e, length-append skipped here) in
@@ -48,12 +48,12 @@ module _ (size : ℕ) where
         subst (Skips skipped) begins.1 skips,
         omega (arith, lens, fits),
         begins.2,
-        subst (λ n. AreTokensFrom n behind tokens stop) next more,
+        subst (λ n. AreFileTokensFrom n behind tokens stop) next more,
       )
 
   -- where no token is read, the tokens end
   pub no_token_then : (bytes here : List ℕ) → length bytes ≤ size → SkipsTo bytes here
-      → behind_space here ≡ None → None ≡ token_at here → AreTokensFrom (size - length bytes) bytes [] (size - length here)
+      → behind_space here ≡ None → None ≡ file_token_at here → AreFileTokensFrom (size - length bytes) bytes [] (size - length here)
   no_token_then bytes here fits (skipped, e, skips) free f =
       let lens : length bytes ≡ length skipped + length here = omega (arith, ap length e, length-append skipped here) in
       (skipped, here, e, skips, omega (arith, lens, fits), nothing_read here free (sym f))

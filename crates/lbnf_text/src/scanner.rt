@@ -11,7 +11,7 @@ ghost use Rattle.spec_lbnf.specs.FileTokens.{IsScan};
 ghost use Rattle.lbnf_readers.specs.Scanning.{behind_line, behind_closing, behind_white, behind_space};
 ghost use Rattle.lbnf_readers.specs.Scanning.{is_escape, string_at, character_at, identifier_at};
 ghost use Rattle.lbnf_readers.specs.Scanning.{number_token_at, byte_sign, has_more, sign_token_at};
-ghost use Rattle.lbnf_readers.specs.Scanning.{token_at, SkipsTo};
+ghost use Rattle.lbnf_readers.specs.Scanning.{file_token_at, SkipsTo};
 ghost use Rattle.lbnf_text.specs.LiteralParts.{IsPartOf, IsScalarPart, LeavesFewer};
 
 use spec_lbnf::{FileToken, PlacedToken, Sign};
@@ -300,9 +300,9 @@ fn sign(text: &str) -> Option<(FileToken, &str)>
 }
 
 /// The token at the front, by its first byte, and what is behind it.
-#[tactic(auto, unfolding(lbnf_readers::specs::Scanning::token_at))]
+#[tactic(auto, unfolding(lbnf_readers::specs::Scanning::file_token_at))]
 fn token(alloc: Global, text: &str) -> Result<Option<(FileToken, &str)>, AllocError>
-    ensures { IfOk result (λ read. option_map (λ x. (x.0, x.1.now)) read ≡ token_at text.now) }
+    ensures { IfOk result (λ read. option_map (λ x. (x.0, x.1.now)) read ≡ file_token_at text.now) }
 {
     let [byte, ..] = text.as_bytes() else {
         return Ok(None);

@@ -2,7 +2,7 @@
 use Rattle.std.proofs.Common.{◌≡◌, ℕ, List, subst}
 use Rattle.shape_tree.specs.Shapes.{items_of, node_items}
 use Rattle.shape_tree.specs.Parts.{AreParts, AreNodeParts}
-use Rattle.shape_tree.specs.Openings.{IsOpened, AreOpenedParts}
+use Rattle.shape_tree.specs.Openings.{OpensTo, AreOpenedParts}
 use Rattle.shape_tree.specs.declared.shape.Shape.{Shape}
 use Rattle.shape_tree.specs.declared.shape.FreshNode.{FreshNode}
 use Rattle.shape_tree.specs.declared.opening.Opened.{Opened}
@@ -12,8 +12,8 @@ module _ {T I : Type 0} where
   -- the shape has the items of the node
   pub opened_items : (items : T → List I) (height_of : T → ℕ) (s : Shape T I) (o : Opened T I)
       (n : FreshNode T I)
-      → IsOpened items height_of s o → o ≡ Node n → items_of items s ≡ node_items items n
-  opened_items items height_of s o n opened is = (subst (IsOpened items height_of s) is opened).0
+      → OpensTo items height_of s o → o ≡ Node n → items_of items s ≡ node_items items n
+  opened_items items height_of s o n opened is = (subst (OpensTo items height_of s) is opened).0
 
   -- the kept trees of the node are parts of what those of the shape are parts of
   pub opened_parts : (has_parts : T → T → I → T → Type 0) (given : List T) (s : Shape T I)

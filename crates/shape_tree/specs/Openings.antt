@@ -10,10 +10,10 @@ use Rattle.shape_tree.specs.declared.opening.Opened.TheVariants.{Leaf, Node}
 
 module _ {T I : Type 0} where
   -- the shape opens to a leaf, which has no item, or to a balanced node with all of its items
-  abbrev pub IsOpened : (T → List I) → (T → ℕ) → Shape T I → Opened T I → Type 0
-  IsOpened items height_of s (Leaf t) =
+  abbrev pub OpensTo : (T → List I) → (T → ℕ) → Shape T I → Opened T I → Type 0
+  OpensTo items height_of s (Leaf t) =
       (items_of items s ≡ []) × (shape_height height_of s ≡ 0) × IsLeaf items height_of t
-  IsOpened items height_of s (Node n) =
+  OpensTo items height_of s (Node n) =
       (items_of items s ≡ node_items items n) × (shape_height height_of s ≡ node_height height_of n)
       × IsBalancedNode height_of n × (fresh_below n ≤ fresh_nodes s)
 

@@ -4,7 +4,7 @@ ghost use Rattle.shape_tree.specs.Shapes.{items_of, shape_height, fresh_nodes};
 ghost use Rattle.shape_tree.specs.Shapes.{node_items, node_height, fresh_below};
 ghost use Rattle.shape_tree.specs.Balance.{IsBalanced, IsBalancedNode};
 ghost use Rattle.shape_tree.specs.Parts.{AreParts, AreNodeParts};
-ghost use Rattle.shape_tree.specs.Openings.{IsOpened, AreOpenedParts};
+ghost use Rattle.shape_tree.specs.Openings.{OpensTo, AreOpenedParts};
 
 use crate::kept::Kept;
 use crate::shape::{FreshNode, Shape};
@@ -19,7 +19,7 @@ pub(crate) enum Opened<T: Kept> {
 
 pub(crate) fn open<T: Kept>(shape: Shape<T>) -> Result<Opened<T>, AllocError>
     requires balanced { IsBalanced T.height_of shape }
-    ensures ok { IfOk result (IsOpened T.items T.height_of shape) }
+    ensures ok { IfOk result (OpensTo T.items T.height_of shape) }
     ensures parts { IfOk result (λ o. (given : List T)
         → AreParts T.has_parts given shape → AreOpenedParts T.has_parts given o) }
 {

@@ -10,7 +10,7 @@ use Rattle.spec_lbnf.specs.declared.token.FileToken.TheVariants.{Sign as SignTok
 use Rattle.spec_lbnf.specs.declared.token.PlacedToken.{PlacedToken}
 use Rattle.spec_lbnf.specs.FileTokens.{RunEnds}
 use Rattle.spec_text.specs.Bytes.{is_name_byte}
-use Rattle.spec_lbnf.specs.FileTokens.{FirstIs, Separates, Skips, nothing, goes_on, LiteralPart, plain, escape, part_bytes, part_value, IsLiteral, sign_bytes, IsTokenBefore, AreTokensFrom}
+use Rattle.spec_lbnf.specs.FileTokens.{FirstIs, Separates, Skips, nothing, goes_on, LiteralPart, plain, escape, part_bytes, part_value, IsLiteral, sign_bytes, IsTokenBefore, AreFileTokensFrom}
 use Rattle.spec_text.specs.Bytes.{is_letter}
 use Rattle.spec_lbnf.specs.Faults.{bare}
 use Rattle.spec_lbnf.proofs.BoundaryLemmas.{is_name}
@@ -109,7 +109,7 @@ gap_takes false token skipped written rest stops skips is = omega arith
 
 -- tokens take their bytes
 pub tokens_take : (start : ℕ) (bytes : List ℕ) (tokens : List PlacedToken) (stop : ℕ) (behind_name : Bool)
-    → AreTokensFrom start bytes tokens stop → (behind_name ≡ true → RunEnds is_name_byte bytes) → least behind_name (bare tokens) ≤ length bytes
+    → AreFileTokensFrom start bytes tokens stop → (behind_name ≡ true → RunEnds is_name_byte bytes) → least behind_name (bare tokens) ≤ length bytes
 tokens_take start bytes [] stop behind_name scan stops = omega arith
 tokens_take start bytes (token ∷ tokens) stop behind_name (skipped, written, rest, whole, skips, offset, begins, more) stops =
     let stops_here = λ (e : behind_name ≡ true). subst (RunEnds is_name_byte) whole (stops e) in

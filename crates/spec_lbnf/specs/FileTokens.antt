@@ -82,9 +82,9 @@ pub data LiteralPart : Type 0 where
 
 -- what may stand in a literal with this quote: of escapes a quote, an apostrophe, a backslash, n
 -- and t, and else any byte but the quote, a backslash and LF
-abbrev pub IsPart : ℕ → LiteralPart → Type 0
-IsPart quote (plain byte) = Contains (quote ∷ 92 ∷ 10 ∷ []) byte → ⊥
-IsPart quote (escape byte) = Contains (codes "\"'\\nt") byte
+abbrev pub IsLiteralPart : ℕ → LiteralPart → Type 0
+IsLiteralPart quote (plain byte) = Contains (quote ∷ 92 ∷ 10 ∷ []) byte → ⊥
+IsLiteralPart quote (escape byte) = Contains (codes "\"'\\nt") byte
 
 -- the bytes of a part
 abbrev pub part_bytes : LiteralPart → List ℕ
@@ -103,7 +103,7 @@ part_value (escape byte) = escaped byte
 -- the bytes are parts between two of this quote, and the value is what the parts stand for
 pub record IsLiteral (quote : ℕ) (value bytes : List ℕ) : Type 0 where
   pub parts : List LiteralPart
-  pub each : All (IsPart quote) parts
+  pub each : All (IsLiteralPart quote) parts
   pub whole : bytes ≡ quote ∷ flat_map part_bytes parts ++ quote ∷ []
   pub means : value ≡ map part_value parts
 
@@ -157,16 +157,16 @@ pub record IsStuck (bytes : List ℕ) : Type 0 where
 
 -- the tokens of bytes that begin at this offset are these, each at the offset behind all that is
 -- read before it, up to the offset of the end or of the first byte at which no token begins
-abbrev pub AreTokensFrom : ℕ → List ℕ → List PlacedToken → ℕ → Type 0
-AreTokensFrom start bytes [] stop =
+abbrev pub AreFileTokensFrom : ℕ → List ℕ → List PlacedToken → ℕ → Type 0
+AreFileTokensFrom start bytes [] stop =
     (skipped rest : List ℕ) × (bytes ≡ skipped ++ rest) × Skips skipped rest
     × (stop ≡ start + length skipped) × IsStuck rest
-AreTokensFrom start bytes (token ∷ tokens) stop =
+AreFileTokensFrom start bytes (token ∷ tokens) stop =
     (skipped written rest : List ℕ) × (bytes ≡ skipped ++ (written ++ rest))
     × Skips skipped (written ++ rest) × (token.offset ≡ start + length skipped)
     × IsTokenBefore token.token written rest
-    × AreTokensFrom (token.offset + length written) rest tokens stop
+    × AreFileTokensFrom (token.offset + length written) rest tokens stop
 
 -- the tokens of the file are these, up to the offset where it ends or no token begins
 abbrev pub IsScan : List ℕ → List PlacedToken → ℕ → Type 0
-IsScan bytes tokens stop = AreTokensFrom 0 bytes tokens stop
+IsScan bytes tokens stop = AreFileTokensFrom 0 bytes tokens stop

@@ -63,12 +63,12 @@ lex_kinds lexicon =
     ++ numbered_from 0 lexicon.kinds))
 
 -- the kind is a word
-abbrev pub IsWord : KindDef → Type 0
-IsWord (Word word) = Unit {0}
-IsWord (TokenDef name expr) = ⊥
+abbrev pub IsWordKind : KindDef → Type 0
+IsWordKind (Word word) = Unit {0}
+IsWordKind (TokenDef name expr) = ⊥
 
 -- the lexicon has no comments, and each of its kinds is a word
 pub record HasWordsAlone (lexicon : Lexicon) : Type 0 where
   pub no_lines : lexicon.line_comments ≡ []
   pub no_blocks : lexicon.block_comments ≡ []
-  pub words : All IsWord lexicon.kinds
+  pub words : All IsWordKind lexicon.kinds

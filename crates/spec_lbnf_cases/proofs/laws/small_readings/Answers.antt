@@ -5,7 +5,7 @@ use Rattle.std.specs.Str.{chars, is_utf8}
 use Rattle.std.specs.Str.Lossy.{utf8_valid_len}
 use Rattle.std.proofs.lemmas.Str.{IsUtf8-from_is_utf8}
 use Rattle.spec_lbnf.specs.declared.definition.Def.{Def}
-use Rattle.lbnf_readers.specs.Scanning.{scan_of, behind_closing, behind_space, identifier_at, number_token_at, literal_from, string_at, character_at, sign_token_at, token_at, tokens_from}
+use Rattle.lbnf_readers.specs.Scanning.{scan_of, behind_closing, behind_space, identifier_at, number_token_at, literal_from, string_at, character_at, sign_token_at, file_token_at, tokens_from}
 use Rattle.spec_lbnf.specs.declared.fault.TextFault.{TextFault}
 use Rattle.spec_lbnf.specs.declared.fault.TextFault.TheVariants.{Syntax}
 use Rattle.spec_lbnf.specs.Faults.{Spells, IsFirstFault, is_not_utf8}
@@ -35,7 +35,7 @@ cut_off bytes defs few utf8 early read =
     stop_is bytes (scan_of bytes).0 (scan_of bytes).1 (scanned bytes) defs (record { few = few; utf8 = IsUtf8-from_is_utf8 bytes utf8 }) early read
 
 pub returns : goal.returns
-unfolding encode_utf8 chars is_utf8 behind_closing behind_space identifier_at number_token_at literal_from string_at character_at sign_token_at token_at tokens_from next_on take_token sign_at name_at text_at number_at closes_at bracketed_at category_at nil_at one_at colon_label_at paren_label_at sign_label_at label_at item_at items_at side_at rule_at macro_at list_macro_at coercions_at more_entries_at entries_at to_end def_by def_at piece_def defs_at utf8_valid_len
+unfolding encode_utf8 chars is_utf8 behind_closing behind_space identifier_at number_token_at literal_from string_at character_at sign_token_at file_token_at tokens_from next_on take_token sign_at name_at text_at number_at closes_at bracketed_at category_at nil_at one_at colon_label_at paren_label_at sign_label_at label_at item_at items_at side_at rule_at macro_at list_macro_at coercions_at more_entries_at entries_at to_end def_by def_at piece_def defs_at utf8_valid_len
 returns c = record {
   nothing_in_it = spelled (codes " ;; ") _ (omega arith) refl refl refl;
   rule = spelled (codes "A. S ::= \"a b\" [T];") _ (omega arith) refl refl refl;

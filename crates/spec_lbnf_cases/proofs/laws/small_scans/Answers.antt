@@ -5,21 +5,21 @@ use Rattle.std.specs.Str.{chars}
 use Rattle.spec_lbnf.specs.declared.token.FileToken.TheVariants.{Identifier}
 use Rattle.spec_lbnf.specs.FileTokens.{IsScan}
 use Rattle.spec_lbnf_cases.specs.ScanExamples.{at}
-use Rattle.lbnf_readers.specs.Scanning.{behind_closing, behind_space, identifier_at, number_token_at, literal_from, string_at, character_at, sign_token_at, token_at, tokens_from}
+use Rattle.lbnf_readers.specs.Scanning.{behind_closing, behind_space, identifier_at, number_token_at, literal_from, string_at, character_at, sign_token_at, file_token_at, tokens_from}
 use Rattle.lbnf_readers.proofs.ScanLemmas.{scanned}
 use Rattle.spec_lbnf_cases.proofs.laws.small_scans.Goals as goal
 
 -- names of many bytes are read without a look at literals
 long_name : IsScan (replicate 64 97) (at 0 (Identifier (replicate 64 97)) ∷ []) 64
-unfolding behind_closing behind_space identifier_at token_at tokens_from
+unfolding behind_closing behind_space identifier_at file_token_at tokens_from
 long_name = scanned (replicate 64 97)
 
 too_long_name : IsScan (replicate 65 97) [] 0
-unfolding behind_closing behind_space identifier_at token_at tokens_from
+unfolding behind_closing behind_space identifier_at file_token_at tokens_from
 too_long_name = scanned (replicate 65 97)
 
 pub returns : goal.returns
-unfolding encode_utf8 chars behind_closing behind_space identifier_at number_token_at literal_from string_at character_at sign_token_at token_at tokens_from
+unfolding encode_utf8 chars behind_closing behind_space identifier_at number_token_at literal_from string_at character_at sign_token_at file_token_at tokens_from
 returns c = record {
   empty_file = scanned (codes "");
   white_file = scanned (codes " \t\r\n ");
