@@ -1,73 +1,34 @@
 -- Cells and lists that are filled number by number.
-use Rattle.std.proofs.Common.{◌≡◌, ℕ, zero, suc, ◌+◌, ◌<◌, ◌≤◌, ◌↔◌, ◌⊎◌, List, [], ◌∷◌, ◌++◌, Some, Bool, inl, inr, length, length-append, slice_get, sym, subst, arith, Contains}
-use Rattle.std.proofs.lemmas.Bool.{cases_lt}
+use Rattle.std.proofs.Common.{◌≡◌, ℕ, zero, suc, ◌+◌, ◌↔◌, List, [], ◌∷◌, ◌++◌, Some, inl, inr, length, length-append, slice_get, sym, subst, arith, Contains}
+use Rattle.std.proofs.lemmas.List.Elements.{Contains-append_left, Contains-append_right, Contains-append_cases}
 use Rattle.spec_grammar.specs.Grammars.{Grammar}
-use Rattle.cell_sets.specs.Cells.{Adds, AddsSymbol}
+use Rattle.cell_sets.specs.Cells.{AddsSymbol}
 use Rattle.binary_form.specs.BinaryForm.{IsClosureOf}
-use Rattle.number_graph.specs.Graphs.{IsSet}
 use Rattle.binary_form.specs.Forms.{AreClosuresUpTo}
-use Rattle.number_graph.proofs.FlagLemmas.{set_within}
+use Rattle.number_graph.proofs.LinkLemmas.{Contains-one}
 
-module _ (flags : List Bool) where
-  -- the cell has the numbers below the limit whose flags are set
-  abbrev pub AreSetBelow : ℕ → List ℕ → Type 0
-  AreSetBelow limit cell = (n : ℕ) → Contains cell n ↔ ((n < limit) × IsSet flags n)
+-- the cell has just the numbers of the list
+abbrev pub HasJust : List ℕ → List ℕ → Type 0
+HasJust numbers cell = (n : ℕ) → Contains cell n ↔ Contains numbers n
 
-  -- with a number whose flag is set a cell has what that number adds
-  pub adds_number :
-      (number : ℕ) (old new : List ℕ)
-      → IsSet flags number → AddsSymbol old new number
-      → Adds (λ n. (n ≡ number) × IsSet flags n) old new
-  adds_number number old new set adds n = (
-    to,
-    (λ is. elim is [
-      | inl kept ↦ (adds n).1 (inl kept)
-      | inr it ↦ (adds n).1 (inr it.0)
-    ]),
-  )
-    where
-      to : Contains new n → Contains old n ⊎ ((n ≡ number) × IsSet flags n)
-      to has = elim ((adds n).0 has) [
-        | inl kept ↦ inl kept
-        | inr same ↦ inr (same, subst (IsSet flags) (sym same) set)
-      ]
+-- a cell without numbers has just those of an empty list
+pub just_none : HasJust [] []
+just_none n = ((λ has. has), (λ has. has))
 
-  -- a cell without numbers has those below 0
-  pub set_start : AreSetBelow 0 []
-  set_start n = ((λ has. absurd (omega (arith, has.1))), (λ is. absurd (omega (arith, is.0))))
-
-  -- with the number at the limit, if its flag is set, the limit is one further
-  pub set_more :
-      (limit : ℕ) (old new : List ℕ)
-      → AreSetBelow limit old → Adds (λ n. (n ≡ limit) × IsSet flags n) old new
-      → AreSetBelow (limit + 1) new
-  set_more limit old new before adds n = (to, from)
-    where
-      to : Contains new n → (n < limit + 1) × IsSet flags n
-      to has = elim ((adds n).0 has) [
-        | inl kept ↦
-            let is = (before n).0 kept in
-            (omega (arith, is.0), is.1)
-        | inr it ↦ (omega (arith, it.0), it.1)
-      ]
-
-      from : (n < limit + 1) × IsSet flags n → Contains new n
-      from is = elim (cases_lt n limit) [
-        | inl below ↦ (adds n).1 (inl ((before n).1 (below, is.1)))
-        | inr past ↦ (adds n).1 (inr (omega (arith, is.0), is.1))
-      ]
-
-  -- where the limit is past all flags, the cell has all numbers whose flags are set
-  pub set_all :
-      (limit : ℕ) (cell : List ℕ)
-      → length flags ≤ limit → AreSetBelow limit cell
-      → (n : ℕ) → Contains cell n ↔ IsSet flags n
-  set_all limit cell past before n = (
-    (λ has. ((before n).0 has).1),
-    (λ set.
-        let within = set_within flags n set in
-        (before n).1 (omega arith, set)),
-  )
+-- with one number more a cell has just those of a list with one more
+pub just_more :
+    (numbers : List ℕ) (number : ℕ) (old new : List ℕ)
+    → HasJust numbers old → AddsSymbol old new number → HasJust (numbers ++ number ∷ []) new
+just_more numbers number old new before adds n = (
+  (λ has. elim ((adds n).0 has) [
+    | inl kept ↦ Contains-append_left numbers (number ∷ []) n ((before n).0 kept)
+    | inr same ↦ Contains-append_right numbers (number ∷ []) n (0, omega arith, sym same)
+  ]),
+  (λ has. elim (Contains-append_cases numbers (number ∷ []) n has) [
+    | inl kept ↦ (adds n).1 (inl ((before n).1 kept))
+    | inr one ↦ (adds n).1 (inr (Contains-one number n one))
+  ]),
+)
 
 -- what holds of each item of a list by its place, and of one that is put behind it, holds of all
 pub each_pushed :

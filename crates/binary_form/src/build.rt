@@ -1,9 +1,7 @@
 //! Making the binary form of a grammar.
-ghost use Rattle.std.specs.Prelude.{◌≡◌, ℕ, ◌<◌, ◌≤◌, ◌↔◌, ◌⊎◌, length, Contains, IfOk};
+ghost use Rattle.std.specs.Prelude.{ℕ, ◌≡◌, ◌<◌, ◌≤◌, ◌↔◌, ◌⊎◌, Contains, IfOk};
 ghost use Rattle.spec_grammar.specs.Grammars.{HasOwnSymbols, symbol_count};
-ghost use Rattle.cell_sets.specs.Cells.{Adds};
 ghost use Rattle.binary_form.specs.BinaryForm.{IsClosureOf, MakesBinary};
-ghost use Rattle.number_graph.specs.Graphs.{IsSet};
 ghost use Rattle.binary_form.specs.Forms.{AreClosures};
 ghost use Rattle.binary_form.specs.RowLinks.{AreUnitSteps};
 
@@ -19,35 +17,14 @@ use numbered_grammar::Grammar;
 use spec_text::MAX_SYMBOLS;
 use std::alloc::{AllocError, Global};
 
-/// The cell with the number, if its flag is set.
-fn with_number<C: Cell>(
-    alloc: Global,
-    flags: &[bool],
-    number: u16,
-    mut cell: C,
-) -> Result<C, AllocError>
-    requires within { number < length flags.now }
-    requires room { length flags.now ≤ C.ROOM }
-    ensures { IfOk result (λ new.
-        Adds (λ n. (n ≡ number) × IsSet flags.now n) (C.symbols cell) (C.symbols new)) }
-{
-    if flags[number as usize] {
-        cell.insert(alloc, number)?;
-        Ok(cell)
-    } else {
-        Ok(cell)
-    }
-}
-
-/// The cell of the numbers whose flags are set, put in from the least to the greatest.
-fn cell_of<C: Cell>(alloc: Global, flags: &[bool]) -> Result<C, AllocError>
-    requires few { length flags.now ≤ MAX_SYMBOLS }
-    requires room { length flags.now ≤ C.ROOM }
-    ensures { IfOk result (λ cell. (n : ℕ) → Contains (C.symbols cell) n ↔ IsSet flags.now n) }
+/// The cell of the numbers.
+fn cell_of<C: Cell>(alloc: Global, numbers: &[u16]) -> Result<C, AllocError>
+    requires room { (n : ℕ) → Contains numbers.now n → n < C.ROOM }
+    ensures { IfOk result (λ cell. (n : ℕ) → Contains (C.symbols cell) n ↔ Contains numbers.now n) }
 {
     let mut cell = C::empty();
-    for number in 0..flags.len() as u16 {
-        cell = with_number(alloc, flags, number, cell)?;
+    for number in numbers {
+        cell.insert(alloc, *number)?;
     }
     Ok(cell)
 }
@@ -66,8 +43,8 @@ fn closure_of<C: Cell>(
     requires below { number < symbol_count grammar.now }
     ensures { IfOk result (λ cell. IsClosureOf grammar.now number (C.symbols cell)) }
 {
-    let flags = reached_from(alloc, steps, number)?;
-    let cell = cell_of(alloc, flags.as_slice())?;
+    let numbers = reached_from(alloc, steps, number)?;
+    let cell = cell_of(alloc, numbers.as_slice())?;
     Ok(cell)
 }
 

@@ -1,16 +1,31 @@
 //! Places in lists in rising order: where a symbol stands, or where it would stand.
-ghost use Rattle.std.specs.Prelude.{◌≡◌, ◌↔◌, IsTrue, IfOk, OnOk, OnErr};
+ghost use Rattle.std.specs.Prelude.{◌≡◌, ◌↔◌, length, IsTrue, IfOk, OnOk, OnErr};
 ghost use Rattle.std.specs.List.{Contains};
 ghost use Rattle.cell_sets.specs.Cells.{IsRising, AddsSymbol, IsNextFrom};
-ghost use Rattle.cell_sets.specs.Places.{IsPlaceOf};
+ghost use Rattle.cell_sets.specs.Places.{IsGapAt, IsPlaceOf};
 
 use std::alloc::AllocError;
 
-/// The place of the symbol, or else the place where it would stand.
+/// Whether the symbol is above all that are there.
+fn is_above_all(items: &[u16], symbol: u16) -> bool
+    requires { IsRising items.now }
+    ensures { IsTrue result → IsGapAt items.now symbol (length items.now) }
+{
+    match items.last() {
+        Some(last) => *last < symbol,
+        None => true,
+    }
+}
+
+/// The place of the symbol, or else the place where it would stand. A symbol that is above all
+/// others is compared with the last one alone.
 fn place_of(items: &[u16], symbol: u16) -> Result<usize, usize>
     requires { IsRising items.now }
     ensures { IsPlaceOf items.now symbol result }
 {
+    if is_above_all(items, symbol) {
+        return Err(items.len());
+    }
     items.binary_search(&symbol)
 }
 

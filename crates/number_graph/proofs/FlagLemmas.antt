@@ -7,8 +7,10 @@ use Rattle.std.proofs.lemmas.Bool.{false≢true, cases_eq}
 use Rattle.std.proofs.lemmas.Grind.{get_or-set_at}
 use Rattle.std.proofs.lemmas.List.{length-replicate}
 use Rattle.std.proofs.lemmas.List.Elements.{Contains-append_left, Contains-append_right, Contains-append_cases}
-use Rattle.number_graph.specs.Graphs.{HasLink, ReachesBy, stay, step, IsSet, AreReachedFlags, AreFlagsFromAny}
-use Rattle.number_graph.specs.Flags.{clear_count, SetsFlags, IsSearch}
+use Rattle.std.specs.List.Sorted.{IsPermutation, IsNonDecreasing}
+use Rattle.std.proofs.lemmas.List.Sorted.{Contains-permutation, IsPermutation-sym}
+use Rattle.number_graph.specs.Graphs.{HasLink, ReachesBy, stay, step, IsSet, AreReached, AreFlagsFromAny}
+use Rattle.number_graph.specs.Flags.{clear_count, SetsFlags, IsSearch, HasLookedAt, HasFound}
 use Rattle.number_graph.proofs.LinkLemmas.{Contains-one}
 
 -- of clear flags none is set
@@ -200,17 +202,79 @@ module _ (links : List (List ℕ)) (starts : List ℕ) where
     );
   }
 
+  -- a search that begins has looked at nothing
+  pub looked_starts :
+      (flags : List Bool) (waiting : List ℕ)
+      → SetsFlags starts (replicate (length links) false) flags [] waiting
+      → HasLookedAt links starts flags waiting []
+  looked_starts flags waiting first = record {
+    search = search_starts flags waiting first;
+    seen_set = λ n is. absurd (omega (arith, is.1));
+    rest_waits = λ n is. elim (first.sound n is) [
+      | inl past ↦ absurd (none_set (length links) n past)
+      | inr start ↦ inl start.1
+    ];
+  }
+
+  -- a search that goes on has looked at one number more
+  pub looked_more :
+      (number : ℕ) (flags new : List Bool) (waiting rest seen : List ℕ)
+      → HasLookedAt links starts flags (waiting ++ number ∷ []) seen
+      → SetsFlags (slice_index_or links number []) flags new waiting rest
+      → HasLookedAt links starts new rest (seen ++ number ∷ [])
+  looked_more number flags new waiting rest seen looked added = record {
+    search = search_goes_on number flags new waiting rest looked.search added;
+    seen_set = λ n is. elim (Contains-append_cases seen (number ∷ []) n is) [
+      | inl before ↦ added.kept n (looked.seen_set n before)
+      | inr one ↦ added.kept n (subst (IsSet flags) (sym (Contains-one number n one)) is_set)
+    ];
+    rest_waits = λ n is. elim (added.sound n is) [
+      | inr (linked, waits) ↦ inl waits
+      | inl old ↦ elim (looked.rest_waits n old) [
+        | inr before ↦ inr (Contains-append_left seen (number ∷ []) n before)
+        | inl waited ↦ elim (Contains-append_cases waiting (number ∷ []) n waited) [
+          | inl waits ↦ inl (added.waits n waits)
+          | inr one ↦ inr (Contains-append_right seen (number ∷ []) n one)
+        ]
+      ]
+    ];
+  }
+    where
+      is_set : IsSet flags number
+      is_set =
+          looked.search.all_set number
+          (Contains-append_right waiting (number ∷ []) number (0, omega arith, refl))
+
+  -- a search where nothing waits has looked at what is reached
+  pub looked_ends :
+      (flags : List Bool) (seen : List ℕ)
+      → HasLookedAt links starts flags [] seen → HasFound links starts flags seen
+  looked_ends flags seen looked = record {
+    flags_are = search_ends flags looked.search;
+    seen_are = λ n. (
+      (λ is. looked.search.sound n (looked.seen_set n is)),
+      (λ reached. elim (looked.rest_waits n (((search_ends flags looked.search).exact n).1 reached)) [
+        | inl waits ↦ absurd (omega (arith, waits.1))
+        | inr before ↦ before
+      ]),
+    );
+  }
+
 -- what is reached from a list of one number is what is reached from the number
 pub reached_from_one :
-    (links : List (List ℕ)) (from : ℕ) (flags : List Bool)
-    → AreFlagsFromAny links (from ∷ []) flags → AreReachedFlags links from flags
-reached_from_one links from flags are = record {
-  count = are.count;
+    (links : List (List ℕ)) (from : ℕ) (flags : List Bool) (seen numbers : List ℕ)
+    → HasFound links (from ∷ []) flags seen → IsPermutation seen numbers → IsNonDecreasing numbers
+    → AreReached links from numbers
+reached_from_one links from flags seen numbers found moved sorted = record {
   exact = λ n. (
     (λ is.
-        let reached = (are.exact n).0 is in
+        let back = IsPermutation-sym seen numbers moved in
+        let reached = (found.seen_are n).0 (Contains-permutation numbers seen n back is) in
         let P : ℕ → Type 0 = λ m. ReachesBy (HasLink links) m n in
         subst P (Contains-one from reached.0 reached.1) reached.2),
-    (λ reached. (are.exact n).1 (from, (0, omega arith, refl), reached)),
+    (λ reached.
+        let has = (found.seen_are n).1 (from, (0, omega arith, refl), reached) in
+        Contains-permutation seen numbers n moved has),
   );
+  sorted = sorted;
 }

@@ -1,7 +1,7 @@
 -- Serves the proofs alone. The search that flags what a number reaches.
-use Rattle.std.specs.Prelude.{◌≡◌, ℕ, suc, ◌*◌, ◌+◌, ◌≤◌, ◌⊎◌, List, [], ◌∷◌, ◌++◌, Bool, true, false}
+use Rattle.std.specs.Prelude.{◌≡◌, ℕ, suc, ◌*◌, ◌+◌, ◌≤◌, ◌↔◌, ◌⊎◌, List, [], ◌∷◌, ◌++◌, Bool, true, false}
 use Rattle.std.specs.Prelude.{length, slice_index_or, slice_set, Contains}
-use Rattle.number_graph.specs.Graphs.{HasLink, IsReachedFromAny, IsSet}
+use Rattle.number_graph.specs.Graphs.{HasLink, IsReachedFromAny, AreFlagsFromAny, IsSet}
 
 -- how many flags are clear
 abbrev pub clear_count : List Bool → ℕ
@@ -41,3 +41,17 @@ pub record IsSearch (links : List (List ℕ)) (starts : List ℕ) (flags : List 
   pub all_set : (n : ℕ) → Contains waiting n → IsSet flags n
   pub closed : (m : ℕ) → IsSet flags m
       → Contains waiting m ⊎ ((n : ℕ) → HasLink links m n → IsSet flags n)
+
+-- a search is under way in which these numbers were looked at: those that have a flag and do not
+-- wait
+pub record HasLookedAt (links : List (List ℕ)) (starts : List ℕ) (flags : List Bool)
+    (waiting seen : List ℕ) : Type 0 where
+  pub search : IsSearch links starts flags waiting
+  pub seen_set : (n : ℕ) → Contains seen n → IsSet flags n
+  pub rest_waits : (n : ℕ) → IsSet flags n → Contains waiting n ⊎ Contains seen n
+
+-- a search has ended: flags and numbers alike tell what is reached
+pub record HasFound (links : List (List ℕ)) (starts : List ℕ) (flags : List Bool)
+    (seen : List ℕ) : Type 0 where
+  pub flags_are : AreFlagsFromAny links starts flags
+  pub seen_are : (n : ℕ) → Contains seen n ↔ IsReachedFromAny links starts n

@@ -2,6 +2,7 @@
 -- it is linked to.
 use Rattle.std.specs.Prelude.{◌≡◌, ℕ, ◌+◌, ◌<◌, ◌↔◌, ◌⊎◌, List, [], Bool, false, IsTrue, length}
 use Rattle.std.specs.Prelude.{slice_index_or, replicate, Contains}
+use Rattle.std.specs.List.Sorted.{IsNonDecreasing}
 use Rattle.cell_sets.specs.Cells.{IsRising}
 
 -- the first number is linked to the second
@@ -49,9 +50,10 @@ pub record AreFlagsOf (total : ℕ) (Holds : ℕ → Type 0) (flags : List Bool)
   pub count : length flags ≡ total
   pub exact : (n : ℕ) → IsSet flags n ↔ Holds n
 
--- each number has a flag, which is set exactly where the number is reached by links
-abbrev pub AreReachedFlags : List (List ℕ) → ℕ → List Bool → Type 0
-AreReachedFlags links from flags = AreFlagsOf (length links) (ReachesBy (HasLink links) from) flags
+-- the list has the numbers that are reached by links, the least first
+pub record AreReached (links : List (List ℕ)) (from : ℕ) (numbers : List ℕ) : Type 0 where
+  pub exact : (n : ℕ) → Contains numbers n ↔ ReachesBy (HasLink links) from n
+  pub sorted : IsNonDecreasing numbers
 
 -- links lead to the number from one of these
 abbrev pub IsReachedFromAny : List (List ℕ) → List ℕ → ℕ → Type 0

@@ -1,7 +1,7 @@
 //! What a number reaches by links.
 ghost use Rattle.std.specs.Prelude.{ℕ, ◌<◌, ◌∷◌, [], length, Contains, IfOk, OnOk};
-ghost use Rattle.number_graph.specs.Graphs.{AreFlagsFromAny, AreLinksWithin, AreReachedFlags};
-ghost use Rattle.number_graph.specs.Flags.{FlagsOne, SetsFlags};
+ghost use Rattle.number_graph.specs.Graphs.{AreFlagsFromAny, AreLinksWithin, AreReached};
+ghost use Rattle.number_graph.specs.Flags.{FlagsOne, SetsFlags, HasFound};
 
 use crate::links::Links;
 use std::alloc::{AllocError, Global};
@@ -41,6 +41,34 @@ fn flag_all(
     Ok(())
 }
 
+/// What a search found.
+#[derive(Drop)]
+struct Found {
+    /// For each number, whether it is reached.
+    flags: Vec<bool>,
+    /// The numbers that are reached, in the order in which they were looked at.
+    numbers: Vec<u16>,
+}
+
+/// Searches from these numbers, which themselves count as reached. It looks at each number that is
+/// reached, and at each of its links, once.
+fn search(alloc: Global, links: &Links, starts: &[u16]) -> Result<Found, AllocError>
+    requires starts { (n : ℕ) → Contains starts.now n → n < length links.now }
+    requires within { AreLinksWithin links.now }
+    ensures { IfOk result (λ found.
+        HasFound links.now starts.now found.flags.items found.numbers.items) }
+{
+    let mut flags = vec![in alloc; false; links.count()]?;
+    let mut waiting = Vec::new(alloc);
+    let mut numbers = Vec::new(alloc);
+    flag_all(starts, &mut flags, &mut waiting)?;
+    while let Some(number) = waiting.pop() {
+        numbers.push(number)?;
+        flag_all(links.from(number), &mut flags, &mut waiting)?;
+    }
+    Ok(Found { flags, numbers })
+}
+
 /// For each number, whether links lead to it from one of these, which themselves count as reached.
 /// It looks at each number that is reached, and at each of its links, once.
 pub fn reached_from_any(
@@ -52,21 +80,18 @@ pub fn reached_from_any(
     requires within { AreLinksWithin links.now }
     ensures { IfOk result (λ flags. AreFlagsFromAny links.now starts.now flags.items) }
 {
-    let mut flags = vec![in alloc; false; links.count()]?;
-    let mut waiting = Vec::new(alloc);
-    flag_all(starts, &mut flags, &mut waiting)?;
-    while let Some(number) = waiting.pop() {
-        flag_all(links.from(number), &mut flags, &mut waiting)?;
-    }
-    Ok(flags)
+    let found = search(alloc, links, starts)?;
+    Ok(found.flags)
 }
 
-/// For each number, whether links lead to it from this one, which itself counts as reached. It
-/// looks at each number that is reached, and at each of its links, once.
-pub fn reached_from(alloc: Global, links: &Links, from: u16) -> Result<Vec<bool>, AllocError>
+/// The numbers to which links lead from this one, which itself counts as reached, each of them
+/// once. It looks at each of them, and at each of its links, once, and sorts them.
+pub fn reached_from(alloc: Global, links: &Links, from: u16) -> Result<Vec<u16>, AllocError>
     requires from { from < length links.now }
     requires within { AreLinksWithin links.now }
-    ensures { IfOk result (λ flags. AreReachedFlags links.now from flags.items) }
+    ensures { IfOk result (λ numbers. AreReached links.now from numbers.items) }
 {
-    reached_from_any(alloc, links, &[from])
+    let mut numbers = search(alloc, links, &[from])?.numbers;
+    numbers.sort_unstable();
+    Ok(numbers)
 }

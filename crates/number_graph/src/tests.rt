@@ -29,13 +29,13 @@ fn links_of(alloc: Global, count: usize, pairs: &[(u16, u16)]) -> Result<Links, 
     Ok(links)
 }
 
-/// Whether the first number reaches each number of the graph.
+/// What the number of the graph reaches.
 fn reached(
     alloc: Global,
     count: usize,
     pairs: &[(u16, u16)],
     from: u16,
-) -> Result<Vec<bool>, AllocError>
+) -> Result<Vec<u16>, AllocError>
     requires { from < count }
 {
     let links = links_of(alloc, count, pairs)?;
@@ -142,18 +142,18 @@ fn a_reaches_itself_and_what_links_lead_to(rt: HostRuntime) -> Result<(), Fail> 
     let chain: &[(u16, u16)] = &[(0, 1), (1, 2), (2, 3)];
     let ring: &[(u16, u16)] = &[(0, 1), (1, 2), (2, 0), (3, 0)];
     let fork: &[(u16, u16)] = &[(0, 3), (0, 2), (2, 2)];
-    let cases: [(&[(u16, u16)], u16, [bool; 4]); 7] = [
-        (&[], 1, [false, true, false, false]),
-        (chain, 0, [true, true, true, true]),
-        (chain, 2, [false, false, true, true]),
-        (ring, 1, [true, true, true, false]),
-        (ring, 3, [true, true, true, true]),
-        (fork, 0, [true, false, true, true]),
-        (fork, 2, [false, false, true, false]),
+    let cases: [(&[(u16, u16)], u16, &[u16]); 7] = [
+        (&[], 1, &[1]),
+        (chain, 0, &[0, 1, 2, 3]),
+        (chain, 2, &[2, 3]),
+        (ring, 1, &[0, 1, 2]),
+        (ring, 3, &[0, 1, 2, 3]),
+        (fork, 0, &[0, 2, 3]),
+        (fork, 2, &[2]),
     ];
     for (place, (pairs, from, want)) in cases.iter().enumerate() {
-        let flags = reached(rt.alloc(), 4, pairs, *from)?;
-        assert_eq!(rt; flags.as_slice(), want.as_slice(), "at {place}");
+        let numbers = reached(rt.alloc(), 4, pairs, *from)?;
+        assert_eq!(rt; numbers.as_slice(), *want, "at {place}");
     }
     Ok(())
 }
