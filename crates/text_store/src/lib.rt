@@ -6,5 +6,7 @@ mod matching;
 #[cfg(test)]
 mod tests;
 mod text;
+mod threads;
 
 pub use text::Text;
+pub use threads::texts_cross_threads;
