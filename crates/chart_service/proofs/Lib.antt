@@ -1,4 +1,3 @@
-pub mod LexingLemmas
 pub mod OpeningLemmas
 pub mod AnsweringLemmas
 pub mod ProgressLemmas

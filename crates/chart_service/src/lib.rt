@@ -4,7 +4,6 @@
 
 mod answering;
 mod language;
-mod lexing;
 mod opening;
 mod options;
 mod serving;

@@ -16,7 +16,6 @@ ghost use Rattle.chart_service.specs.Opening.{text_reason_of, grammar_reason_of,
 ghost use Rattle.chart_service.specs.Opening.{EndsAtGrammar, Accepts, IsOpened, OpensText};
 
 use crate::language::Language;
-use crate::lexing::{kinds_of, tokens_of};
 use crate::status::Status;
 use crate::writing::{finish, say};
 use binary_form::{BinaryFault, binary};
@@ -26,6 +25,7 @@ use lbnf_grammar::{Grammar, GrammarFault, expand};
 use lbnf_text::{TextFault, read_defs};
 use script_reader::Block;
 use std::alloc::{AllocError, Global};
+use text_store::Text;
 use valiant::Chart;
 
 /// Why a grammar is refused.
@@ -214,8 +214,8 @@ fn chart_of(alloc: Global, language: &Language, text: &[u8]) -> Result<Chart<Lis
     ensures { IfOk result
         (λ chart. (tokens : List Token) × IsOpened language.now.grammar chart text.now tokens) }
 {
-    let tokens = tokens_of(alloc, language.grammar.kinds(), text)?;
-    let kinds = kinds_of(alloc, tokens.as_slice())?;
+    let text = Text::open(alloc, language.grammar.kinds(), text)?;
+    let kinds = text.kinds(alloc)?;
     Chart::of_kinds(alloc, &language.binary, kinds.as_slice())
 }
 

@@ -1,9 +1,10 @@
 -- Cells by their ends, to which the cuts at the ends of a row's entries are added one by one.
-use Rattle.std.proofs.Common.{◌≡◌, ℕ, zero, suc, ◌+◌, ◌<◌, ◌≤◌, ◌≢◌, List, [], ◌∷◌, ◌++◌, Some, length, slice_get, get_or, take, set, refl, sym, ◌∙◌, ap, subst, inl, inr, arith}
+use Rattle.std.proofs.Common.{◌≡◌, ℕ, zero, suc, ◌+◌, ◌<◌, ◌≤◌, ◌≢◌, List, [], ◌∷◌, ◌++◌, Some, length, slice_get, get_or, take, set, refl, sym, ◌∙◌, ap, subst, inl, inr, arith, Contains}
 use Rattle.std.proofs.lemmas.Bool.{cases_eq}
 use Rattle.std.proofs.lemmas.Option.{slice_get_within, slice_get-get_or, slice_get_read}
 use Rattle.std.proofs.lemmas.List.{get_or_read, get_or-take, take_more, take_all, length-take-le, length-set}
 use Rattle.spec_grammar.specs.Grammars.{Grammar}
+use Rattle.cell_sets.proofs.CellsLemmas.{has_first}
 use Rattle.binary_form.specs.BinaryForm.{AddsProductOf}
 use Rattle.valiant.specs.declared.rows.Entry.{Entry}
 use Rattle.valiant.specs.Rows.{found, HasRisingEnds}
@@ -28,6 +29,23 @@ adds_after_none g left right one two three none some n = (
     | inr made ↦ (some n).1 (inr made)
   ]),
 )
+
+-- a list that has no number is empty
+nothing_there : (xs : List ℕ) → ((n : ℕ) → Contains xs n → ⊥) → xs ≡ []
+nothing_there [] none = refl
+nothing_there (x ∷ xs) none = absurd (none x (has_first x xs))
+
+-- where nothing stands behind a cut, an empty cell stays empty
+pub stays_empty :
+    (g : Grammar) (left one two : List ℕ)
+    → one ≡ [] → AddsProductOf g left [] one two → two ≡ []
+stays_empty g left one two empty adds = nothing_there two has_none
+  where
+    has_none : (n : ℕ) → Contains two n → ⊥
+    has_none n has = elim ((adds n).0 has) [
+      | inl kept ↦ let there : Contains [] n = rw empty at kept in omega (arith, there.1)
+      | inr made ↦ omega (arith, made.3.1)
+    ]
 
 -- what is written at a place of a list is there
 pub get_set_same :

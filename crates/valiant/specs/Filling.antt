@@ -1,5 +1,5 @@
 -- Serves the proofs alone. How far the rows of a chart are filled, and what each step adds.
-use Rattle.std.specs.Prelude.{◌≡◌, ℕ, ◌+◌, ◌-◌, ◌<◌, ◌≢◌, ◌↔◌, ◌⊎◌, List, [], ◌∷◌, ◌++◌, Option}
+use Rattle.std.specs.Prelude.{◌≡◌, ℕ, ◌+◌, ◌-◌, ◌<◌, ◌≤◌, ◌≢◌, ◌↔◌, ◌⊎◌, List, [], ◌∷◌, ◌++◌, Option}
 use Rattle.std.specs.Prelude.{Some, Contains}
 use Rattle.std.specs.Prelude.{length, slice_get, slice_index_or}
 use Rattle.spec_grammar.specs.Grammars.{Grammar}
@@ -75,20 +75,31 @@ pub record AddsCuts {C : Type 0} (symbols : C → List ℕ) (g : Grammar) (left 
 abbrev pub AreEmpty : {C : Type 0} → (C → List ℕ) → List C → Type 0
 AreEmpty {C} symbols cells = (j : ℕ) (c : C) → slice_get cells j ≡ Some c → symbols c ≡ []
 
--- each end has a cell: that of token i has what derives the token, and those behind are empty
+-- each end of so many tokens has a cell, and no cell has symbols
+abbrev pub AreEmptyCells : {C : Type 0} → (C → List ℕ) → ℕ → List C → Type 0
+AreEmptyCells symbols tokens cells = (length cells ≡ tokens + 1) × AreEmpty symbols cells
+
+-- each end has a cell: that of token i has what derives the token, and the others are empty
 pub record AreFirstCells {C : Type 0} (symbols : C → List ℕ) (g : Grammar)
     (kinds : List (Option ℕ)) (i : ℕ) (cells : List C) : Type 0 where
   pub count : length cells ≡ length kinds + 1
   pub token : (c : C) → slice_get cells (i + 1) ≡ Some c → IsEntryOf g kinds i (i + 1) (symbols c)
-  pub empty : (j : ℕ) (c : C) → i + 1 < j → slice_get cells j ≡ Some c → symbols c ≡ []
+  pub empty : (j : ℕ) (c : C) → j ≢ i + 1 → slice_get cells j ≡ Some c → symbols c ≡ []
 
--- behind the place each end has a cell: that of token i has what derives the token, and the others
--- have what the cuts at the ends of the row's entries give
+-- each end has a cell, those up to the place are empty, and behind it that of token i has what
+-- derives the token, and the others have what the cuts at the ends of the row's entries give
 pub record AreCellsBehind {C : Type 0} (symbols : C → List ℕ) (g : Grammar)
     (kinds : List (Option ℕ)) (rows : List (List (Entry C))) (i : ℕ) (row : List (Entry C))
     (place : ℕ) (cells : List C) : Type 0 where
   pub count : length cells ≡ length kinds + 1
+  pub empty : (j : ℕ) (c : C) → j ≤ place → slice_get cells j ≡ Some c → symbols c ≡ []
   pub token : (c : C) → place ≡ i → slice_get cells (i + 1) ≡ Some c
       → IsEntryOf g kinds i (i + 1) (symbols c)
   pub cuts : (j : ℕ) (c : C) → place < j → i + 1 < j → slice_get cells j ≡ Some c
       → IsOfEntries symbols g (length kinds) rows row j (length row) (symbols c)
+
+-- the row is that of the next token, and the cells are empty
+pub record IsNextRow {C : Type 0} (symbols : C → List ℕ) (g : Grammar) (kinds : List (Option ℕ))
+    (rows : List (List (Entry C))) (row : List (Entry C)) (cells : List C) : Type 0 where
+  pub filled : IsRowUpTo symbols g kinds (next_token kinds rows) (length kinds + 1) row
+  pub empty : AreEmptyCells symbols (length kinds) cells

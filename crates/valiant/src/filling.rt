@@ -4,8 +4,8 @@
 ghost use Rattle.std.specs.Prelude.{◌≡◌, ◌+◌, ◌-◌, ◌<◌, ◌≤◌, [], length, slice_index_or, IfOk};
 ghost use Rattle.spec_grammar.specs.Grammars.{HasOwnSymbols};
 ghost use Rattle.valiant.specs.Rows.{HasRisingEnds};
-ghost use Rattle.valiant.specs.Filling.{AddsCut, AddsCuts, AreEmpty, AreEndsBelow, AreFirstCells};
-ghost use Rattle.valiant.specs.Filling.{AreLastRows, HasSame, IsRowUpTo, next_token};
+ghost use Rattle.valiant.specs.Filling.{AddsCut, AddsCuts, AreEmptyCells, AreEndsBelow};
+ghost use Rattle.valiant.specs.Filling.{AreFirstCells, AreLastRows, HasSame, IsNextRow};
 
 use crate::rows::{Entry, Row};
 use binary_form::Binary;
@@ -62,14 +62,13 @@ fn copy_of<C: Cell>(alloc: Global, cell: &C) -> Result<C, AllocError>
     Ok(copy)
 }
 
-/// So many cells without symbols.
-fn empty_cells<C: Cell>(alloc: Global, count: usize) -> Result<Vec<C>, AllocError>
-    requires { count ≤ 16385 }
-    ensures { IfOk result (λ cells.
-        (length cells.items ≡ count) × AreEmpty C.symbols cells.items) }
+/// A cell without symbols for each end of so many tokens.
+fn empty_cells<C: Cell>(alloc: Global, tokens: usize) -> Result<Vec<C>, AllocError>
+    requires { tokens ≤ 16384 }
+    ensures { IfOk result (λ cells. AreEmptyCells C.symbols tokens cells.items) }
 {
     let mut cells = Vec::new(alloc);
-    for _ in 0..count {
+    for _ in 0..tokens + 1 {
         cells.push(C::empty())?;
     }
     Ok(cells)
@@ -81,14 +80,14 @@ fn first_cells<C: Cell>(
     bin: &Binary<C>,
     kinds: &[Option<u16>],
     token: usize,
+    mut cells: Vec<C>,
 ) -> Result<Vec<C>, AllocError>
     requires own_symbols { HasOwnSymbols bin.now }
     requires within { token < length kinds.now }
-    requires few { length kinds.now ≤ 16384 }
+    requires empty { AreEmptyCells C.symbols (length kinds.now) cells.items }
     ensures { IfOk result (λ cells.
         AreFirstCells C.symbols bin.now kinds.now token cells.items) }
 {
-    let mut cells: Vec<C> = empty_cells(alloc, kinds.len() + 1)?;
     let cell = copy_of(alloc, bin.token_cell(kinds[token]))?;
     cells[token + 1] = cell;
     Ok(cells)
@@ -108,25 +107,27 @@ fn row_behind<C>(rows: &[Row<C>], count: usize, token: usize) -> &[Entry<C>]
 }
 
 /// The entries of the spans that begin with the next token, which is the one before those of the
-/// rows. When an end is reached, its cell has what all cuts give, and goes into its entry, with
-/// which the cells of the ends behind it get the cuts there.
+/// rows, and the cells, which are empty before and after. When an end is reached, its cell has what
+/// all cuts give, and goes into its entry, with which the cells of the ends behind it get the cuts
+/// there.
 fn next_row<C: Cell>(
     alloc: Global,
     bin: &Binary<C>,
     kinds: &[Option<u16>],
     rows: &[Row<C>],
-) -> Result<Row<C>, AllocError>
+    empty: Vec<C>,
+) -> Result<(Row<C>, Vec<C>), AllocError>
     requires own_symbols { HasOwnSymbols bin.now }
     requires rows { AreLastRows C.symbols bin.now kinds.now rows.now }
     requires short { length rows.now < length kinds.now }
     requires few { length kinds.now ≤ 16384 }
-    ensures { IfOk result (λ row.
-        IsRowUpTo C.symbols bin.now kinds.now (next_token kinds.now rows.now)
-        (length kinds.now + 1) row) }
+    requires empty { AreEmptyCells C.symbols (length kinds.now) empty.items }
+    ensures { IfOk result (λ next.
+        IsNextRow C.symbols bin.now kinds.now rows.now next.0 next.1.items) }
 {
     let first = kinds.len() - rows.len() - 1;
     let mut row = Items::new(alloc);
-    let mut cells: Vec<C> = first_cells(alloc, bin, kinds, first)?;
+    let mut cells: Vec<C> = first_cells(alloc, bin, kinds, first, empty)?;
     for last in first..kinds.len() {
         if cells[last + 1].is_empty() {
             continue;
@@ -139,7 +140,7 @@ fn next_row<C: Cell>(
             cell,
         })?;
     }
-    Ok(row)
+    Ok((row, cells))
 }
 
 /// Each rule of the grammar has symbols of the grammar: a binary form keeps it so.
@@ -161,9 +162,11 @@ pub(crate) fn rows_of<C: Cell>(
 {
     rules_have_own_symbols(bin);
     let mut rows = Items::new(alloc);
+    let mut empty: Vec<C> = empty_cells(alloc, kinds.len())?;
     for _ in 0..kinds.len() {
-        let row = next_row(alloc, bin, kinds, rows.as_slice())?;
+        let (row, cells) = next_row(alloc, bin, kinds, rows.as_slice(), empty)?;
         rows.push(row)?;
+        empty = cells;
     }
     Ok(rows)
 }

@@ -6,6 +6,8 @@ mod filling;
 mod laws;
 mod rows;
 mod spans;
+mod threads;
 
 pub use chart::Chart;
 pub use laws::{charts_agree, entries_tell_derivation};
+pub use threads::charts_cross_threads;

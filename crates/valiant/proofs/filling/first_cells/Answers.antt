@@ -9,9 +9,8 @@ returns g c =
     let symbols = g.C.Cell.symbols in
     let kinds = c.args.kinds.now in
     let i = c.args.token in
-    let empty = c.in_ok-cells.ensures in
     let token =
     one_token_entry c.args.bin.now c.requires.own_symbols kinds i (i + 1) (symbols c.token_cell.result.now)
     (symbols c.in_ok-cell.cell) c.requires.within refl c.token_cell.ensures c.in_ok-cell.ensures in
-    first_cells symbols c.args.bin.now kinds i c.in_ok-cells.cells.items c.in_ok-cell.cell empty.0 empty.1
-    c.requires.within token
+    first_cells symbols c.args.bin.now kinds i c.args.cells.items c.in_ok-cell.cell c.requires.empty.0
+    c.requires.empty.1 c.requires.within token

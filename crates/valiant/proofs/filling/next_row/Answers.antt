@@ -1,8 +1,8 @@
 -- The first cells, one more span with symbols or without, and all spans.
-use Rattle.std.proofs.Common.{ℕ, ◌≡◌, ◌+◌, ◌<◌, ◌≤◌, length, length-set, get_or, refl, sym, ◌∙◌, inl, inr, subst, arith}
+use Rattle.std.proofs.Common.{ℕ, [], ◌≡◌, ◌+◌, ◌<◌, ◌≤◌, length, length-set, get_or, refl, sym, ◌∙◌, inl, inr, subst, arith}
 use Rattle.valiant.specs.Filling.{IsRowUpTo, next_token}
 use Rattle.valiant.proofs.FillingLemmas.{row_none, row_more}
-use Rattle.valiant.proofs.NextRowLemmas.{behind_rising, behind_below, cells_start, cell_entry, cells_kept, cells_more}
+use Rattle.valiant.proofs.NextRowLemmas.{behind_rising, behind_below, behind_after, cells_start, cells_end, cell_entry, cells_kept, cells_more}
 use Rattle.valiant.proofs.filling.next_row.Goals as goal
 
 pub loop-last-init : goal.loop-last-init
@@ -35,7 +35,8 @@ loop-last-preserved-then-is_empty g c =
           c.loop-last.invariant.row (omega (arith, from)) is (inl (c.if-is_empty.ensures.items.0 refl, refl));
       cells =
           cells_kept symbols c.args.bin.now kinds rows c.requires.rows c.requires.short c.loop-last.row last
-          c.loop-last.cells.items from within c.loop-last.invariant.cells;
+          c.loop-last.cells.items from within c.loop-last.invariant.cells c.index.result.now c.index.ensures
+          (c.if-is_empty.ensures.items.0 refl);
     }
 
 pub with_cuts-requires-clause-rising : goal.with_cuts-requires-clause-rising
@@ -70,6 +71,11 @@ loop-last-preserved g c =
     cell_entry symbols c.args.bin.now kinds rows c.requires.rows c.requires.short c.loop-last.row last
     c.loop-last.cells.items from within c.loop-last.invariant.cells cell c.requires.own_symbols
     c.loop-last.invariant.row read in
+    let none : symbols c.replace-cell.new.dest ≡ [] = rw c.replace-cell.ensures.after c.empty.ensures.items in
+    let after =
+    behind_after symbols c.args.bin.now kinds rows c.requires.rows c.requires.short (last + 1)
+    c.row_behind-behind.result.now (omega (arith, from)) c.row_behind-behind.ensures.row
+    c.row_behind-behind.ensures.none in
     rw c.in_ok-push.ensures.ok (record {
       row =
           row_more symbols c.args.bin.now kinds i (last + 1) c.loop-last.row _ cell
@@ -77,7 +83,7 @@ loop-last-preserved g c =
       cells =
           cells_more symbols c.args.bin.now kinds rows c.requires.rows c.requires.short c.loop-last.row last
           c.loop-last.cells.items from within c.loop-last.invariant.cells cell c.replace-cell.new.dest
-          c.row_behind-behind.result.now c.in_ok-cells-2.cells.items c.row_behind-behind.ensures.row
+          c.row_behind-behind.result.now c.in_ok-cells-2.cells.items none c.row_behind-behind.ensures.row after
           c.in_ok-cells-2.ensures;
     })
 
@@ -86,4 +92,9 @@ returns g c =
     let i = next_token c.args.kinds.now c.args.rows.now in
     let UpTo : ℕ → Type 0 = λ last. IsRowUpTo g.C.Cell.symbols c.args.bin.now c.args.kinds.now i (last + 1) c.loop-last.row in
     let end : c.loop-last.last ≡ length c.args.kinds.now = omega (arith, c.loop-last.auto, c.loop-last-test.false, c.requires.short) in
-    subst UpTo end c.loop-last.invariant.row
+    record {
+      filled = subst UpTo end c.loop-last.invariant.row;
+      empty =
+          cells_end g.C.Cell.symbols c.args.bin.now c.args.kinds.now c.args.rows.now c.requires.rows c.requires.short
+          c.loop-last.row c.loop-last.last c.loop-last.cells.items (omega (arith, end)) c.loop-last.invariant.cells;
+    }

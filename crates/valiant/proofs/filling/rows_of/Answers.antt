@@ -11,7 +11,10 @@ pub loop-preserved : goal.loop-preserved
 loop-preserved g c =
     let rows = c.loop.rows in
     let row = c.in_ok-row.row in
-    let last =
-    rows_more g.C.Cell.symbols c.args.bin.now c.args.kinds.now rows row c.loop.invariant.last
-    (rw c.as_slice.ensures at c.in_ok-row.ensures) in
-    rw c.in_ok-push.ensures.ok (record { count = rw (length_push rows row) (omega (arith, c.loop.invariant.count)); last = last })
+    let next = rw c.as_slice.ensures at c.in_ok-row.ensures in
+    rw c.in_ok-push.ensures.ok (record {
+      count = rw (length_push rows row) (omega (arith, c.loop.invariant.count));
+      last =
+          rows_more g.C.Cell.symbols c.args.bin.now c.args.kinds.now rows row c.loop.invariant.last next.filled;
+      empty = next.empty;
+    })
