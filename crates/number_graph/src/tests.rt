@@ -130,9 +130,9 @@ fn each_link_is_kept_once_in_rising_order(rt: HostRuntime) -> Result<(), Fail> {
         (&[(1, 1), (1, 1)], &[1]),
         (&[(0, 2), (0, 0), (0, 1), (0, 2), (0, 0)], &[0, 1, 2]),
     ];
-    for (place, (pairs, want)) in cases.iter().enumerate() {
+    for (pairs, want) in &cases {
         let all = linked(rt.alloc(), pairs)?;
-        assert_eq!(rt; all.as_slice(), *want, "at {place}");
+        assert_eq!(rt; all.as_slice(), *want, "of {pairs:?}");
     }
     Ok(())
 }
@@ -151,9 +151,9 @@ fn a_reaches_itself_and_what_links_lead_to(rt: HostRuntime) -> Result<(), Fail> 
         (fork, 0, &[0, 2, 3]),
         (fork, 2, &[2]),
     ];
-    for (place, (pairs, from, want)) in cases.iter().enumerate() {
+    for (pairs, from, want) in &cases {
         let numbers = reached(rt.alloc(), 4, pairs, *from)?;
-        assert_eq!(rt; numbers.as_slice(), *want, "at {place}");
+        assert_eq!(rt; numbers.as_slice(), *want, "from {from} by {pairs:?}");
     }
     Ok(())
 }
@@ -179,9 +179,9 @@ fn a_number_on_a_cycle_reaches_itself(rt: HostRuntime) -> Result<(), Fail> {
         (&[(0, 3), (0, 2), (2, 2)], [false, false, true, false]),
         (&[(1, 0), (1, 3), (3, 1)], [false, true, false, true]),
     ];
-    for (place, (pairs, want)) in cases.iter().enumerate() {
+    for (pairs, want) in &cases {
         let answers = on_cycles(rt.alloc(), pairs)?;
-        assert_eq!(rt; answers.as_slice(), want.as_slice(), "at {place}");
+        assert_eq!(rt; answers.as_slice(), want.as_slice(), "of {pairs:?}");
     }
     Ok(())
 }
@@ -207,9 +207,9 @@ fn the_longest_chain_from_each_number_is_measured(rt: HostRuntime) -> Result<(),
             [Some(1), Some(0), None, None, Some(0)],
         ),
     ];
-    for (place, (pairs, want)) in cases.iter().enumerate() {
+    for (pairs, want) in &cases {
         let told = heights_of(rt.alloc(), pairs)?;
-        assert_eq!(rt; told.as_slice(), want.as_slice(), "at {place}");
+        assert_eq!(rt; told.as_slice(), want.as_slice(), "of {pairs:?}");
     }
     Ok(())
 }
@@ -225,7 +225,7 @@ fn the_least_number_on_a_cycle_is_told(rt: HostRuntime) -> Result<(), Fail> {
     ];
     for (pairs, want) in &cases {
         let found = least(rt.alloc(), pairs)?;
-        assert_eq!(rt; found, *want);
+        assert_eq!(rt; found, *want, "of {pairs:?}");
     }
     Ok(())
 }
@@ -243,9 +243,9 @@ fn a_conclusion_follows_once_all_its_premises_do(rt: HostRuntime) -> Result<(), 
         (circle, [false, false, true, false, false, false]),
         (either, [true, true, true, false, false, true]),
     ];
-    for (place, (pairs, want)) in cases.iter().enumerate() {
+    for (pairs, want) in &cases {
         let flags = following(rt.alloc(), pairs)?;
-        assert_eq!(rt; flags.as_slice(), want.as_slice(), "at {place}");
+        assert_eq!(rt; flags.as_slice(), want.as_slice(), "of {pairs:?}");
     }
     Ok(())
 }
