@@ -1,6 +1,7 @@
 pub mod NameLemmas
 pub mod TextLemmas
 pub mod DistinctLemmas
+pub mod RuleLemmas
 pub mod TableLemmas
 pub mod CheckingLemmas
 pub mod CountLemmas

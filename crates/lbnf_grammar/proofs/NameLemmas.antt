@@ -1,5 +1,5 @@
 -- Names and the keys by which they are looked up.
-use Rattle.std.proofs.Common.{◌≡◌, ℕ, ◌≤◌, List, [], ◌∷◌, ◌++◌, length, map, Bool, true, false, not, cond, ltb, Vec, Global, refl, sym, ap, ◌∙◌, inl, inr, arith, Some, None}
+use Rattle.std.proofs.Common.{◌≡◌, ℕ, ◌≤◌, List, [], ◌∷◌, ◌++◌, length, map, Bool, true, false, not, cond, ltb, refl, sym, ap, ◌∙◌, inl, inr, arith, Some, None}
 use Rattle.std.proofs.lemmas.List.{length-map, map-append}
 use Rattle.std.specs.List.{list_any, prefix_len, position_or_len, position}
 use Rattle.std.specs.Option.{unwrap_or}
@@ -7,10 +7,6 @@ use Rattle.std.specs.Str.{bytes_eq}
 use Rattle.std.proofs.lemmas.Bool.{cases_Bool, cond-true, cond-false, ltb-false}
 use Rattle.std.proofs.lemmas.List.Sums.{prefix_len-le-length}
 use Rattle.lbnf_grammar.specs.Numbering.{with_name}
-
--- the bytes of a key
-abbrev pub key_bytes : Vec ℕ Global → List ℕ
-key_bytes key = key.items
 
 module _ {A B : Type 0} (p : B → Bool) (f : A → B) where
   -- some image passes where some item's image does
@@ -34,20 +30,6 @@ place_or_len p xs = by (position_or_len p xs) (prefix_len-le-length (λ x. not (
       | inr e ↦ rw e (omega (arith, ltb-false n (length xs) e))
     ]
 
-module _ (name : List ℕ) (keys : List (Vec ℕ Global)) (names : List (List ℕ)) (are : names ≡ map key_bytes keys) where
-  -- a name is among the keys where it is among the names
-  pub has_key : list_any (λ key. bytes_eq name (key_bytes key)) keys ≡ list_any (bytes_eq name) names
-  has_key = any_image (bytes_eq name) key_bytes keys ∙ ap (list_any (bytes_eq name)) (sym are)
-
-  -- the place of its key is its number
-  pub place_is_number : unwrap_or (position (λ key. bytes_eq name (key_bytes key)) keys) (length names) ≡ position_or_len (bytes_eq name) names
-  place_is_number =
-      let same : length names ≡ length keys = ap length are ∙ length-map keys key_bytes in
-      ap (unwrap_or (position (λ key. bytes_eq name (key_bytes key)) keys)) same
-      ∙ place_or_len (λ key. bytes_eq name (key_bytes key)) keys
-      ∙ front_image (λ n. not (bytes_eq name n)) key_bytes keys
-      ∙ ap (position_or_len (bytes_eq name)) (sym are)
-
 -- a name that is there changes nothing
 pub with_name_there : (names : List (List ℕ)) (name : List ℕ) → list_any (bytes_eq name) names ≡ true
     → with_name names name ≡ names
@@ -58,26 +40,36 @@ pub with_name_new : (names : List (List ℕ)) (name : List ℕ) → list_any (by
     → with_name names name ≡ names ++ name ∷ []
 with_name_new names name e = cond-false (list_any (bytes_eq name) names) names (names ++ name ∷ []) e
 
--- with a new key, the keys are those of the names with the new name
-pub keys_more : (names : List (List ℕ)) (name : List ℕ) (key : Vec ℕ Global) (keys : List (Vec ℕ Global))
-    → names ≡ map key_bytes keys → key_bytes key ≡ name
-    → names ++ name ∷ [] ≡ map key_bytes (keys ++ key ∷ [])
-keys_more names name key keys are is = ap (λ n. n ++ name ∷ []) are ∙ ap (λ b. map key_bytes keys ++ b ∷ []) (sym is) ∙ sym (map-append key_bytes keys (key ∷ []))
+-- the keys of names, each with its bytes
+module _ {K : Type 0} (bytes : K → List ℕ) (keys : List K) (names : List (List ℕ)) (are : map bytes keys ≡ names) (name : List ℕ) where
+  -- a name is among the keys where it is among the names
+  pub has_key : list_any (λ key. bytes_eq name (bytes key)) keys ≡ list_any (bytes_eq name) names
+  has_key = any_image (bytes_eq name) bytes keys ∙ ap (list_any (bytes_eq name)) are
 
--- what a look-up by the shown bytes told, of the names
-pub told : (name shown : List ℕ) (keys : List (Vec ℕ Global)) (names : List (List ℕ))
-    → names ≡ map key_bytes keys → shown ≡ name
-    → (r v : Bool) → r ≡ list_any (λ key. bytes_eq shown (key_bytes key)) keys → r ≡ v → list_any (bytes_eq name) names ≡ v
-told name shown keys names are is r v looked e =
-    sym (has_key name keys names are) ∙ ap (λ b. list_any (λ key. bytes_eq b (key_bytes key)) keys) (sym is) ∙ sym looked ∙ e
+  -- there are as many names as keys
+  pub key_count : length keys ≡ length names
+  key_count = sym (length-map keys bytes) ∙ ap length are
 
--- after a new key is inserted, the keys are those of the names with the new name
-pub keys_added : (name : List ℕ) (key : Vec ℕ Global) (keys keys' : List (Vec ℕ Global)) (names : List (List ℕ))
-    → names ≡ map key_bytes keys → key_bytes key ≡ name
-    → list_any (bytes_eq name) names ≡ false
-    → keys' ≡ cond (list_any (λ other. bytes_eq (key_bytes key) (key_bytes other)) keys) keys (keys ++ key ∷ [])
-    → names ++ name ∷ [] ≡ map key_bytes keys'
-keys_added name key keys keys' names are is new inserted =
-    let absent : list_any (λ other. bytes_eq (key_bytes key) (key_bytes other)) keys ≡ false
-    = ap (λ b. list_any (λ other. bytes_eq b (key_bytes other)) keys) is ∙ has_key name keys names are ∙ new in
-    keys_more names name key keys are is ∙ ap (map key_bytes) (sym (inserted ∙ cond-false _ keys (keys ++ key ∷ []) absent))
+  -- the place of its key is its number
+  pub place_is_number : unwrap_or (position (λ key. bytes_eq name (bytes key)) keys) (length keys) ≡ position_or_len (bytes_eq name) names
+  place_is_number =
+      place_or_len (λ key. bytes_eq name (bytes key)) keys
+      ∙ front_image (λ n. not (bytes_eq name n)) bytes keys
+      ∙ ap (position_or_len (bytes_eq name)) are
+
+  -- what a look-up tells of the keys is so of the names
+  pub told : (answer value : Bool) → answer ≡ list_any (λ key. bytes_eq name (bytes key)) keys → answer ≡ value
+      → list_any (bytes_eq name) names ≡ value
+  told answer value looked is = sym has_key ∙ sym looked ∙ is
+
+  -- after a new key is inserted, the keys are those of the names with the new name
+  pub keys_added : (key : K) (more : List K) → bytes key ≡ name → list_any (bytes_eq name) names ≡ false
+      → more ≡ cond (list_any (λ other. bytes_eq (bytes key) (bytes other)) keys) keys (keys ++ key ∷ [])
+      → map bytes more ≡ with_name names name
+  keys_added key more is new inserted =
+      let absent : list_any (λ other. bytes_eq (bytes key) (bytes other)) keys ≡ false
+      = ap (λ b. list_any (λ other. bytes_eq b (bytes other)) keys) is ∙ has_key ∙ new in
+      ap (map bytes) (inserted ∙ cond-false _ keys (keys ++ key ∷ []) absent)
+      ∙ map-append bytes keys (key ∷ [])
+      ∙ ap (λ front. front ++ bytes key ∷ []) are ∙ ap (λ b. names ++ b ∷ []) is
+      ∙ sym (with_name_new names name new)

@@ -1,4 +1,5 @@
 pub mod Grammars
+pub mod MadeRules
 pub mod Numbering
 pub mod Tables
 pub mod Checking

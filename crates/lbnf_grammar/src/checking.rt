@@ -3,7 +3,6 @@ ghost use Rattle.std.specs.Prelude.{◌≡◌, ◌≤◌, [], flat_map, bytes_eq
 ghost use Rattle.std.specs.List.{list_any};
 ghost use Rattle.spec_lbnf.specs.Limits.{size_of};
 ghost use Rattle.spec_lbnf.specs.Checks.{predefined_names};
-ghost use Rattle.spec_lbnf.specs.Limits.{IsSmall};
 ghost use Rattle.spec_lbnf.specs.Checks.{own_categories, IsFirstName, IsPredefined, IsFree};
 ghost use Rattle.spec_lbnf.specs.Checks.{unknown_fault, HasOwnNames};
 ghost use Rattle.spec_lbnf.specs.Checks.{AtOwnName, AreAllKnown, AtUnknown};
@@ -11,10 +10,11 @@ ghost use Rattle.lbnf_grammar.specs.Grammars.{IsSuchOrMemory};
 ghost use Rattle.lbnf_grammar.specs.Numbering.{with_names};
 ghost use Rattle.lbnf_grammar.specs.Checking.{Checks, IsListed, IsUnlisted};
 
+use crate::expanded_def::ExpandedDef;
 use crate::names::Names;
 use crate::naming::{all_own_categories, named_categories};
-use spec_lbnf::{Def, GrammarFault};
-use spec_text::Name;
+use crate::texts::CategoryText;
+use spec_lbnf::GrammarFault;
 use std::alloc::Global;
 
 fn is_predefined(text: &[u8]) -> bool
@@ -28,12 +28,12 @@ fn is_predefined(text: &[u8]) -> bool
 }
 
 /// The first of the names that is predefined.
-fn first_predefined(names: &[Name]) -> Option<&Name>
+fn first_predefined<'a, 'n>(names: &'a [CategoryText<'n>]) -> Option<&'a CategoryText<'n>>
     ensures { MatchOption result (All IsFree names.now)
         (λ name. IsFirstName IsPredefined names.now name.now) }
 {
     for name in names {
-        if is_predefined(name.as_slice()) {
+        if is_predefined(name.as_str().as_bytes()) {
             return Some(name);
         }
     }
@@ -41,18 +41,20 @@ fn first_predefined(names: &[Name]) -> Option<&Name>
 }
 
 /// That rules are given for the predefined name, or that memory ran out.
-fn repeated(alloc: Global, name: &Name) -> GrammarFault
+fn repeated(alloc: Global, name: &CategoryText<'_>) -> GrammarFault
     ensures { IsSuchOrMemory (λ why. why ≡ GrammarFault.RepeatedToken name.now) result }
 {
-    match name.copy(alloc) {
+    match name.to_name(alloc) {
         Ok(name) => GrammarFault::RepeatedToken { name },
         Err(_) => GrammarFault::Memory,
     }
 }
 
 /// The categories that the definitions give rules for, or the first of them that is predefined.
-pub(crate) fn check_own_names(alloc: Global, defs: &[Def]) -> Result<Names, GrammarFault>
-    requires { All IsSmall defs.now }
+pub(crate) fn check_own_names(
+    alloc: Global,
+    defs: &[ExpandedDef<'_>],
+) -> Result<Names, GrammarFault>
     ensures { Checks
         (λ known. HasOwnNames defs.now × (known ≡ with_names [] (flat_map own_categories defs.now)))
         (AtOwnName defs.now) result }
@@ -64,19 +66,22 @@ pub(crate) fn check_own_names(alloc: Global, defs: &[Def]) -> Result<Names, Gram
         return Err(repeated(alloc, name));
     }
     let mut known = Names::new(alloc);
-    match known.add_all(alloc, list) {
+    match known.add_all(alloc, list.as_slice()) {
         Ok(()) => Ok(known),
         Err(_) => Err(GrammarFault::Memory),
     }
 }
 
 /// The first of the names that is not listed.
-fn first_unlisted<'a>(known: &Names, names: &'a [Name]) -> Option<&'a Name>
+fn first_unlisted<'a, 'n>(
+    known: &Names,
+    names: &'a [CategoryText<'n>],
+) -> Option<&'a CategoryText<'n>>
     ensures { MatchOption result (All (IsListed known.now) names.now)
         (λ name. IsFirstName (IsUnlisted known.now) names.now name.now) }
 {
     for name in names {
-        if !known.has(name.as_slice()) {
+        if !known.has(name.as_str()) {
             return Some(name);
         }
     }
@@ -84,22 +89,25 @@ fn first_unlisted<'a>(known: &Names, names: &'a [Name]) -> Option<&'a Name>
 }
 
 /// That the definition names an unknown category, or a predefined one, or that memory ran out.
-fn unknown(alloc: Global, name: &Name, def: u32) -> GrammarFault
+fn unknown(alloc: Global, name: &CategoryText<'_>, def: u32) -> GrammarFault
     ensures { IsSuchOrMemory (λ why. why ≡ unknown_fault name.now def) result }
 {
-    if is_predefined(name.as_slice()) {
+    if is_predefined(name.as_str().as_bytes()) {
         return GrammarFault::Unbuilt { def };
     }
-    match name.copy(alloc) {
+    match name.to_name(alloc) {
         Ok(name) => GrammarFault::UnknownCategory { name, def },
         Err(_) => GrammarFault::Memory,
     }
 }
 
 /// Tells the first category that is named and that no rule has.
-pub(crate) fn check_named(alloc: Global, defs: &[Def], known: &Names) -> Result<(), GrammarFault>
+pub(crate) fn check_named(
+    alloc: Global,
+    defs: &[ExpandedDef<'_>],
+    known: &Names,
+) -> Result<(), GrammarFault>
     requires few { size_of defs.now ≤ 32768 }
-    requires small { All IsSmall defs.now }
     requires listed { known.now ≡ with_names [] (flat_map own_categories defs.now) }
     ensures { Checks (λ done. AreAllKnown defs.now) (AtUnknown defs.now) result }
 {

@@ -1,10 +1,11 @@
 //! The symbol that is asked for where none is named.
 ghost use Rattle.std.specs.Prelude.{◌≡◌, ◌<◌, ◌^◌, [], ◌∷◌, length, IfOk};
-ghost use Rattle.std.specs.Option.{option_map, option_or};
-ghost use Rattle.spec_lbnf.specs.Expansion.{category_text};
+ghost use Rattle.std.specs.Option.{option_map};
+ghost use Rattle.spec_lbnf.specs.Expansion.{category_text, rules_of};
 ghost use Rattle.spec_grammar.specs.Grammars.{category_symbol};
-ghost use Rattle.spec_lbnf.specs.Expansion.{first_entry, first_category};
+ghost use Rattle.spec_lbnf.specs.Expansion.{first_entry, first_category, entry_text};
 
+use crate::expanded_def::ExpandedDef;
 use crate::numbering::category_number;
 use crate::tables::Tables;
 use spec_grammar::Symbol;
@@ -15,22 +16,39 @@ use std::alloc::{AllocError, Global};
 fn entry_of(def: &Def) -> Option<&CatName>
     ensures { option_map (λ cat. category_text cat.now) result ≡ first_entry (def.now ∷ []) }
 {
-    match def {
-        Def::Entry(cats) => cats.as_slice().first(),
-        Def::Rule(_) => None,
-        Def::Internal(_) => None,
-        Def::Terminator { .. } => None,
-        Def::Separator { .. } => None,
-        Def::Coercions { .. } => None,
+    if let Def::Entry(cats) = def {
+        cats.as_slice().first()
+    } else {
+        None
     }
 }
 
 /// The first category of the first definition of entry points.
-fn first_entry(defs: &[Def]) -> Option<&CatName>
+fn first_entry<'a, 'd>(defs: &'a [ExpandedDef<'d>]) -> Option<&'a CatName>
     ensures { option_map (λ cat. category_text cat.now) result ≡ first_entry defs.now }
 {
     for def in defs {
-        if let Some(cat) = entry_of(def) {
+        if let Some(cat) = entry_of(def.def()) {
+            return Some(cat);
+        }
+    }
+    None
+}
+
+/// The category of the first of the rules.
+fn category_of_first(rules: &[RawRule]) -> Option<&CatName>
+    ensures { option_map (λ cat. category_text cat.now) result ≡ first_category rules.now }
+{
+    Some(&rules.first()?.cat)
+}
+
+/// The category of the first rule.
+fn first_category<'a, 'd>(defs: &'a [ExpandedDef<'d>]) -> Option<&'a CatName>
+    ensures { option_map (λ cat. category_text cat.now) result
+        ≡ first_category (rules_of defs.now) }
+{
+    for def in defs {
+        if let Some(cat) = category_of_first(def.rules()) {
             return Some(cat);
         }
     }
@@ -39,13 +57,12 @@ fn first_entry(defs: &[Def]) -> Option<&CatName>
 
 /// The first category of the first definition of entry points, or else the category of the first
 /// rule.
-fn entry_category<'a>(defs: &'a [Def], rules: &'a [RawRule]) -> Option<&'a CatName>
-    ensures { option_map (λ cat. category_text cat.now) result
-        ≡ option_or (first_entry defs.now) (first_category rules.now) }
+fn entry_category<'a, 'd>(defs: &'a [ExpandedDef<'d>]) -> Option<&'a CatName>
+    ensures { option_map (λ cat. category_text cat.now) result ≡ entry_text defs.now }
 {
     match first_entry(defs) {
         Some(cat) => Some(cat),
-        None => Some(&rules.first()?.cat),
+        None => first_category(defs),
     }
 }
 
@@ -53,14 +70,13 @@ fn entry_category<'a>(defs: &'a [Def], rules: &'a [RawRule]) -> Option<&'a CatNa
 pub(crate) fn entry_symbol(
     alloc: Global,
     tables: &Tables,
-    defs: &[Def],
-    rules: &[RawRule],
+    defs: &[ExpandedDef<'_>],
 ) -> Result<Option<Symbol>, AllocError>
     requires { length tables.now.categories < 2 ^ 16 }
-    ensures { IfOk result (λ entry. entry ≡ option_map (category_symbol tables.now.categories)
-        (option_or (first_entry defs.now) (first_category rules.now))) }
+    ensures { IfOk result (λ entry. entry
+        ≡ option_map (category_symbol tables.now.categories) (entry_text defs.now)) }
 {
-    let Some(cat) = entry_category(defs, rules) else {
+    let Some(cat) = entry_category(defs) else {
         return Ok(None);
     };
     let number = category_number(alloc, tables, cat)?;

@@ -4,6 +4,7 @@
 mod checking;
 mod counting;
 mod entry;
+mod expanded_def;
 mod expanding;
 mod labels;
 mod macros;

@@ -1,13 +1,13 @@
-//! The rules that a definition gives.
-ghost use Rattle.std.specs.Prelude.{◌≡◌, ◌≤◌, ◌<◌, ◌∷◌, ◌^◌, IfOk, All};
+//! The rules that a macro gives.
+ghost use Rattle.std.specs.Prelude.{◌≡◌, ◌≤◌, ◌<◌, ◌∷◌, ◌^◌, IfOk};
 ghost use Rattle.spec_lbnf.specs.declared.definition.RawItem.TheVariants.{Cat, Word};
 ghost use Rattle.spec_lbnf.specs.Limits.{IsSmall};
 ghost use Rattle.spec_lbnf.specs.Expansion.{list_of, nil_rule, one_rule, cons_rule};
 ghost use Rattle.spec_lbnf.specs.Expansion.{terminator_rules, separator_rules, coercion_rules};
 ghost use Rattle.spec_lbnf.specs.Expansion.{level_category, level_rule, bracket_rule};
-ghost use Rattle.spec_lbnf.specs.Expansion.{rules_of_def, rules_of};
+ghost use Rattle.lbnf_grammar.specs.MadeRules.{made_rules};
 
-use crate::texts::{copy_category, copy_items, copy_rule, numbered_name};
+use crate::texts::{copy_category, copy_items, numbered_name};
 use lbnf_text::{word_item, words};
 use spec_grammar::Label;
 use spec_lbnf::{CatName, Def, RawItem, RawRule};
@@ -169,13 +169,12 @@ fn coercion_rules(alloc: Global, name: &Name, levels: u16) -> Result<Vec<RawRule
     Ok(rules)
 }
 
-/// The rules that the definition gives, in order.
-pub(crate) fn rules_of_def(alloc: Global, def: &Def) -> Result<Vec<RawRule>, AllocError>
+/// The rules that the definition gives, in order, and none where it is a rule itself.
+pub(crate) fn made_rules(alloc: Global, def: &Def) -> Result<Vec<RawRule>, AllocError>
     requires { IsSmall def.now }
-    ensures { IfOk result (λ rules. rules.items ≡ rules_of_def def.now) }
+    ensures { IfOk result (λ rules. rules.items ≡ made_rules def.now) }
 {
     match def {
-        Def::Rule(rule) => Ok(vec![in alloc; copy_rule(alloc, rule)?]?),
         Def::Terminator {
             nonempty,
             cat,
@@ -187,19 +186,6 @@ pub(crate) fn rules_of_def(alloc: Global, def: &Def) -> Result<Vec<RawRule>, All
             word,
         } => separator_rules(alloc, *nonempty, cat, words(alloc, word)?.as_slice()),
         Def::Coercions { name, levels } => coercion_rules(alloc, name, *levels),
-        Def::Internal(_) => Ok(Vec::new(alloc)),
-        Def::Entry(_) => Ok(Vec::new(alloc)),
+        Def::Rule(_) | Def::Internal(_) | Def::Entry(_) => Ok(Vec::new(alloc)),
     }
-}
-
-/// The rules that the definitions give, in file order.
-pub(crate) fn rules_of(alloc: Global, defs: &[Def]) -> Result<Vec<RawRule>, AllocError>
-    requires { All IsSmall defs.now }
-    ensures { IfOk result (λ rules. rules.items ≡ rules_of defs.now) }
-{
-    let mut rules = Vec::new(alloc);
-    for def in defs {
-        rules.append(&mut rules_of_def(alloc, def)?)?;
-    }
-    Ok(rules)
 }

@@ -1,31 +1,27 @@
 //! Names in the order in which they are first met.
-ghost use Rattle.std.specs.Prelude.{◌≡◌, [], ◌∷◌, ◌++◌, ◌<◌, ◌≤◌, length, vec_len, vec_capacity};
-ghost use Rattle.std.specs.Prelude.{OnOk, bytes_eq};
+ghost use Rattle.std.specs.Prelude.{◌≡◌, [], ◌≤◌, length, OnOk, IfOk, bytes_eq};
 ghost use Rattle.std.specs.List.{list_any};
 ghost use Rattle.spec_grammar.specs.Grammars.{name_number};
 ghost use Rattle.lbnf_grammar.specs.Numbering.{with_name, with_names};
 
+use crate::texts::{CategoryText, name_of};
 use indexmap::IndexSet;
 use spec_text::Name;
 use std::alloc::{AllocError, Global};
 use std::marker::Model;
 
-/// Names without repetitions, each with its place as its number.
+/// Names without repetitions, each with its place as its number, seen as their list.
 #[derive(Drop)]
 pub(crate) struct Names {
-    /// The names' bytes, in the order of `list`, to look names up.
-    places: IndexSet<Vec<u8>>,
-    list: Vec<Name>,
+    set: IndexSet<String>,
 }
 
 impl Model for Names {
-    ghost use Rattle.std.specs.Prelude.{◌≡◌, List, ℕ, map};
+    ghost use Rattle.std.specs.Prelude.{List, ℕ, map, string_bytes};
 
     ghost Value = { List (List ℕ) };
 
-    ghost view = { λ names. names.list.items };
-
-    ghost invariant = { λ names. names.list.items ≡ map (λ key. key.items) names.places.keys };
+    ghost view = { λ names. map (λ name. string_bytes name) names.set.keys };
 }
 
 impl Names {
@@ -34,70 +30,58 @@ impl Names {
         ensures { result ≡ [] }
     {
         Names {
-            places: IndexSet::new(alloc),
-            list: Vec::new(alloc),
+            set: IndexSet::new(alloc),
         }
     }
 
     /// Whether this is one of the names.
-    pub(crate) fn has(&self, name: &[u8]) -> bool
+    pub(crate) fn has(&self, name: &str) -> bool
         ensures { result ≡ list_any (bytes_eq name.now) self.now }
     {
-        self.places.contains(name)
+        self.set.contains(name)
     }
 
     /// The number of the name, which is the count of names where it is none of them.
-    pub(crate) fn number(&self, name: &[u8]) -> usize
+    pub(crate) fn number(&self, name: &str) -> usize
         ensures number { result ≡ name_number self.now name.now }
         ensures within { result ≤ length self.now }
     {
-        self.places.get_index_of(name).unwrap_or(self.list.len())
+        self.set.get_index_of(name).unwrap_or(self.set.len())
     }
 
-    /// Adds the name, if it is new.
-    pub(crate) fn add(&mut self, alloc: Global, name: Name) -> Result<(), AllocError>
-        ensures { OnOk result (self.new ≡ with_name self.old name) }
+    /// Adds the name, if it is new, and then copies its bytes.
+    pub(crate) fn add(&mut self, alloc: Global, name: &str) -> Result<(), AllocError>
+        ensures { OnOk result (self.new ≡ with_name self.old name.now) }
     {
-        if self.places.contains(name.as_slice()) {
+        if self.set.contains(name) {
             return Ok(());
         }
-        let key = Vec::from_slice(alloc, name.as_slice())?;
-        self.list.reserve(1)?;
-        self.places.insert(key)?;
-        push_within(&mut self.list, name);
+        let key = String::from_str(alloc, name)?;
+        self.set.insert(key)?;
         Ok(())
     }
 
     /// Adds those of the names that are new.
-    pub(crate) fn add_all(&mut self, alloc: Global, names: Vec<Name>) -> Result<(), AllocError>
-        ensures { OnOk result (self.new ≡ with_names self.old names.items) }
+    pub(crate) fn add_all(
+        &mut self,
+        alloc: Global,
+        names: &[CategoryText<'_>],
+    ) -> Result<(), AllocError>
+        ensures { OnOk result (self.new ≡ with_names self.old names.now) }
     {
         for name in names {
-            self.add(alloc, name)?;
+            self.add(alloc, name.as_str())?;
         }
         Ok(())
     }
 
-    /// How many names there are.
-    pub(crate) fn len(&self) -> usize
-        ensures { result ≡ length self.now }
+    /// The names, by number. Their bytes are moved.
+    pub(crate) fn into_list(self, alloc: Global) -> Result<Vec<Name>, AllocError>
+        ensures { IfOk result (λ list. list.items ≡ self) }
     {
-        self.list.len()
+        self.set
+            .into_iter()
+            .map(|name| name_of(name))
+            .collect(alloc)
     }
-
-    /// The names, by number.
-    pub(crate) fn into_list(self) -> Vec<Name>
-        ensures { result.items ≡ self }
-    {
-        let Names { places: _, list } = self;
-        list
-    }
-}
-
-/// Adds the name to a list that has room for it.
-fn push_within(list: &mut Vec<Name>, name: Name)
-    requires { vec_len list.old < vec_capacity list.old }
-    ensures { list.new.items ≡ list.old.items ++ name ∷ [] }
-{
-    let _kept = list.push(name);
 }

@@ -1,46 +1,56 @@
 //! The categories that definitions give rules for, and those that they name.
-ghost use Rattle.std.specs.Prelude.{◌≡◌, [], ◌∷◌, ◌++◌, map, flat_map, IfOk, OnOk, All};
+ghost use Rattle.std.specs.Prelude.{◌≡◌, [], ◌∷◌, ◌++◌, map, flat_map, option_to_list, IfOk, OnOk};
+ghost use Rattle.std.specs.Option.{option_map};
 ghost use Rattle.spec_lbnf.specs.declared.definition.RawRule.{RawRule};
-ghost use Rattle.spec_lbnf.specs.Limits.{IsSmall};
 ghost use Rattle.spec_lbnf.specs.Expansion.{category_text, item_categories, internal_category};
 ghost use Rattle.spec_lbnf.specs.Checks.{own_categories, named_categories};
 
-use crate::macros::rules_of_def;
-use crate::texts::category_text;
+use crate::expanded_def::ExpandedDef;
+use crate::texts::{CategoryText, category_text};
 use spec_lbnf::{CatName, Def, RawItem, RawRule};
-use spec_text::Name;
 use std::alloc::{AllocError, Global};
 
 /// The category of an internal rule.
-pub(crate) fn internal_category(alloc: Global, def: &Def) -> Result<Vec<Name>, AllocError>
+pub(crate) fn internal_category(def: &Def) -> Option<&CatName>
+    ensures { option_to_list (option_map (λ cat. category_text cat.now) result)
+        ≡ internal_category def.now }
+{
+    if let Def::Internal(rule) = def {
+        Some(&rule.cat)
+    } else {
+        None
+    }
+}
+
+/// The text of the category of an internal rule.
+fn internal_text<'a>(alloc: Global, def: &'a Def) -> Result<Vec<CategoryText<'a>>, AllocError>
     ensures { IfOk result (λ names. names.items ≡ internal_category def.now) }
 {
-    match def {
-        Def::Internal(rule) => Ok(vec![in alloc; category_text(alloc, &rule.cat)?]?),
-        Def::Rule(_) => Ok(Vec::new(alloc)),
-        Def::Terminator { .. } => Ok(Vec::new(alloc)),
-        Def::Separator { .. } => Ok(Vec::new(alloc)),
-        Def::Coercions { .. } => Ok(Vec::new(alloc)),
-        Def::Entry(_) => Ok(Vec::new(alloc)),
+    match internal_category(def) {
+        Some(cat) => Ok(vec![in alloc; category_text(alloc, cat)?]?),
+        None => Ok(Vec::new(alloc)),
     }
 }
 
 /// The categories that the definition gives rules for, an internal one among them.
-fn own_categories(alloc: Global, def: &Def) -> Result<Vec<Name>, AllocError>
-    requires { IsSmall def.now }
+fn own_categories<'a, 'd>(
+    alloc: Global,
+    def: &'a ExpandedDef<'d>,
+) -> Result<Vec<CategoryText<'a>>, AllocError>
     ensures { IfOk result (λ names. names.items ≡ own_categories def.now) }
 {
-    let mut names = internal_category(alloc, def)?;
-    let rules = rules_of_def(alloc, def)?;
-    for rule in rules.iter() {
+    let mut names = internal_text(alloc, def.def())?;
+    for rule in def.rules() {
         names.push(category_text(alloc, &rule.cat)?)?;
     }
     Ok(names)
 }
 
 /// The categories that the definitions give rules for, with repetitions.
-pub(crate) fn all_own_categories(alloc: Global, defs: &[Def]) -> Result<Vec<Name>, AllocError>
-    requires { All IsSmall defs.now }
+pub(crate) fn all_own_categories<'a, 'd>(
+    alloc: Global,
+    defs: &'a [ExpandedDef<'d>],
+) -> Result<Vec<CategoryText<'a>>, AllocError>
     ensures { IfOk result (λ names. names.items ≡ flat_map own_categories defs.now) }
 {
     let mut names = Vec::new(alloc);
@@ -51,7 +61,11 @@ pub(crate) fn all_own_categories(alloc: Global, defs: &[Def]) -> Result<Vec<Name
 }
 
 /// Adds the text of the item, if it is a category.
-fn add_item(alloc: Global, names: &mut Vec<Name>, item: &RawItem) -> Result<(), AllocError>
+fn add_item<'a>(
+    alloc: Global,
+    names: &mut Vec<CategoryText<'a>>,
+    item: &'a RawItem,
+) -> Result<(), AllocError>
     ensures { OnOk result
         (names.new.items ≡ names.old.items ++ item_categories (item.now ∷ [])) }
 {
@@ -62,7 +76,11 @@ fn add_item(alloc: Global, names: &mut Vec<Name>, item: &RawItem) -> Result<(), 
 }
 
 /// Adds the texts of the categories among the items.
-fn add_items(alloc: Global, names: &mut Vec<Name>, items: &[RawItem]) -> Result<(), AllocError>
+fn add_items<'a>(
+    alloc: Global,
+    names: &mut Vec<CategoryText<'a>>,
+    items: &'a [RawItem],
+) -> Result<(), AllocError>
     ensures { OnOk result (names.new.items ≡ names.old.items ++ item_categories items.now) }
 {
     for item in items {
@@ -72,7 +90,10 @@ fn add_items(alloc: Global, names: &mut Vec<Name>, items: &[RawItem]) -> Result<
 }
 
 /// The categories among the items of the rules.
-fn item_categories(alloc: Global, rules: &[RawRule]) -> Result<Vec<Name>, AllocError>
+fn item_categories<'a>(
+    alloc: Global,
+    rules: &'a [RawRule],
+) -> Result<Vec<CategoryText<'a>>, AllocError>
     ensures { IfOk result (λ names.
         names.items ≡ flat_map (λ (rule : RawRule). item_categories rule.items) rules.now) }
 {
@@ -84,7 +105,10 @@ fn item_categories(alloc: Global, rules: &[RawRule]) -> Result<Vec<Name>, AllocE
 }
 
 /// The texts of the categories.
-fn category_texts(alloc: Global, cats: &[CatName]) -> Result<Vec<Name>, AllocError>
+fn category_texts<'a>(
+    alloc: Global,
+    cats: &'a [CatName],
+) -> Result<Vec<CategoryText<'a>>, AllocError>
     ensures { IfOk result (λ names. names.items ≡ map category_text cats.now) }
 {
     let mut names = Vec::new(alloc);
@@ -95,13 +119,14 @@ fn category_texts(alloc: Global, cats: &[CatName]) -> Result<Vec<Name>, AllocErr
 }
 
 /// The categories that the definition names: entry points, or those among its rules' items.
-pub(crate) fn named_categories(alloc: Global, def: &Def) -> Result<Vec<Name>, AllocError>
-    requires { IsSmall def.now }
+pub(crate) fn named_categories<'a, 'd>(
+    alloc: Global,
+    def: &'a ExpandedDef<'d>,
+) -> Result<Vec<CategoryText<'a>>, AllocError>
     ensures { IfOk result (λ names. names.items ≡ named_categories def.now) }
 {
-    if let Def::Entry(cats) = def {
+    if let Def::Entry(cats) = def.def() {
         return category_texts(alloc, cats.as_slice());
     }
-    let rules = rules_of_def(alloc, def)?;
-    item_categories(alloc, rules.as_slice())
+    item_categories(alloc, def.rules())
 }

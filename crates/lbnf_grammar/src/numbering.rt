@@ -1,8 +1,9 @@
 //! The numbers of a rule's symbols.
-ghost use Rattle.std.specs.Prelude.{◌≡◌, ◌<◌, ◌^◌, map, length, IfOk};
+ghost use Rattle.std.specs.Prelude.{◌≡◌, ◌<◌, ◌^◌, ◌++◌, map, length, IfOk, OnOk};
 ghost use Rattle.spec_grammar.specs.Grammars.{name_number};
-ghost use Rattle.spec_lbnf.specs.Expansion.{category_text, item_symbol, numbered_rule};
+ghost use Rattle.spec_lbnf.specs.Expansion.{category_text, item_symbol, numbered_rule, rules_of};
 
+use crate::expanded_def::ExpandedDef;
 use crate::tables::Tables;
 use crate::texts::{category_text, copy_label};
 use spec_grammar::{Rule, Symbol};
@@ -21,7 +22,7 @@ pub(crate) fn category_number(
         (λ number. number ≡ name_number tables.now.categories (category_text cat.now)) }
 {
     let text = category_text(alloc, cat)?;
-    Ok(tables.categories.number(text.as_slice()) as u16)
+    Ok(tables.categories.number(text.as_str()) as u16)
 }
 
 fn item_symbol(alloc: Global, tables: &Tables, item: &RawItem) -> Result<Symbol, AllocError>
@@ -33,7 +34,7 @@ fn item_symbol(alloc: Global, tables: &Tables, item: &RawItem) -> Result<Symbol,
     match item {
         RawItem::Cat(cat) => Ok(Symbol::Category(category_number(alloc, tables, cat)?)),
         RawItem::Word(word) => {
-            let number = tables.words.number(word.as_slice());
+            let number = tables.words.number(word.as_str());
             Ok(Symbol::Kind(number as u16))
         }
     }
@@ -49,11 +50,11 @@ fn symbols_of(
     ensures { IfOk result (λ symbols.
         symbols ≡ map (item_symbol tables.now.categories tables.now.words) items.now) }
 {
-    let mut symbols = Items::new(alloc);
+    let mut symbols = Vec::with_capacity(alloc, items.len())?;
     for item in items {
         symbols.push(item_symbol(alloc, tables, item)?)?;
     }
-    Ok(symbols)
+    Ok(Items::from_vec(symbols))
 }
 
 fn numbered_rule(alloc: Global, tables: &Tables, rule: &RawRule) -> Result<Rule, AllocError>
@@ -72,20 +73,38 @@ fn numbered_rule(alloc: Global, tables: &Tables, rule: &RawRule) -> Result<Rule,
     })
 }
 
-/// The rules, numbered by the tables.
+/// Adds the rules, numbered by the tables.
+fn add_rules(
+    alloc: Global,
+    numbered: &mut Vec<Rule>,
+    tables: &Tables,
+    rules: &[RawRule],
+) -> Result<(), AllocError>
+    requires categories { length tables.now.categories < 2 ^ 16 }
+    requires words { length tables.now.words < 2 ^ 16 }
+    ensures { OnOk result (numbered.new.items ≡ numbered.old.items
+        ++ map (numbered_rule tables.now.categories tables.now.words) rules.now) }
+{
+    for rule in rules {
+        numbered.push(numbered_rule(alloc, tables, rule)?)?;
+    }
+    Ok(())
+}
+
+/// The rules of the definitions, numbered by the tables.
 pub(crate) fn numbered_rules(
     alloc: Global,
     tables: &Tables,
-    rules: &[RawRule],
+    defs: &[ExpandedDef<'_>],
 ) -> Result<Vec<Rule>, AllocError>
     requires categories { length tables.now.categories < 2 ^ 16 }
     requires words { length tables.now.words < 2 ^ 16 }
     ensures { IfOk result (λ numbered. numbered.items
-        ≡ map (numbered_rule tables.now.categories tables.now.words) rules.now) }
+        ≡ map (numbered_rule tables.now.categories tables.now.words) (rules_of defs.now)) }
 {
     let mut numbered = Vec::new(alloc);
-    for rule in rules {
-        numbered.push(numbered_rule(alloc, tables, rule)?)?;
+    for def in defs {
+        add_rules(alloc, &mut numbered, tables, def.rules())?;
     }
     Ok(numbered)
 }

@@ -1,5 +1,5 @@
 -- Steps of the parser's loops.
-use Rattle.std.proofs.Common.{◌≡◌, ℕ, zero, suc, ◌+◌, ◌<◌, ◌≤◌, List, [], ◌∷◌, ◌++◌, codes, length, get_or, refl, sym, ap, ◌∙◌, arith, append_assoc, append-nil, true, false, IsTrue}
+use Rattle.std.proofs.Common.{◌≡◌, ℕ, zero, suc, ◌+◌, ◌<◌, ◌≤◌, List, [], ◌∷◌, ◌++◌, codes, length, get_or, refl, sym, ap, ◌∙◌, arith, append_assoc, append-nil, true, false, IsTrue, Some, None}
 use Rattle.std.specs.List.{prefix_len}
 use Rattle.spec_lbnf.specs.declared.token.PlacedToken.{PlacedToken}
 use Rattle.spec_lbnf.specs.declared.token.Sign.TheVariants.{OpenBracket, CloseBracket, Comma}
@@ -12,7 +12,10 @@ use Rattle.lbnf_text.specs.declared.parser.Stop.{Stop}
 use Rattle.lbnf_text.specs.declared.parser.Stop.TheVariants.{Memory, Stuck, Long}
 use Rattle.lbnf_readers.specs.FileReading.{is_word, def_by, list_macro_at}
 use Rattle.lbnf_text.specs.declared.definition.ListMacro.TheVariants.{Separator}
-use Rattle.lbnf_text.specs.Parsing.{stopped, list_def}
+use Rattle.lbnf_text.specs.Parsing.{stopped, list_def, category_item_at}
+use Rattle.lbnf_readers.specs.FileReading.{text_value}
+use Rattle.spec_lbnf.specs.declared.definition.RawItem.TheVariants.{Cat}
+use Rattle.spec_lbnf.specs.Expansion.{word_items}
 
 -- the open brackets that come first are a run
 pub open_run : (tokens : List PlacedToken) → prefix_len (λ (token : PlacedToken). is_sign OpenBracket token.token) tokens ≡ open_count tokens
@@ -83,6 +86,23 @@ module _ (count done : ℕ) (tokens rest : List PlacedToken) (closed : AreClosed
 -- what a reader of a list gives, behind these
 abbrev pub with_front : {A : Type 0} → List A → Read (List A) → Read (List A)
 with_front front read = next_on (λ others. pure (front ++ others)) read
+
+-- a category that is read is one item
+pub category_read : (tokens : List PlacedToken) (cat : CatName) (rest : List PlacedToken) → category_at tokens ≡ got cat rest
+    → category_item_at tokens ≡ got (Cat cat ∷ []) rest
+unfolding next_on
+category_read tokens cat rest read = rw read refl
+
+module _ (tokens : List PlacedToken) (token : PlacedToken) (rest : List PlacedToken) (split : tokens ≡ token ∷ rest) where
+  -- a string that comes first is its words
+  pub text_item : (text : List ℕ) → text_value token.token ≡ Some text → item_at tokens ≡ got (word_items text) rest
+  unfolding item_at
+  text_item text is = rw (split, is) refl
+
+  -- where no string comes first, a category does, or no item
+  pub other_item : text_value token.token ≡ None → item_at tokens ≡ category_item_at tokens
+  unfolding item_at
+  other_item none = rw (split, none) refl
 
 -- the tokens are these items, and then those that the rest is
 pub record AreReadItems (tokens : List PlacedToken) (items : List RawItem) (rest : List PlacedToken) : Type 0 where

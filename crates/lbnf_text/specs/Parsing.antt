@@ -1,5 +1,6 @@
 -- What a parser of tokens answers. Serves the proofs alone.
-use Rattle.std.specs.Prelude.{◌≡◌, ◌≢◌, ℕ, List, [], ◌∷◌, Bool, Option, Some, None, Result, Ok, Err}
+use Rattle.std.specs.Prelude.{◌≡◌, ◌≢◌, ℕ, List, [], ◌∷◌, ◌++◌, Bool}
+use Rattle.std.specs.Prelude.{Option, Some, None, Result, Ok, Err}
 use Rattle.std.specs.Borrow.{Bor}
 use Rattle.spec_lbnf.specs.declared.token.PlacedToken.{PlacedToken}
 use Rattle.lbnf_readers.specs.FileReading.{Read, Reader, got, stuck, long, next_on, pure}
@@ -25,6 +26,14 @@ stopped Long rest = long rest
 abbrev pub Gives : {A : Type 0} → Read A → Result A Stop → List PlacedToken → Type 0
 Gives read (Ok value) rest = read ≡ got value rest
 Gives read (Err stop) rest = stop ≢ Memory → read ≡ stopped stop rest
+
+-- what a reader gives was added to the list, with these tokens left, or this is its answer; want of
+-- memory is free
+abbrev pub AddsRead : {A B : Type 0} → Read (List A) → List A → List A → Result B Stop
+    → List PlacedToken → Type 0
+AddsRead {A} read old new (Ok done) rest =
+    (more : List A) × (read ≡ got more rest) × (new ≡ old ++ more)
+AddsRead read old new (Err stop) rest = stop ≢ Memory → read ≡ stopped stop rest
 
 -- the answer is the first of the tokens and those behind it, or that there is none
 abbrev pub IsFirstToken : List PlacedToken → Option (Bor PlacedToken × Bor (List PlacedToken))

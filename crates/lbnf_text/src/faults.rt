@@ -29,12 +29,10 @@ enum Start<'a> {
 fn identifier(token: &FileToken) -> Option<&Name>
     ensures { option_copied result ≡ identifier token.now }
 {
-    match token {
-        FileToken::Identifier(name) => Some(name),
-        FileToken::Number(_) => None,
-        FileToken::Text(_) => None,
-        FileToken::Character(_) => None,
-        FileToken::Sign(_) => None,
+    if let FileToken::Identifier(name) = token {
+        Some(name)
+    } else {
+        None
     }
 }
 

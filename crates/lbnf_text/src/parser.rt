@@ -183,12 +183,10 @@ fn sign_bytes(sign: Sign) -> &'static [u8]
 pub fn is_sign(sign: Sign, token: &FileToken) -> bool
     ensures { result ≡ is_sign sign token.now }
 {
-    match token {
-        FileToken::Sign(other) => sign_bytes(sign) == sign_bytes(*other),
-        FileToken::Identifier(_) => false,
-        FileToken::Number(_) => false,
-        FileToken::Text(_) => false,
-        FileToken::Character(_) => false,
+    if let FileToken::Sign(other) = token {
+        sign_bytes(sign) == sign_bytes(*other)
+    } else {
+        false
     }
 }
 
@@ -196,12 +194,10 @@ pub fn is_sign(sign: Sign, token: &FileToken) -> bool
 pub fn upper_name(token: &FileToken) -> Option<&Name>
     ensures { option_copied result ≡ upper_name token.now }
 {
-    match token {
-        FileToken::Identifier(name) => starts_upper(name.as_slice()).then_some(name),
-        FileToken::Number(_) => None,
-        FileToken::Text(_) => None,
-        FileToken::Character(_) => None,
-        FileToken::Sign(_) => None,
+    if let FileToken::Identifier(name) = token {
+        starts_upper(name.as_slice()).then_some(name)
+    } else {
+        None
     }
 }
 
@@ -209,12 +205,10 @@ pub fn upper_name(token: &FileToken) -> Option<&Name>
 pub fn text_value(token: &FileToken) -> Option<&Name>
     ensures { option_copied result ≡ text_value token.now }
 {
-    match token {
-        FileToken::Text(text) => Some(text),
-        FileToken::Identifier(_) => None,
-        FileToken::Number(_) => None,
-        FileToken::Character(_) => None,
-        FileToken::Sign(_) => None,
+    if let FileToken::Text(text) = token {
+        Some(text)
+    } else {
+        None
     }
 }
 
@@ -222,12 +216,10 @@ pub fn text_value(token: &FileToken) -> Option<&Name>
 fn number_value(token: &FileToken) -> Option<u16>
     ensures { result ≡ number_value token.now }
 {
-    match token {
-        FileToken::Number(number) => Some(*number),
-        FileToken::Identifier(_) => None,
-        FileToken::Text(_) => None,
-        FileToken::Character(_) => None,
-        FileToken::Sign(_) => None,
+    if let FileToken::Number(number) = token {
+        Some(*number)
+    } else {
+        None
     }
 }
 
@@ -235,11 +227,9 @@ fn number_value(token: &FileToken) -> Option<u16>
 pub fn is_word(word: &[u8], token: &FileToken) -> bool
     ensures { result ≡ is_word word.now token.now }
 {
-    match token {
-        FileToken::Identifier(name) => name.as_slice() == word,
-        FileToken::Number(_) => false,
-        FileToken::Text(_) => false,
-        FileToken::Character(_) => false,
-        FileToken::Sign(_) => false,
+    if let FileToken::Identifier(name) = token {
+        name.as_slice() == word
+    } else {
+        false
     }
 }

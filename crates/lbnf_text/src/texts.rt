@@ -1,5 +1,5 @@
 //! The words of strings.
-ghost use Rattle.std.specs.Prelude.{◌≡◌, map, not, IfOk};
+ghost use Rattle.std.specs.Prelude.{◌≡◌, ◌++◌, map, not, IfOk, OnOk};
 ghost use Rattle.spec_lbnf.specs.Words.{is_empty, words_in};
 ghost use Rattle.spec_lbnf.specs.Expansion.{word_items};
 ghost use Rattle.spec_lbnf.specs.declared.definition.RawItem.TheVariants.{Word};
@@ -32,15 +32,27 @@ pub fn word_item(alloc: Global, word: &str) -> Result<RawItem, AllocError>
     Ok(RawItem::Word(Name::of(bytes)))
 }
 
+/// Adds the words of a string to the items. Their bytes are copied.
+pub(crate) fn add_words(
+    alloc: Global,
+    items: &mut Items<RawItem>,
+    text: &Name,
+) -> Result<(), AllocError>
+    ensures { OnOk result (items.new ≡ items.old ++ word_items text.now) }
+{
+    let parts = word_parts(alloc, text.as_str())?;
+    for part in parts.iter() {
+        items.push(word_item(alloc, *part)?)?;
+    }
+    Ok(())
+}
+
 /// The words of a string, as items: it is cut at its spaces, and empty words vanish, as in a right
 /// side of the BNF Converter's notation. Their bytes are copied.
 pub fn words(alloc: Global, text: &Name) -> Result<Items<RawItem>, AllocError>
     ensures { IfOk result (λ items. items ≡ word_items text.now) }
 {
-    let parts = word_parts(alloc, text.as_str())?;
     let mut items = Items::new(alloc);
-    for part in parts.iter() {
-        items.push(word_item(alloc, *part)?)?;
-    }
+    add_words(alloc, &mut items, text)?;
     Ok(items)
 }

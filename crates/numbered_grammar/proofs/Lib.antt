@@ -1,4 +1,5 @@
 pub mod NameLemmas
+pub mod PlaceLemmas
 pub mod MakingLemmas
 pub mod NullableLemmas
 pub mod RuleImplicationLemmas

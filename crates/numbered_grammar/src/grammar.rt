@@ -1,13 +1,14 @@
 //! A grammar with numbers in place of names.
-ghost use Rattle.std.specs.Prelude.{◌≡◌, ◌<◌, ◌^◌, length, slice_get, Contains, Some, IfSome};
-ghost use Rattle.std.specs.Prelude.{MatchOption};
+ghost use Rattle.std.specs.Prelude.{◌≡◌, ◌<◌, ◌^◌, length, slice_get, Some, IfSome};
 ghost use Rattle.spec_grammar.specs.Cycles.{IsAcyclic, IsRank};
-ghost use Rattle.spec_grammar.specs.Grammars.{HasOwnSymbols, IsSymbolOf, item_count, name_number};
+ghost use Rattle.spec_grammar.specs.Grammars.{HasOwnSymbols, IsSymbolOf, item_count};
 ghost use Rattle.numbered_grammar.specs.Making.{FindsCategory};
 ghost use Rattle.numbered_grammar.specs.Nullable.{AreNullableFlags};
+ghost use Rattle.numbered_grammar.specs.Places.{ArePlacesOf};
 ghost use Rattle.numbered_grammar.specs.Ranks.{AreRanks};
 
 use crate::parts::GrammarParts;
+use indexmap::IndexMap;
 use spec_grammar::{Rule, Symbol};
 use spec_lexing::KindDef;
 use spec_text::Name;
@@ -20,12 +21,15 @@ pub struct Grammar {
     parts: GrammarParts,
     nullable: Vec<bool>,
     ranks: Vec<u16>,
+    /// For the text of each category, the first category that has it.
+    places: IndexMap<Vec<u8>, u16>,
 }
 
 impl Model for Grammar {
     ghost use Rattle.spec_grammar.specs.Cycles.{IsAcyclic};
     ghost use Rattle.spec_grammar.specs.Grammars.{Grammar};
     ghost use Rattle.numbered_grammar.specs.Nullable.{AreNullableFlags};
+    ghost use Rattle.numbered_grammar.specs.Places.{ArePlacesOf};
     ghost use Rattle.numbered_grammar.specs.Ranks.{AreRanks};
     ghost use Rattle.std.specs.Coded.{codes};
     ghost use Rattle.spec_lexing.specs.contracts.expression.Expr as expr;
@@ -38,20 +42,28 @@ impl Model for Grammar {
 
     ghost invariant = { λ g. IsAcyclic g.parts.rules
         × AreNullableFlags g.parts g.nullable.items
-        × AreRanks g.parts g.ranks.items };
+        × AreRanks g.parts g.ranks.items
+        × ArePlacesOf g.parts.categories g.places };
 }
 
 impl Grammar {
-    pub(crate) fn of(parts: GrammarParts, nullable: Vec<bool>, ranks: Vec<u16>) -> Grammar
+    pub(crate) fn of(
+        parts: GrammarParts,
+        nullable: Vec<bool>,
+        ranks: Vec<u16>,
+        places: IndexMap<Vec<u8>, u16>,
+    ) -> Grammar
         requires acyclic { IsAcyclic parts.rules }
         requires nullable { AreNullableFlags parts nullable.items }
         requires ranks { AreRanks parts ranks.items }
+        requires places { ArePlacesOf parts.categories places }
         ensures { result ≡ parts }
     {
         Grammar {
             parts,
             nullable,
             ranks,
+            places,
         }
     }
 
@@ -144,27 +156,13 @@ impl Grammar {
         &self.parts.kinds()[k as usize]
     }
 
-    /// The category of this text, which is the first where several have it. It compares the text
-    /// with each name in turn, up to the first that is the same, and takes no memory.
+    /// The category of this text, which is the first where several have it. It is one look-up,
+    /// whatever the category, and takes no memory.
     pub fn find(&self, text: &[u8]) -> Option<Symbol>
         ensures found { FindsCategory self.now.categories text.now result }
         ensures own { IfSome result (IsSymbolOf self.now) }
     {
-        let place = place_of(self.parts.categories(), text)?;
-        Some(Symbol::Category(place as u16))
+        let place = self.places.get(text)?;
+        Some(Symbol::Category(*place))
     }
-}
-
-/// The place of the first name that is this text.
-fn place_of(names: &[Name], text: &[u8]) -> Option<usize>
-    ensures { MatchOption result (Contains names.now text.now → ⊥)
-        (λ place. (place ≡ name_number names.now text.now)
-        × (slice_get names.now place ≡ Some text.now)) }
-{
-    for (place, name) in names.iter().enumerate() {
-        if name.as_slice() == text {
-            return Some(place);
-        }
-    }
-    None
 }

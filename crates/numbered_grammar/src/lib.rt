@@ -8,6 +8,7 @@ mod grammar;
 mod making;
 mod nullable;
 mod parts;
+mod places;
 mod stepping;
 
 pub use fault::CycleFault;

@@ -11,6 +11,7 @@ use crate::fault::CycleFault;
 use crate::grammar::Grammar;
 use crate::nullable::nullable_flags;
 use crate::parts::GrammarParts;
+use crate::places::places_of;
 use spec_grammar::{Rule, Symbol};
 use spec_lexing::KindDef;
 use spec_text::Name;
@@ -36,12 +37,7 @@ fn are_own(categories: &[Name], kinds: &[KindDef], items: &[Symbol]) -> bool
     ensures { IsTrue result ↔ All (IsSymbolOf
         (grammar_of_symbols categories.now kinds.now)) items.now }
 {
-    for item in items {
-        if !is_own(categories, kinds, *item) {
-            return false;
-        }
-    }
-    true
+    items.iter().all(|item| is_own(categories, kinds, *item))
 }
 
 fn has_own(categories: &[Name], kinds: &[KindDef], rule: &Rule) -> bool
@@ -120,22 +116,22 @@ impl Grammar {
     /// It looks at each item at most four times for the nullable categories and twice for the
     /// steps, and at each step at most three times for the ranks. Where some category reaches
     /// itself, it also searches from each category that leads to such a one, up to the first that
-    /// is one. Beside the flags and the ranks, which the grammar keeps, it takes memory for the
-    /// items of the rules without kinds, for the steps, and for a few numbers of each rule and each
-    /// category.
+    /// is one. The grammar keeps the flags, the ranks, and a copy of each category's text, by which
+    /// `find` looks it up. Beside these it takes memory for the items of the rules without kinds,
+    /// for the steps, and for a few numbers of each rule and each category.
     pub fn of_parts(alloc: Global, parts: GrammarParts) -> Result<Grammar, CycleFault>
         ensures { AcceptsParts parts result }
     {
-        let Ok(nullable) = nullable_flags(alloc, &parts) else {
-            return Err(CycleFault::Memory);
-        };
-        match check_cycles(alloc, &parts, nullable.as_slice()) {
-            Ok(CycleCheck::Ranked(ranks)) => Ok(Grammar::of(parts, nullable, ranks)),
-            Ok(CycleCheck::Cyclic(category)) => {
+        let nullable = nullable_flags(alloc, &parts)?;
+        match check_cycles(alloc, &parts, nullable.as_slice())? {
+            CycleCheck::Ranked(ranks) => {
+                let places = places_of(alloc, parts.categories())?;
+                Ok(Grammar::of(parts, nullable, ranks, places))
+            }
+            CycleCheck::Cyclic(category) => {
                 let name = parts.into_category(category);
                 Err(CycleFault::Cyclic { name })
             }
-            Err(_) => Err(CycleFault::Memory),
         }
     }
 

@@ -8,8 +8,9 @@ pub returns-in-Ok-add_all : goal.returns-in-Ok-add_all
 returns-in-Ok-add_all c =
     let defs = c.args.defs.now in
     let list = c.as_slice.result.now in
+    let names = c.as_slice-2.result.now in
     let are : list ≡ flat_map own_categories defs = search rules in
-    let items : c.in-Ok.list.items ≡ flat_map own_categories defs = search rules in
+    let items : names ≡ flat_map own_categories defs = search rules in
     let free : All IsFree list
     = subst (λ found. MatchOption found (All IsFree list) (λ name. IsFirstName IsPredefined list name.now)) c.in_default-first_predefined.is c.first_predefined.ensures in
-    (subst (All IsFree) are free, c.in-Ok-add_all.ensures ∙ ap (λ names. with_names names c.in-Ok.list.items) c.new-known.ensures ∙ ap (with_names []) items)
+    (subst (All IsFree) are free, c.in-Ok-add_all.ensures ∙ ap (λ known. with_names known names) c.new-known.ensures ∙ ap (with_names []) items)

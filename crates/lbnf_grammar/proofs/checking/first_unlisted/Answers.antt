@@ -5,7 +5,7 @@ use Rattle.lbnf_grammar.proofs.checking.first_unlisted.Goals as goal
 
 pub returns-then-not-has : goal.returns-then-not-has
 returns-then-not-has c =
-    let told = told_listed c.args.known.now c.name-item.result c.as_slice.result.now c.as_slice.ensures.bytes
+    let told = told_listed c.args.known.now c.name-item.result c.as_str.result.now c.as_str.ensures
     c.has.result false c.has.ensures c.if-not-has.true in
     first_bad (IsUnlisted c.args.known.now) (IsListed c.args.known.now) c.args.names.now
     c.loop-name.name-index c.name-item.result c.loop-name-test.true c.name-item.is c.loop-name.invariant (λ other listed unlisted. unlisted listed)
@@ -13,7 +13,7 @@ returns-then-not-has c =
 
 pub loop-name-preserved : goal.loop-name-preserved
 loop-name-preserved c =
-    let told = told_listed c.args.known.now c.name-item.result c.as_slice.result.now c.as_slice.ensures.bytes
+    let told = told_listed c.args.known.now c.name-item.result c.as_str.result.now c.as_str.ensures
     c.has.result true c.has.ensures c.if-not-has.false in
     more_good (IsUnlisted c.args.known.now) (IsListed c.args.known.now) c.args.names.now
     c.loop-name.name-index c.name-item.result c.loop-name-test.true c.name-item.is c.loop-name.invariant

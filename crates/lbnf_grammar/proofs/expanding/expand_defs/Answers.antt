@@ -1,14 +1,14 @@
-use Rattle.std.proofs.lemmas.Result.{err_from_is_err_and}
-use Rattle.lbnf_grammar.proofs.FaultLemmas.{unknown_told, expands}
+use Rattle.std.proofs.Common.{subst, sym, ◌∙◌}
+use Rattle.spec_lbnf.specs.Limits.{AreFewAndSmall}
+use Rattle.lbnf_grammar.specs.Grammars.{PassFirstChecks, Expands}
 use Rattle.lbnf_grammar.proofs.expanding.expand_defs.Goals as goal
 
-pub returns : goal.returns
-returns c =
-    expands c.args.defs.now c.in_ok-check_labels.ensures c.in_ok-check_count.ensures c.in_ok-known.ensures.0
-    c.in_ok-check_named.ensures c.in-Ok.parts c.in-Ok.ensures c.acyclic.result c.acyclic.ensures
+pub expand_by-requires-clause-limits : goal.expand_by-requires-clause-limits
+expand_by-requires-clause-limits c = subst AreFewAndSmall (sym (c.as_slice.ensures.value ∙ c.in-Ok.ensures)) c.requires
 
-pub returns-in_err-check_named : goal.returns-in_err-check_named
-returns-in_err-check_named c =
-    let p = err_from_is_err_and c.from_residual-in_err-check_named.result c.from_residual-in_err-check_named.ensures.1 in
-    rw (p.1, p.2) (unknown_told c.args.defs.now c.in_ok-check_labels.ensures c.in_ok-check_count.ensures c.in_ok-known.ensures.0
-    c.in_err-check_named.field-0.0 c.in_err-check_named.ensures)
+pub expand_by-requires-clause-first : goal.expand_by-requires-clause-first
+expand_by-requires-clause-first c =
+    subst PassFirstChecks (sym (c.as_slice.ensures.value ∙ c.in-Ok.ensures)) (c.in_ok-check_labels.ensures, c.in_ok-check_count.ensures)
+
+pub returns : goal.returns
+returns c = subst (λ defs. Expands defs c.expand_by.result) (c.as_slice.ensures.value ∙ c.in-Ok.ensures) c.expand_by.ensures

@@ -8,6 +8,7 @@ use Rattle.spec_lbnf.proofs.EntryLemmas.{own_entry}
 use Rattle.numbered_grammar.specs.Making.{grammar_of_parts}
 use Rattle.lbnf_grammar.proofs.TableLemmas.{expansion_is}
 use Rattle.lbnf_grammar.proofs.expanding.parts_by.Goals as goal
+use Rattle.lbnf_grammar.proofs.expanding.parts_by.Goals.{In_ok-kinds}
 
 pub numbered_rules-requires-clause-categories : goal.numbered_rules-requires-clause-categories
 numbered_rules-requires-clause-categories c = rw c.requires.categories c.requires.few.categories
@@ -16,14 +17,14 @@ pub numbered_rules-requires-clause-words : goal.numbered_rules-requires-clause-w
 numbered_rules-requires-clause-words c = rw c.requires.words c.requires.few.words
 
 -- the parts are those of the grammar that the definitions stand for
-parts_are : (c : goal.After-into_list-2) → grammar_of_parts c.in_ok-rules.rules.items c.into_list-2.result.items c.in_ok-kinds.kinds.items c.in_ok-entry.entry ≡ expansion_of c.args.defs.now
+parts_are : (c : In_ok-kinds) → grammar_of_parts c.in_ok-rules.rules.items c.in_ok-categories.categories.items c.in_ok-kinds.kinds.items c.in_ok-entry.entry ≡ expansion_of c.args.defs.now
 parts_are c =
     let tables = c.args.tables in
     let numbered : c.in_ok-rules.rules.items ≡ map (numbered_rule tables.categories tables.words) (rules_of c.args.defs.now) = search rules in
-    let listed : c.into_list-2.result.items ≡ tables.categories = search rules in
+    let listed : c.in_ok-categories.categories.items ≡ tables.categories = search rules in
     let told : c.in_ok-kinds.kinds.items ≡ map WordKind tables.words = search rules in
     let first : c.in_ok-entry.entry ≡ option_map (category_symbol tables.categories) (entry_text c.args.defs.now) = search rules in
-    expansion_is c.args.defs.now tables c.in_ok-rules.rules.items c.into_list-2.result.items c.in_ok-kinds.kinds.items c.in_ok-entry.entry
+    expansion_is c.args.defs.now tables c.in_ok-rules.rules.items c.in_ok-categories.categories.items c.in_ok-kinds.kinds.items c.in_ok-entry.entry
     c.requires.categories c.requires.words numbered listed told first
 
 pub of-requires-clause-own_symbols : goal.of-requires-clause-own_symbols

@@ -1,18 +1,33 @@
-use Rattle.std.proofs.Common.{◌≡◌, [], fold, ap, ◌∙◌}
+use Rattle.std.proofs.Common.{◌≡◌, [], Some, fold, take, slice_get, refl, ap, sym, ◌∙◌}
 use Rattle.std.proofs.lemmas.List.{take_all}
+use Rattle.std.proofs.lemmas.List.Sums.{fold-append}
+use Rattle.std.proofs.lemmas.Option.{slice_get_read}
+use Rattle.spec_lbnf.specs.Expansion.{rules_of, rules_of_def}
 use Rattle.lbnf_grammar.specs.declared.tables.Tables.{Tables}
 use Rattle.lbnf_grammar.specs.Tables.{with_rule}
+use Rattle.lbnf_grammar.proofs.RuleLemmas.{rules_more}
 use Rattle.lbnf_grammar.proofs.TableLemmas.{tables_categories, tables_words}
 use Rattle.lbnf_grammar.proofs.tables.rule_tables.Goals as goal
 
--- the loop has gone over all rules
-all_taken : (c : goal.After-loop-rule) → (let start : Tables = record { categories = []; words = [] } in c.loop-rule.tables ≡ fold with_rule start c.args.rules.now)
+pub loop-def-preserved : goal.loop-def-preserved
+loop-def-preserved c =
+    let start : Tables = record { categories = []; words = [] } in
+    let defs = c.args.defs.now in
+    let def = c.def-item.result in
+    let at : slice_get defs c.loop-def.def-index ≡ Some def = slice_get_read defs _ c.loop-def.def-index def refl c.loop-def-test.true c.def-item.is in
+    c.in_ok-add_rules.ensures ∙ ap (fold with_rule c.loop-def.tables) c.rules.ensures
+    ∙ ap (λ tables. fold with_rule tables (rules_of_def def)) c.loop-def.invariant
+    ∙ sym (fold-append with_rule start (rules_of (take c.loop-def.def-index defs)) (rules_of_def def))
+    ∙ ap (fold with_rule start) (sym (rules_more defs c.loop-def.def-index def at))
+
+-- the loop has gone over all definitions
+all_taken : (c : goal.After-loop-def) → (let start : Tables = record { categories = []; words = [] } in c.loop-def.tables ≡ fold with_rule start (rules_of c.args.defs.now))
 all_taken c =
     let start : Tables = record { categories = []; words = [] } in
-    c.loop-rule.invariant ∙ ap (fold with_rule start) (take_all c.loop-rule.rule-index c.args.rules.now c.loop-rule-test.false)
+    c.loop-def.invariant ∙ ap (λ defs. fold with_rule start (rules_of defs)) (take_all c.loop-def.def-index c.args.defs.now c.loop-def-test.false)
 
 pub returns-clause-categories : goal.returns-clause-categories
-returns-clause-categories c = ap (λ (tables : Tables). tables.categories) (all_taken c) ∙ tables_categories c.args.rules.now
+returns-clause-categories c = ap (λ (tables : Tables). tables.categories) (all_taken c) ∙ tables_categories (rules_of c.args.defs.now)
 
 pub returns-clause-words : goal.returns-clause-words
-returns-clause-words c = ap (λ (tables : Tables). tables.words) (all_taken c) ∙ tables_words c.args.rules.now
+returns-clause-words c = ap (λ (tables : Tables). tables.words) (all_taken c) ∙ tables_words (rules_of c.args.defs.now)

@@ -1,6 +1,6 @@
 use Rattle.std.proofs.Common.{◌≡◌, [], take}
 use Rattle.std.specs.List.{flat_map}
-use Rattle.spec_lbnf.specs.Expansion.{met_categories, internal_category, words_of}
+use Rattle.spec_lbnf.specs.Expansion.{met_categories, internal_category, rules_of, words_of}
 use Rattle.lbnf_grammar.specs.Numbering.{with_names}
 use Rattle.lbnf_grammar.proofs.tables.tables_of.Given as goal
 
@@ -8,6 +8,6 @@ use Rattle.lbnf_grammar.proofs.tables.tables_of.Given as goal
 abbrev pub invariant-loop-def : goal.invariant-loop-def
 invariant-loop-def l = record {
   categories : l.tables.categories
-      ≡ with_names (with_names [] (flat_map met_categories l.rules)) (flat_map internal_category (take l.def-index l.defs));
-  words : l.tables.words ≡ words_of l.rules;
+      ≡ with_names (with_names [] (flat_map met_categories (rules_of l.defs))) (flat_map internal_category (take l.def-index l.defs));
+  words : l.tables.words ≡ words_of (rules_of l.defs);
 }

@@ -15,7 +15,8 @@ returns-in_err-item c =
 pub items-preserved : goal.items-preserved
 items-preserved c =
     let left : 0 < length c.items.self = some_left c.items.self c.items-test.ensures.1 in
-    rw c.in_ok-append.ensures (more_items c.args.self.now c.items.items c.items.self c.items.invariant left c.in_ok-item.field-0 c.item.new.self c.in_ok-item.ensures.read c.in_ok-item.ensures.shorter)
+    let added = c.in_ok-item.ensures.read in
+    rw added.2 (more_items c.args.self.now c.items.items c.items.self c.items.invariant left added.0 c.item.new.self added.1 c.in_ok-item.ensures.shorter)
 
 pub returns : goal.returns
 returns c =

@@ -3,7 +3,7 @@ use Rattle.std.specs.Str.{IsUtf8}
 use Rattle.std.proofs.lemmas.Grind.{common_steps}
 use Rattle.spec_lbnf.specs.Expansion.{category_text}
 use Rattle.lbnf_grammar.proofs.TextLemmas.{category_utf8}
-use Rattle.lbnf_grammar.proofs.texts.category_text.Goals as goal
+use Rattle.lbnf_grammar.proofs.texts.bracketed.Goals as goal
 
 pub of-requires : goal.of-requires
 of-requires c =

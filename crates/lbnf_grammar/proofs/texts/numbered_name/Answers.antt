@@ -1,7 +1,0 @@
-use Rattle.std.proofs.Common.{ap, sym, subst}
-use Rattle.std.specs.Str.{IsUtf8}
-use Rattle.std.proofs.lemmas.Str.{IsUtf8-string_bytes}
-use Rattle.lbnf_grammar.proofs.texts.numbered_name.Goals as goal
-
-pub of-requires : goal.of-requires
-of-requires c = subst IsUtf8 (sym (ap (λ v. v.items) c.into_bytes.ensures.value)) (IsUtf8-string_bytes c.in_ok-text.text)

@@ -1,7 +1,0 @@
-use Rattle.std.proofs.Common.{◌≡◌, map, take}
-use Rattle.spec_lbnf.specs.declared.definition.RawItem.TheVariants.{Word}
-use Rattle.lbnf_text.proofs.texts.words.Given as goal
-
--- the items are the parts so far
-abbrev pub invariant-loop-part : goal.invariant-loop-part
-invariant-loop-part l = l.items ≡ map (λ p. Word p.now) (take l.part-index l.part-items)
