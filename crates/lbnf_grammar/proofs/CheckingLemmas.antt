@@ -17,7 +17,7 @@ use Rattle.spec_lbnf.specs.declared.definition.Def.{Def}
 use Rattle.spec_lbnf.specs.Expansion.{category_text, item_categories}
 use Rattle.spec_lbnf.specs.Checks.{own_categories, named_categories, IsFirstName, IsKnown, IsUnknown, NamesKnown, IsFirstUnknown}
 use Rattle.spec_lbnf.proofs.FirstLemmas.{none_at}
-use Rattle.lbnf_grammar.specs.Numbering.{with_name, with_names}
+use Rattle.lbnf_grammar.specs.Numbering.{with_new_name, with_new_names}
 use Rattle.lbnf_grammar.specs.Checking.{IsListed, IsUnlisted}
 use Rattle.lbnf_grammar.proofs.NameLemmas.{with_name_there, with_name_new}
 use Rattle.lbnf_grammar.proofs.LabelLemmas.{take_next, more_hold}
@@ -36,7 +36,7 @@ item_categories_more items i item at = ap item_categories (take_next items i ite
 
 -- a name is listed after another is added if it was, or is the other
 any_with_name : (x : List ℕ) (names : List (List ℕ)) (y : List ℕ)
-    → list_any (bytes_eq x) (with_name names y) ≡ (list_any (bytes_eq x) names || bytes_eq x y)
+    → list_any (bytes_eq x) (with_new_name names y) ≡ (list_any (bytes_eq x) names || bytes_eq x y)
 any_with_name x names y = elim (cases_Bool (list_any (bytes_eq y) names)) [
   | inl there ↦ rw (with_name_there names y there) (elim (cases_Bool (bytes_eq x y)) [
     | inl e ↦
@@ -48,11 +48,11 @@ any_with_name x names y = elim (cases_Bool (list_any (bytes_eq y) names)) [
 ]
 
 -- a name is listed after others are added if it was, or is one of them
-any_with_names : (x : List ℕ) (names others : List (List ℕ))
-    → list_any (bytes_eq x) (with_names names others) ≡ (list_any (bytes_eq x) names || list_any (bytes_eq x) others)
-any_with_names x names [] = sym (or-false (list_any (bytes_eq x) names))
-any_with_names x names (y ∷ others) =
-    any_with_names x (with_name names y) others ∙ rw (any_with_name x names y) (or_assoc (list_any (bytes_eq x) names) (bytes_eq x y) (list_any (bytes_eq x) others))
+any_with_new_names : (x : List ℕ) (names others : List (List ℕ))
+    → list_any (bytes_eq x) (with_new_names names others) ≡ (list_any (bytes_eq x) names || list_any (bytes_eq x) others)
+any_with_new_names x names [] = sym (or-false (list_any (bytes_eq x) names))
+any_with_new_names x names (y ∷ others) =
+    any_with_new_names x (with_new_name names y) others ∙ rw (any_with_name x names y) (or_assoc (list_any (bytes_eq x) names) (bytes_eq x y) (list_any (bytes_eq x) others))
 
 -- names are looked at in turn, up to this one; those before it are good
 module _ (IsBad IsGood : List ℕ → Type 0) (names : List (List ℕ)) (i : ℕ) (name : List ℕ)
@@ -102,10 +102,10 @@ told_of_there table name there = list_any-from_Contains nat_list_eq_equiv name t
 pub told_absent : (table : List (List ℕ)) (name : List ℕ) → list_any (bytes_eq name) table ≡ false → Contains table name → ⊥
 told_absent table name h there = both_ways (list_any (bytes_eq name) table) h (told_of_there table name there)
 
-module _ (defs : List Def) (known : List (List ℕ)) (are : known ≡ with_names [] (flat_map own_categories defs)) where
+module _ (defs : List Def) (known : List (List ℕ)) (are : known ≡ with_new_names [] (flat_map own_categories defs)) where
   -- a name is listed where definitions give rules for it
   listed_is : (x : List ℕ) → list_any (bytes_eq x) known ≡ list_any (bytes_eq x) (flat_map own_categories defs)
-  listed_is x = ap (list_any (bytes_eq x)) are ∙ any_with_names x [] (flat_map own_categories defs)
+  listed_is x = ap (list_any (bytes_eq x)) are ∙ any_with_new_names x [] (flat_map own_categories defs)
 
   -- what is listed is known
   listed_known : (x : List ℕ) → IsListed known x → IsKnown defs x

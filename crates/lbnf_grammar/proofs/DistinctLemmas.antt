@@ -8,7 +8,7 @@ use Rattle.std.proofs.lemmas.List.Elements.{filter_agree}
 use Rattle.std.proofs.lemmas.List.Folds.{list_any-append}
 use Rattle.std.proofs.lemmas.Slice.Eq.{bytes_eq-Decides}
 use Rattle.spec_lbnf.specs.Expansion.{distinct}
-use Rattle.lbnf_grammar.specs.Numbering.{with_name, with_names}
+use Rattle.lbnf_grammar.specs.Numbering.{with_new_name, with_new_names}
 use Rattle.lbnf_grammar.proofs.NameLemmas.{with_name_there, with_name_new}
 
 -- a filter of a filter keeps what passes both
@@ -56,33 +56,33 @@ new_more names x y = rw (list_any-append (bytes_eq y) names (x ∷ []), nat_list
     by false false = refl
 
 -- what is added to names is what is new, without repetitions
-with_names_distinct : (names xs : List (List ℕ))
-    → with_names names xs ≡ names ++ filter (is_new names) (distinct xs)
-with_names_distinct names [] = sym (append-nil names)
-with_names_distinct names (x ∷ xs) = elim (cases_Bool (list_any (bytes_eq x) names)) [
+with_new_names_distinct : (names xs : List (List ℕ))
+    → with_new_names names xs ≡ names ++ filter (is_new names) (distinct xs)
+with_new_names_distinct names [] = sym (append-nil names)
+with_new_names_distinct names (x ∷ xs) = elim (cases_Bool (list_any (bytes_eq x) names)) [
   | inl there ↦
       let both : filter (is_new names) (filter (is_other x) (distinct xs)) ≡ filter (is_new names) (distinct xs)
       = filter_filter (is_new names) (is_other x) (distinct xs) ∙ filter_agree (λ y. is_other x y && is_new names y) (is_new names) (λ y. new_there names x y there) (distinct xs) in
-      rw (with_name_there names x there, there, both) (with_names_distinct names xs)
+      rw (with_name_there names x there, there, both) (with_new_names_distinct names xs)
   | inr absent ↦
       let more : List (List ℕ) = names ++ x ∷ [] in
       let both : filter (is_new names) (filter (is_other x) (distinct xs)) ≡ filter (is_new more) (distinct xs)
       = filter_filter (is_new names) (is_other x) (distinct xs) ∙ filter_agree (λ y. is_other x y && is_new names y) (is_new more) (λ y. new_more names x y) (distinct xs) in
-      rw (with_name_new names x absent, absent, both) (with_names_distinct more xs ∙ append_assoc names (x ∷ []) (filter (is_new more) (distinct xs)))
+      rw (with_name_new names x absent, absent, both) (with_new_names_distinct more xs ∙ append_assoc names (x ∷ []) (filter (is_new more) (distinct xs)))
 ]
 
 -- names that are added one by one to none
-pub names_distinct : (xs : List (List ℕ)) → with_names [] xs ≡ distinct xs
-names_distinct xs = with_names_distinct [] xs ∙ filter_all (distinct xs)
+pub names_distinct : (xs : List (List ℕ)) → with_new_names [] xs ≡ distinct xs
+names_distinct xs = with_new_names_distinct [] xs ∙ filter_all (distinct xs)
 
 -- a name adds one at most
-with_name_length : (names : List (List ℕ)) (x : List ℕ) → length (with_name names x) ≤ length names + 1
+with_name_length : (names : List (List ℕ)) (x : List ℕ) → length (with_new_name names x) ≤ length names + 1
 with_name_length names x = elim (cases_Bool (list_any (bytes_eq x) names)) [
   | inl e ↦ rw (with_name_there names x e) (omega arith)
   | inr e ↦ rw (with_name_new names x e, length-append names (x ∷ [])) (omega arith)
 ]
 
 -- names add as many as they are, at most
-pub with_names_length : (names xs : List (List ℕ)) → length (with_names names xs) ≤ length names + length xs
-with_names_length names [] = omega arith
-with_names_length names (x ∷ xs) = omega (arith, with_names_length (with_name names x) xs, with_name_length names x)
+pub with_new_names_length : (names xs : List (List ℕ)) → length (with_new_names names xs) ≤ length names + length xs
+with_new_names_length names [] = omega arith
+with_new_names_length names (x ∷ xs) = omega (arith, with_new_names_length (with_new_name names x) xs, with_name_length names x)

@@ -6,7 +6,7 @@ use Rattle.std.specs.Option.{unwrap_or}
 use Rattle.std.specs.Str.{bytes_eq}
 use Rattle.std.proofs.lemmas.Bool.{cases_Bool, cond-true, cond-false, ltb-false}
 use Rattle.std.proofs.lemmas.List.Sums.{prefix_len-le-length}
-use Rattle.lbnf_grammar.specs.Numbering.{with_name}
+use Rattle.lbnf_grammar.specs.Numbering.{with_new_name}
 
 module _ {A B : Type 0} (p : B → Bool) (f : A → B) where
   -- some image passes where some item's image does
@@ -32,12 +32,12 @@ place_or_len p xs = by (position_or_len p xs) (prefix_len-le-length (λ x. not (
 
 -- a name that is there changes nothing
 pub with_name_there : (names : List (List ℕ)) (name : List ℕ) → list_any (bytes_eq name) names ≡ true
-    → with_name names name ≡ names
+    → with_new_name names name ≡ names
 with_name_there names name e = cond-true (list_any (bytes_eq name) names) names (names ++ name ∷ []) e
 
 -- a new name goes last
 pub with_name_new : (names : List (List ℕ)) (name : List ℕ) → list_any (bytes_eq name) names ≡ false
-    → with_name names name ≡ names ++ name ∷ []
+    → with_new_name names name ≡ names ++ name ∷ []
 with_name_new names name e = cond-false (list_any (bytes_eq name) names) names (names ++ name ∷ []) e
 
 -- the keys of names, each with its bytes
@@ -65,7 +65,7 @@ module _ {K : Type 0} (bytes : K → List ℕ) (keys : List K) (names : List (Li
   -- after a new key is inserted, the keys are those of the names with the new name
   pub keys_added : (key : K) (more : List K) → bytes key ≡ name → list_any (bytes_eq name) names ≡ false
       → more ≡ cond (list_any (λ other. bytes_eq (bytes key) (bytes other)) keys) keys (keys ++ key ∷ [])
-      → map bytes more ≡ with_name names name
+      → map bytes more ≡ with_new_name names name
   keys_added key more is new inserted =
       let absent : list_any (λ other. bytes_eq (bytes key) (bytes other)) keys ≡ false
       = ap (λ b. list_any (λ other. bytes_eq b (bytes other)) keys) is ∙ has_key ∙ new in

@@ -15,7 +15,7 @@ use Rattle.spec_lbnf.specs.Expansion.{category_text, rules_of, item_categories, 
 use Rattle.spec_grammar.specs.Grammars.{category_symbol}
 use Rattle.lbnf_grammar.specs.declared.tables.Tables.{Tables}
 use Rattle.numbered_grammar.specs.Making.{grammar_of_parts}
-use Rattle.lbnf_grammar.specs.Numbering.{with_name, with_names}
+use Rattle.lbnf_grammar.specs.Numbering.{with_new_name, with_new_names}
 use Rattle.lbnf_grammar.specs.Tables.{with_item, with_rule}
 use Rattle.lbnf_grammar.proofs.DistinctLemmas.{names_distinct}
 
@@ -29,41 +29,41 @@ empty_tables = record { categories = []; words = [] }
 
 -- the items' categories are added in order
 items_categories : (tables : Tables) (items : List RawItem)
-    → (fold with_item tables items).categories ≡ with_names tables.categories (item_categories items)
+    → (fold with_item tables items).categories ≡ with_new_names tables.categories (item_categories items)
 items_categories tables [] = refl
 items_categories tables (Cat cat ∷ items) = items_categories (with_item tables (Cat cat)) items
 items_categories tables (Word word ∷ items) = items_categories (with_item tables (Word word)) items
 
 -- the items' words are added in order
 items_words : (tables : Tables) (items : List RawItem)
-    → (fold with_item tables items).words ≡ with_names tables.words (item_words items)
+    → (fold with_item tables items).words ≡ with_new_names tables.words (item_words items)
 items_words tables [] = refl
 items_words tables (Cat cat ∷ items) = items_words (with_item tables (Cat cat)) items
 items_words tables (Word word ∷ items) = items_words (with_item tables (Word word)) items
 
 -- the rules' categories are added in order
 rules_categories : (tables : Tables) (rules : List RawRule)
-    → (fold with_rule tables rules).categories ≡ with_names tables.categories (flat_map met_categories rules)
+    → (fold with_rule tables rules).categories ≡ with_new_names tables.categories (flat_map met_categories rules)
 rules_categories tables [] = refl
 rules_categories tables (rule ∷ rules) =
-    let start : Tables = record { categories = with_name tables.categories (category_text rule.cat); words = tables.words } in
+    let start : Tables = record { categories = with_new_name tables.categories (category_text rule.cat); words = tables.words } in
     rules_categories (with_rule tables rule) rules
-    ∙ ap (λ names. with_names names (flat_map met_categories rules)) (items_categories start rule.items)
-    ∙ sym (fold-append with_name tables.categories (met_categories rule) (flat_map met_categories rules))
+    ∙ ap (λ names. with_new_names names (flat_map met_categories rules)) (items_categories start rule.items)
+    ∙ sym (fold-append with_new_name tables.categories (met_categories rule) (flat_map met_categories rules))
 
 -- the rules' words are added in order
 rules_words : (tables : Tables) (rules : List RawRule)
-    → (fold with_rule tables rules).words ≡ with_names tables.words (word_texts rules)
+    → (fold with_rule tables rules).words ≡ with_new_names tables.words (word_texts rules)
 rules_words tables [] = refl
 rules_words tables (rule ∷ rules) =
-    let start : Tables = record { categories = with_name tables.categories (category_text rule.cat); words = tables.words } in
+    let start : Tables = record { categories = with_new_name tables.categories (category_text rule.cat); words = tables.words } in
     rules_words (with_rule tables rule) rules
-    ∙ ap (λ names. with_names names (word_texts rules)) (items_words start rule.items)
-    ∙ sym (fold-append with_name tables.words (item_words rule.items) (word_texts rules))
+    ∙ ap (λ names. with_new_names names (word_texts rules)) (items_words start rule.items)
+    ∙ sym (fold-append with_new_name tables.words (item_words rule.items) (word_texts rules))
 
 -- the tables' categories are those that the rules meet
 pub tables_categories : (rules : List RawRule)
-    → (fold with_rule empty_tables rules).categories ≡ with_names [] (flat_map met_categories rules)
+    → (fold with_rule empty_tables rules).categories ≡ with_new_names [] (flat_map met_categories rules)
 tables_categories rules = rules_categories empty_tables rules
 
 -- the tables' words are those of the rules
@@ -72,10 +72,10 @@ tables_words rules = rules_words empty_tables rules ∙ names_distinct (word_tex
 
 -- internal categories that are added to those that rules meet are the categories of a grammar
 pub internal_behind : (rules : List RawRule) (defs : List Def)
-    → with_names (with_names [] (flat_map met_categories rules)) (flat_map internal_category defs)
+    → with_new_names (with_new_names [] (flat_map met_categories rules)) (flat_map internal_category defs)
     ≡ distinct (flat_map met_categories rules ++ flat_map internal_category defs)
 internal_behind rules defs =
-    sym (fold-append with_name [] (flat_map met_categories rules) (flat_map internal_category defs))
+    sym (fold-append with_new_name [] (flat_map met_categories rules) (flat_map internal_category defs))
     ∙ names_distinct (flat_map met_categories rules ++ flat_map internal_category defs)
 
 -- what is numbered by the tables of the definitions is the grammar that they stand for

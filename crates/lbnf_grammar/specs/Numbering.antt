@@ -6,12 +6,12 @@ use Rattle.spec_lbnf.specs.Expansion.{rules_of, categories_of, words_of, numbere
 use Rattle.spec_grammar.specs.Grammars.{item_count}
 
 -- the names, and this one behind them, if it is none of them
-abbrev pub with_name : List (List ℕ) → List ℕ → List (List ℕ)
-with_name names name = cond (list_any (bytes_eq name) names) names (names ++ name ∷ [])
+abbrev pub with_new_name : List (List ℕ) → List ℕ → List (List ℕ)
+with_new_name names name = cond (list_any (bytes_eq name) names) names (names ++ name ∷ [])
 
 -- the names, and those of the others that are new
-abbrev pub with_names : List (List ℕ) → List (List ℕ) → List (List ℕ)
-with_names names others = fold with_name names others
+abbrev pub with_new_names : List (List ℕ) → List (List ℕ) → List (List ℕ)
+with_new_names names others = fold with_new_name names others
 
 -- rules, categories and words can be numbered
 pub record AreFew (defs : List Def) : Type 0 where

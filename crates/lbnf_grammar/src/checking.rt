@@ -7,7 +7,7 @@ ghost use Rattle.spec_lbnf.specs.Checks.{own_categories, IsFirstName, IsPredefin
 ghost use Rattle.spec_lbnf.specs.Checks.{unknown_fault, HasOwnNames};
 ghost use Rattle.spec_lbnf.specs.Checks.{AtOwnName, AreAllKnown, AtUnknown};
 ghost use Rattle.lbnf_grammar.specs.Grammars.{IsSuchOrMemory};
-ghost use Rattle.lbnf_grammar.specs.Numbering.{with_names};
+ghost use Rattle.lbnf_grammar.specs.Numbering.{with_new_names};
 ghost use Rattle.lbnf_grammar.specs.Checking.{Checks, IsListed, IsUnlisted};
 
 use crate::expanded_def::ExpandedDef;
@@ -56,7 +56,8 @@ pub(crate) fn check_own_names(
     defs: &[ExpandedDef<'_>],
 ) -> Result<Names, GrammarFault>
     ensures { Checks
-        (λ known. HasOwnNames defs.now × (known ≡ with_names [] (flat_map own_categories defs.now)))
+        (λ known. HasOwnNames defs.now
+        × (known ≡ with_new_names [] (flat_map own_categories defs.now)))
         (AtOwnName defs.now) result }
 {
     let Ok(list) = all_own_categories(alloc, defs) else {
@@ -108,7 +109,7 @@ pub(crate) fn check_named(
     known: &Names,
 ) -> Result<(), GrammarFault>
     requires few { size_of defs.now ≤ 32768 }
-    requires listed { known.now ≡ with_names [] (flat_map own_categories defs.now) }
+    requires listed { known.now ≡ with_new_names [] (flat_map own_categories defs.now) }
     ensures { Checks (λ done. AreAllKnown defs.now) (AtUnknown defs.now) result }
 {
     for (number, def) in defs.iter().enumerate() {

@@ -2,7 +2,7 @@
 ghost use Rattle.std.specs.Prelude.{◌≡◌, [], ◌≤◌, length, OnOk, IfOk, bytes_eq};
 ghost use Rattle.std.specs.List.{list_any};
 ghost use Rattle.spec_grammar.specs.Grammars.{name_number};
-ghost use Rattle.lbnf_grammar.specs.Numbering.{with_name, with_names};
+ghost use Rattle.lbnf_grammar.specs.Numbering.{with_new_name, with_new_names};
 
 use crate::texts::{CategoryText, name_of};
 use indexmap::IndexSet;
@@ -51,7 +51,7 @@ impl Names {
 
     /// Adds the name, if it is new, and then copies its bytes.
     pub(crate) fn add(&mut self, alloc: Global, name: &str) -> Result<(), AllocError>
-        ensures { OnOk result (self.new ≡ with_name self.old name.now) }
+        ensures { OnOk result (self.new ≡ with_new_name self.old name.now) }
     {
         if self.set.contains(name) {
             return Ok(());
@@ -67,7 +67,7 @@ impl Names {
         alloc: Global,
         names: &[CategoryText<'_>],
     ) -> Result<(), AllocError>
-        ensures { OnOk result (self.new ≡ with_names self.old names.now) }
+        ensures { OnOk result (self.new ≡ with_new_names self.old names.now) }
     {
         for name in names {
             self.add(alloc, name.as_str())?;

@@ -3,7 +3,7 @@ ghost use Rattle.std.specs.Prelude.{◌≡◌, [], fold, flat_map, IfOk, OnOk};
 ghost use Rattle.spec_lbnf.specs.declared.definition.RawItem.TheVariants.{Cat};
 ghost use Rattle.spec_lbnf.specs.Expansion.{met_categories, rules_of, categories_of, words_of};
 ghost use Rattle.lbnf_grammar.specs.Tables.{with_item, with_rule, with_internal};
-ghost use Rattle.lbnf_grammar.specs.Numbering.{with_names};
+ghost use Rattle.lbnf_grammar.specs.Numbering.{with_new_names};
 
 use crate::expanded_def::ExpandedDef;
 use crate::names::Names;
@@ -68,7 +68,7 @@ impl Tables {
 /// The tables of what the rules of the definitions meet.
 fn rule_tables(alloc: Global, defs: &[ExpandedDef<'_>]) -> Result<Tables, AllocError>
     ensures categories { IfOk result (λ tables.
-        tables.categories ≡ with_names [] (flat_map met_categories (rules_of defs.now))) }
+        tables.categories ≡ with_new_names [] (flat_map met_categories (rules_of defs.now))) }
     ensures words { IfOk result (λ tables. tables.words ≡ words_of (rules_of defs.now)) }
 {
     let mut tables = Tables {
