@@ -15,7 +15,8 @@ use Rattle.valiant.specs.Charts.{ChartValue}
 use Rattle.spec_script.specs.Script.{Constituent}
 use Rattle.spec_script.specs.declared.question.Constituent.TheVariants.{EntryWhole, CategoryWhole, CategorySpan}
 use Rattle.spec_session.specs.Answers.{IsOfCategory, first_of, end_of, IsWithin, IsHasAnswer, yes_line, no_line, yes, no}
-use Rattle.chart_service.specs.Opening.{HasNamesAndWords, IsOpened}
+use Rattle.chart_service.specs.Languages.{HasNamesAndWords}
+use Rattle.chart_service.specs.Sessions.{IsOpened}
 
 module _ (g : Grammar) (chart : ChartValue) (text : List ℕ) (tokens : List Token)
     (o : IsOpened g chart text tokens) (category : ℕ) (own : category < length g.categories)
@@ -98,7 +99,7 @@ module _ (g : Grammar) (chart : ChartValue) (text : List ℕ) (tokens : List Tok
       IsHasAnswer g tokens constituent no_line
   answer_no never =
       no (category, is) within
-      (λ d. let same : d.category ≡ category = one_category g constituent d.category category o.distinct d.is_category is in
+      (λ d. let same : d.category ≡ category = one_category g constituent d.category category o.names d.is_category is in
       never (subst (λ i. DerivesSpan i end) (sym first_is)
       (subst (DerivesSpan (first_of constituent)) (sym ends)
       (subst (λ c. Derives g.rules (kinds_of tokens) (Category c) (first_of constituent) (end_of (length tokens) constituent))

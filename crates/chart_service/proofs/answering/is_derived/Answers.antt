@@ -7,19 +7,19 @@ use Rattle.chart_service.proofs.AnsweringLemmas.{entry_derives, empty_derives}
 use Rattle.chart_service.proofs.answering.is_derived.Goals as goal
 
 pub returns-then-first-end : goal.returns-then-first-end
-returns-then-first-end c text tokens o =
-    let language = c.args.opened.now.language in
+returns-then-first-end g c text tokens o =
+    let language = c.args.language.now in
     let number = c.symbol_of-symbol.ensures.number
-    ∙ ap (λ (g : Grammar). symbol_number g (plain (Category c.args.category))) language.same in
-    entry_derives language.grammar c.args.opened.now.chart text tokens o c.args.category c.requires.own
+    ∙ ap (λ (x : Grammar). symbol_number x (plain (Category c.args.category))) language.same in
+    entry_derives language.grammar c.args.chart.now text tokens o c.args.category c.requires.own
     c.symbol_of-symbol.result number c.has.result c.args.first c.args.end c.if-first-end.true
     c.requires.within c.has.ensures
 
 pub returns-else-first-end : goal.returns-else-first-end
-returns-else-first-end c text tokens o =
-    let language = c.args.opened.now.language in
+returns-else-first-end g c text tokens o =
+    let language = c.args.language.now in
     let number = c.symbol_of-symbol.ensures.number
-    ∙ ap (λ (g : Grammar). symbol_number g (plain (Category c.args.category))) language.same in
-    empty_derives language.grammar c.args.opened.now.chart text tokens o c.args.category c.requires.own
+    ∙ ap (λ (x : Grammar). symbol_number x (plain (Category c.args.category))) language.same in
+    empty_derives language.grammar c.args.chart.now text tokens o c.args.category c.requires.own
     c.symbol_of-symbol.result number c.nullable.result c.args.first c.args.end c.requires.order
     c.if-first-end.false (rw language.same at c.nullable.ensures)
