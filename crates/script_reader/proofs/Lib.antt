@@ -1,4 +1,4 @@
 mod FormsLemmas
 mod QuestionLemmas
 mod LinesAndBlocksLemmas
-pub mod ReadingLemmas
+mod ReadingLemmas

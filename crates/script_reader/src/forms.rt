@@ -7,6 +7,7 @@ ghost use Rattle.script_reader.specs.Forms.{ReadsConstituent, ReadsHas, ReadsQue
 
 use crate::command::{Command, Query};
 use itoa::Buffer;
+use memchr::memchr;
 use spec_script::Constituent;
 
 /// The greatest number of nine digits.
@@ -54,12 +55,8 @@ pub(crate) fn count_behind(line: &[u8], beginning: &[u8], most: u32) -> Option<u
 fn cut_at_space(bytes: &[u8]) -> Option<(&[u8], &[u8])>
     ensures { CutsAtSpace bytes.now (option_map (λ cut. (cut.0.now, cut.1.now)) result) }
 {
-    for (place, byte) in bytes.iter().enumerate() {
-        if *byte == b' ' {
-            return Some((&bytes[..place], &bytes[place + 1..]));
-        }
-    }
-    None
+    let place = memchr(b' ', bytes)?;
+    Some((&bytes[..place], &bytes[place + 1..]))
 }
 
 /// The category over the whole text, where it has a byte.
