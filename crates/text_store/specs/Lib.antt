@@ -1,0 +1,2 @@
+pub mod TextStore
+pub mod Lexing
