@@ -1,10 +1,12 @@
 -- What is gathered and what comes behind it is written in turn.
-use Rattle.std.proofs.Common.{◌≡◌, ℕ, ◌≤◌, List, [], ◌++◌, length, take, Option, Some, refl, sym, ◌∙◌, ap, subst, arith}
+use Rattle.std.proofs.Common.{◌≡◌, ℕ, ◌+◌, ◌≤◌, List, [], ◌++◌, length, take, Option, Some, Result, Ok, Err, OnOk, OnErr, IfOk, String, string_bytes, refl, sym, ◌∙◌, ap, subst, arith}
 use Rattle.std.proofs.Common.{append_assoc, append-nil, length-append}
 use Rattle.std.proofs.lemmas.List.{take-append-le}
 use Rattle.std.proofs.Math.Seq.{take-append-add, take-append_seam}
 use Rattle.cyk_io.specs.Streams.{Grows, GrowsByPrefix}
-use Rattle.chart_service.specs.Replies.{Passes}
+use Rattle.std.specs.declared.alloc.Global.{Global}
+use Rattle.std.specs.declared.alloc.AllocError.{AllocError}
+use Rattle.chart_service.specs.Replies.{bytes_of, Passes, Says, WritesOut}
 
 -- where nothing is written, all is left
 pub all_left : (old : Option (List ℕ)) (gathered bytes left : List ℕ) → left ≡ gathered ++ bytes
@@ -75,3 +77,59 @@ pub grows_passed : (old mid new : Option (List ℕ)) (gathered bytes left : List
 grows_passed old mid new gathered bytes left passes grows =
     let P : List ℕ → Type 0 = Grows old new in
     subst P (sym passes.2) (both_grow old mid new passes.0 left passes.1 grows)
+
+-- what was gathered is written, if the write succeeds
+pub flushed : {X E : Type 0} → (old new : Option (List ℕ)) (gathered left : List ℕ) → left ≡ []
+    → (r : Result X E) → OnOk r (Grows old new gathered) → OnOk r (Passes old new gathered [] left)
+flushed old new gathered left e (Ok x) grows = first_written old new gathered [] left grows e
+flushed old new gathered left e (Err fault) h = h
+
+-- and then what comes behind it
+module _ (old mid new : Option (List ℕ)) (gathered first bytes left : List ℕ) (same : first ≡ gathered)
+    (grows : Grows old mid first) where
+  flushed_same : Grows old mid gathered
+  flushed_same = subst (λ these. Grows old mid these) same grows
+
+  pub added : {X E : Type 0} → left ≡ [] → (r : Result X E) → OnOk r (Grows mid new bytes)
+      → OnOk r (Passes old new gathered bytes left)
+  added none (Ok x) more = all_written old mid new gathered bytes left flushed_same more none
+  added none (Err fault) h = h
+
+  pub add_cut : {X E : Type 0} → (r : Result X E) → OnErr r (GrowsByPrefix mid new bytes)
+      → OnErr r (GrowsByPrefix old new (gathered ++ bytes))
+  add_cut (Ok x) h = h
+  add_cut (Err fault) cut = prefix_behind old mid new gathered bytes flushed_same cut
+
+-- the line was said, if its bytes passed
+pub said : {X E : Type 0} → (line : Result (String Global) AllocError) (text : String Global) (bytes : List ℕ)
+    → line ≡ Ok text → bytes ≡ string_bytes text → (old new : Option (List ℕ)) (gathered left : List ℕ)
+    → (r : Result X E) → OnOk r (Passes old new gathered bytes left)
+    → OnOk r (Says line old new gathered left)
+said line text bytes e b old new gathered left (Ok x) passes =
+    (text, e, subst (λ these. Passes old new gathered these left) b passes)
+said line text bytes e b old new gathered left (Err fault) h = h
+
+-- a line was said, and all that is left is written
+module _ (line : Result (String Global) AllocError) (old mid new : Option (List ℕ))
+    (gathered left : List ℕ) (says : Says line old mid gathered left) where
+  pub written_out : {X E : Type 0} → (r : Result X E) → OnOk r (Grows mid new left)
+      → OnOk r (WritesOut line old new gathered)
+  written_out (Ok x) grows =
+      (says.0, says.1, grows_passed old mid new gathered (string_bytes says.0) left says.2 grows)
+  written_out (Err fault) h = h
+
+  pub out_cut : {X E : Type 0} → (r : Result X E) → OnErr r (GrowsByPrefix mid new left)
+      → OnErr r (GrowsByPrefix old new (gathered ++ bytes_of line))
+  out_cut (Ok x) h = h
+  out_cut (Err fault) cut =
+      let P : Result (String Global) AllocError → Type 0 = λ r. GrowsByPrefix old new (gathered ++ bytes_of r) in
+      subst P (sym says.1) (prefix_passed old mid new gathered (string_bytes says.0) left says.2 cut)
+
+-- the bytes of a line that was said passed
+pub line_passes : (line : Result (String Global) AllocError) (bytes : List ℕ) (old new : Option (List ℕ))
+    (gathered left : List ℕ) → IfOk line (λ text. string_bytes text ≡ bytes)
+    → Says line old new gathered left → Passes old new gathered bytes left
+line_passes line bytes old new gathered left is says =
+    let P : Result (String Global) AllocError → Type 0 = λ r. IfOk r (λ text. string_bytes text ≡ bytes) in
+    let same : string_bytes says.0 ≡ bytes = subst P says.1 is in
+    subst (λ these. Passes old new gathered these left) same says.2

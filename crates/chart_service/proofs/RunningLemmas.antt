@@ -5,6 +5,7 @@ use Rattle.std.proofs.Common.{append_assoc, append-nil, arith}
 use Rattle.std.specs.declared.alloc.Global.{Global}
 use Rattle.std.specs.declared.alloc.AllocError.{AllocError}
 use Rattle.cyk_io.specs.Streams.{GrowsByPrefix}
+use Rattle.cyk_io.specs.declared.fault.IoFault.TheVariants.{Read, Write, Memory}
 use Rattle.spec_grammar.specs.Grammars.{Grammar}
 use Rattle.spec_script.specs.Script.{Command, opens, ask, Part, header, grammar, of_command, Script}
 use Rattle.spec_script.specs.Script.{nothing, header_alone, with_grammar, as_parts, parts_of, text_of}
@@ -28,13 +29,14 @@ use Rattle.chart_service.specs.declared.accepting.LanguageFault.{LanguageFault}
 use Rattle.chart_service.specs.declared.ending.EarlyEnd.TheVariants.{Refused, Stopped}
 use Rattle.chart_service.specs.declared.session.Session.{Session}
 use Rattle.chart_service.specs.Serving.{IsPrefixOfSession}
-use Rattle.chart_service.specs.Replies.{bytes_of, Passes}
-use Rattle.chart_service.specs.Languages.{IsRefusal}
+use Rattle.chart_service.specs.Replies.{bytes_of, Passes, Says}
+use Rattle.chart_service.specs.Languages.{IsFaultOf, IsRefusal}
 use Rattle.chart_service.specs.Sessions.{IsIn, is_open, CanReply, IsCommand, RepliesTo}
 use Rattle.chart_service.specs.Progress.{IsTold, Running, IsCutShort, LacksLast, HasEnded, EndsEarly}
 use Rattle.chart_service.specs.Progress.{HasAccepted}
 use Rattle.chart_service.proofs.ToldLemmas.{told_on, whole_is_prefix, written_is_prefix, cut_is_prefix}
 use Rattle.chart_service.proofs.ToldLemmas.{line_is_prefix}
+use Rattle.chart_service.proofs.LanguageLemmas.{refusal_is}
 use Rattle.chart_service.proofs.RunLemmas.{run_more, commands_more, lines_more, after_more}
 
 -- the command of a script that was read
@@ -42,6 +44,10 @@ pub command_read : (command : ReadCommand) → (command ≡ End → ⊥) → (me
 command_read (Open text) other = (opens text.items, refl)
 command_read (Ask query) other = (ask (query_of query), refl)
 command_read End other = absurd (other refl)
+
+-- a test that fails says that it is not the line `end`
+pub not_end : {P : Type 0} → (test : Bool) → (P → IsTrue test) → test ≡ false → P → ⊥
+not_end test h fails p = let yes : test ≡ true = h p in cc
 
 -- it was taken as a part
 pub part_taken : (flag : Bool) (from to : ℕ) (old new : Option (List ℕ)) (command : ReadCommand)
@@ -189,11 +195,50 @@ grammar_taken input block rest coming next from to comes begins t =
     let P : ℕ → Type 0 = λ place. BeginsWithParts 0 input (header ∷ grammar block ∷ []) place behind.0 in
     (behind.0, behind.1, subst P (sym t.offset) longer)
 
+-- no header comes
+pub header_stops : (input before : List ℕ) (coming : Option (List ℕ)) (from : ℕ) → coming ≡ Some input → from ≡ 0
+    → (stop : Stop) → StopsBehind nothing from coming stop → EndsEarly input before (Some before) [] (Stopped stop)
+header_stops input before coming from comes start stop h =
+    stops_early input before (Some before) refl nothing from input tt refl (start, refl) coming comes stop h
+
+-- the header is taken, and then no grammar comes, or one that is accepted or not
+module _ (input before : List ℕ) (coming next : Option (List ℕ)) (from at : ℕ) (comes : coming ≡ Some input)
+    (start : from ≡ 0) (t : TakesPart from at coming next header) where
+  behind_header : (rest : List ℕ) × (next ≡ Some rest) × BeginsWithScript input header_alone at rest
+  behind_header = header_taken input coming next from at comes start t
+
+  pub grammar_stops : (stop : Stop) → StopsBehind header_alone at next stop
+      → EndsEarly input before (Some before) [] (Stopped stop)
+  grammar_stops stop h =
+      let b = behind_header in
+      stops_early input before (Some before) refl header_alone at b.0 tt refl b.2 next b.1 stop h
+
+  module _ (later : Option (List ℕ)) (to : ℕ) (block : List ℕ) (taken : TakesPart at to next later (grammar block)) where
+    behind_grammar : (more : List ℕ) × (later ≡ Some more) × BeginsWithScript input (with_grammar block []) to more
+    behind_grammar =
+        let b = behind_header in
+        grammar_taken input block b.0 next later at to b.1 b.2 taken
+
+    pub grammar_accepted : (g : Grammar) → IsAccepted block g → HasAccepted input later to g
+    grammar_accepted g accepted = let b = behind_grammar in record {
+      block = block;
+      accepted = accepted;
+      rest = b.0;
+      comes = b.1;
+      begins = b.2;
+    }
+
+    pub grammar_refused : (fault : LanguageFault) → IsFaultOf block fault
+        → EndsEarly input before (Some before) [] (Refused fault)
+    grammar_refused fault is =
+        let b = behind_grammar in
+        refused_early input before (Some before) refl block b.0 to b.2 fault (λ line. refusal_is block fault line is)
+
 -- the session runs
 module _ {C : Type 0} (input before : List ℕ) (coming : Option (List ℕ)) (at : ℕ) (now : Option (List ℕ))
     (gathered : List ℕ) (session : Session C) (r : Running input before coming at now gathered session) where
   abbrev g : Grammar
-  g = session.language.grammar
+  g = session.language
 
   abbrev front : Script
   front = with_grammar r.block (commands_of r.steps)
@@ -298,7 +343,7 @@ module _ {C : Type 0} (input before : List ℕ) (coming : Option (List ℕ)) (at
     longer_in_order = read_in_order r.block (commands_of r.steps) (is_open session) r.tells_open at to coming next command t meaning is
 
     -- and replied to, by a session under the same grammar
-    module _ (later : Session C) (same : later.language.grammar ≡ g) (line : List ℕ)
+    module _ (later : Session C) (same : later.language ≡ g) (line : List ℕ)
         (replied : RepliesTo (state_after no_texts r.steps) meaning line later) where
       abbrev step : Step
       step = record { command = meaning; line = line; before = state_after no_texts r.steps; after = replied.after }
@@ -306,13 +351,13 @@ module _ {C : Type 0} (input before : List ℕ) (coming : Option (List ℕ)) (at
       abbrev steps : List Step
       steps = r.steps ++ step ∷ []
 
-      run : IsRun later.language.grammar no_texts steps
+      run : IsRun later.language no_texts steps
       run =
           let P : Grammar → Type 0 = λ (x : Grammar). IsRun x no_texts r.steps in
-          run_more later.language.grammar no_texts r.steps step (subst P (sym same) r.is_run)
+          run_more later.language no_texts r.steps step (subst P (sym same) r.is_run)
           (record { replies = replied.replies; leaves = replied.leaves }) refl
 
-      accepted : IsAccepted r.block later.language.grammar
+      accepted : IsAccepted r.block later.language
       accepted = subst (IsAccepted r.block) (sym same) r.accepted
 
       -- as one command more
@@ -330,7 +375,7 @@ module _ {C : Type 0} (input before : List ℕ) (coming : Option (List ℕ)) (at
           of_commands (λ (commands : List Command). BeginsWithScript input (with_grammar r.block commands) to behind.0)
           (subst Parts (sym (parts_more (commands_of r.steps) meaning)) (subst Places (sym part.offset) longer))
 
-      lines : told ++ line ≡ grammar_reply later.language.grammar ++ replies_of steps
+      lines : told ++ line ≡ grammar_reply later.language ++ replies_of steps
       lines =
           append_assoc (grammar_reply g) (replies_of r.steps) line
           ∙ ap (λ bytes. grammar_reply g ++ bytes) (sym (lines_more r.steps step))
@@ -340,10 +385,10 @@ module _ {C : Type 0} (input before : List ℕ) (coming : Option (List ℕ)) (at
       pub reply_is_prefix : IsPrefixOfSession input (told ++ line)
       reply_is_prefix =
           let script : Script = with_grammar r.block (commands_of steps) in
-          let out : List ℕ = grammar_reply later.language.grammar ++ replies_of steps in
+          let out : List ℕ = grammar_reply later.language ++ replies_of steps in
           let ordered : AreInOrder (commands_of steps) = of_commands AreInOrder longer_in_order in
           let replies : AreAllReplies serve_mode script out = (
-            later.language.grammar,
+            later.language,
             [],
             replies_of steps,
             accepted,
@@ -373,8 +418,21 @@ module _ {C : Type 0} (input before : List ℕ) (coming : Option (List ℕ)) (at
           complete : AreComplete (commands_of steps)
           complete = of_commands AreComplete (order_completes (commands_of r.steps) meaning longer_in_order)
 
+    -- the reply was said
+    pub running_said : (later : Session C) → later.language ≡ g → (line : Result (String Global) AllocError)
+        → IfOk line (λ text. RepliesTo (state_after no_texts r.steps) meaning (string_bytes text) later)
+        → (new : Option (List ℕ)) (left : List ℕ) → Says line now new gathered left
+        → Running input before next to new left later
+    running_said later same line replies new left says =
+        let P : Result (String Global) AllocError → Type 0 = λ r.
+        IfOk r (λ text. RepliesTo replied_state meaning (string_bytes text) later) in
+        running_replied later same (string_bytes says.0) (subst P says.1 replies) new left says.2
+      where
+        replied_state : State
+        replied_state = state_after no_texts r.steps
+
     -- the reply is cut short, or there was no memory for it
-    pub cut_reply : (later : Session C) → later.language.grammar ≡ g
+    pub cut_reply : (later : Session C) → later.language ≡ g
         → (line : Result (String Global) AllocError)
         → IfOk line (λ text. RepliesTo (state_after no_texts r.steps) meaning (string_bytes text) later)
         → (new : Option (List ℕ)) → GrowsByPrefix now new (gathered ++ bytes_of line)
@@ -386,9 +444,9 @@ module _ {C : Type 0} (input before : List ℕ) (coming : Option (List ℕ)) (at
 
 -- a session under a grammar that was accepted, to which it replied, runs
 module _ {C : Type 0} (input before : List ℕ) (coming : Option (List ℕ)) (at : ℕ) (session : Session C)
-    (a : HasAccepted input coming at session.language.grammar) (old new : Option (List ℕ)) (is : old ≡ Some before) where
+    (a : HasAccepted input coming at session.language) (old new : Option (List ℕ)) (is : old ≡ Some before) where
   abbrev reply : List ℕ
-  reply = grammar_reply session.language.grammar
+  reply = grammar_reply session.language
 
   pub first_running : IsIn session no_texts → is_open session ≡ false → (gathered left : List ℕ)
       → gathered ≡ [] → Passes old new gathered reply left → Running input before coming at new left session
@@ -422,7 +480,7 @@ module _ {C : Type 0} (input before : List ℕ) (coming : Option (List ℕ)) (at
       goes : (line : List ℕ) → line ≡ reply → IsPrefixOfSession input ([] ++ line)
       goes line e =
           let replies : AreAllReplies serve_mode script reply = (
-            session.language.grammar,
+            session.language,
             [],
             [],
             a.accepted,
@@ -432,3 +490,16 @@ module _ {C : Type 0} (input before : List ℕ) (coming : Option (List ℕ)) (at
           ) in
           subst (IsPrefixOfSession input) (sym e)
           (replies_come_first input script at a.rest reply a.begins tt replies)
+
+-- reading alone writes nothing
+pub reads_only : (script : Script) (at : ℕ) (coming : Option (List ℕ)) (stop : Stop)
+    → StopsBehind script at coming stop → stop ≡ Fault Write → ⊥
+reads_only script at coming (Breaks place) h e = cc
+reads_only script at coming (Fault Read) h e = cc
+reads_only script at coming (Fault Write) h e = h
+reads_only script at coming (Fault Memory) h e = cc
+
+-- a script behind which a text is open, or none
+pub some_script : (flag : Bool) → (script : Script) × TellsOpen script flag
+some_script true = (with_grammar [] (opens [] ∷ []), tt)
+some_script false = (with_grammar [] [], ([], refl))

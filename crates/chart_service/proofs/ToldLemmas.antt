@@ -1,16 +1,18 @@
 -- What a session told is a prefix of it, however much is written of that; and its last line is the
 -- rest.
 use Rattle.std.proofs.Common.{◌≡◌, ℕ, inl, inr, List, [], ◌++◌, take, drop, Option, Some, Result}
-use Rattle.std.proofs.Common.{Ok, Err, IfOk, String, string_bytes, refl, sym, ◌∙◌, ap, subst}
+use Rattle.std.proofs.Common.{Ok, Err, IfOk, IfErr, IsErrAnd, String, string_bytes, refl, sym, ◌∙◌, ap, subst}
 use Rattle.std.proofs.Common.{append_assoc, append-nil}
 use Rattle.std.proofs.lemmas.List.{take-append-drop}
 use Rattle.std.specs.declared.alloc.Global.{Global}
 use Rattle.std.specs.declared.alloc.AllocError.{AllocError}
 use Rattle.cyk_io.specs.Streams.{GrowsByPrefix}
+use Rattle.cyk_io.specs.declared.fault.IoFault.{IoFault}
+use Rattle.cyk_io.specs.declared.fault.IoFault.TheVariants.{Read, Write, Memory}
 use Rattle.spec_session.specs.Sessions.{serve_mode, IsSession}
 use Rattle.spec_session.proofs.SessionsLemmas.{one_session}
 use Rattle.chart_service.specs.declared.status.Status.{Status}
-use Rattle.chart_service.specs.Statuses.{number_of}
+use Rattle.chart_service.specs.Statuses.{number_of, status_at, IsFault}
 use Rattle.chart_service.specs.Serving.{IsPrefixOfSession}
 use Rattle.chart_service.specs.Replies.{bytes_of, Passes, Finishes}
 use Rattle.chart_service.specs.Progress.{IsTold, IsCutShort, LacksLast, Ends}
@@ -27,6 +29,24 @@ told_on before old new gathered bytes left told t p = (
       ∙ ap (λ these. t.0 ++ these) p.2
       ∙ sym (append_assoc t.0 p.0 left),
 )
+
+-- the status at a fault is a fault's
+pub fault_status : (fault : IoFault) → IsFault (status_at fault)
+fault_status Read = inl refl
+fault_status Write = inr (inl refl)
+fault_status Memory = inr (inr refl)
+
+-- an error that is known
+pub err_given : {X E : Type 0} → (P : E → Type 0) (e : E) (r : Result X E) → IsErrAnd r (λ x. x ≡ e) → P e
+    → IfErr r P
+err_given P e (Ok x) h p = absurd h
+err_given P e (Err x) h p = subst P (sym h) p
+
+-- it is no other error
+pub other_error : {X E : Type 0} → (r : Result X E) (e other : E) → IsErrAnd r (λ x. x ≡ e) → (e ≡ other → ⊥)
+    → r ≡ Err other → ⊥
+other_error (Ok x) e other h never is = absurd h
+other_error (Err x) e other h never is = never (let same : x ≡ other = cc in sym h ∙ same)
 
 module _ (input before : List ℕ) where
   -- a prefix of a prefix

@@ -32,12 +32,12 @@ pub record Running {C : Type 0} (input before : List ℕ) (coming : Option (List
   pub rest : List ℕ
   pub comes : coming ≡ Some rest
   pub begins : BeginsWithScript input (with_grammar block (commands_of steps)) at rest
-  pub accepted : IsAccepted block session.language.grammar
-  pub is_run : IsRun session.language.grammar no_texts steps
+  pub accepted : IsAccepted block session.language
+  pub is_run : IsRun session.language no_texts steps
   pub tells_open : TellsOpen (with_grammar block (commands_of steps)) (is_open session)
   pub is_in : IsIn session (state_after no_texts steps)
   pub is_told : IsTold before now gathered
-      (grammar_reply session.language.grammar ++ replies_of steps)
+      (grammar_reply session.language ++ replies_of steps)
 
 -- of the session a prefix was written
 abbrev pub IsCutShort : List ℕ → List ℕ → Option (List ℕ) → Type 0
@@ -91,6 +91,6 @@ pub record HasAccepted (input : List ℕ) (coming : Option (List ℕ)) (at : ℕ
 
 -- no text was opened in the session yet, and texts can be
 pub record IsFresh {C : Type 0} (room : ℕ) (session : Session C) : Type 0 where
-  pub can : CanOpen room session.language.grammar
+  pub can : CanOpen room session.language
   pub is_in : IsIn session no_texts
   pub closed : IsFalse (is_open session)

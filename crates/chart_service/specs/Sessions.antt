@@ -32,7 +32,7 @@ pub record IsVersionOf {C : Type 0} (g : Grammar) (text : List ℕ) (version : V
 abbrev pub KeepsCurrent : {C : Type 0} → Session C → State → Type 0
 KeepsCurrent session state = MatchOption session.current (Unit {0})
     (λ version. (text : List ℕ) × IsCurrent state text
-    × IsVersionOf session.language.grammar text version)
+    × IsVersionOf session.language text version)
 
 -- the session is in this state: it counts the texts, and keeps the current one
 pub record IsIn {C : Type 0} (session : Session C) (state : State) : Type 0 where
@@ -60,7 +60,7 @@ IsCommand End command = ⊥
 pub record RepliesTo {C : Type 0} (state : State) (command : Command) (line : List ℕ)
     (session : Session C) : Type 0 where
   pub after : State
-  pub replies : IsReply session.language.grammar state command line
+  pub replies : IsReply session.language state command line
   pub leaves : Leaves command state after
   pub is_in : IsIn session after
   pub is_open : IsTrue (is_open session)

@@ -1,6 +1,5 @@
 //! The grammar of a block, accepted with its binary form.
 ghost use Rattle.std.specs.Prelude.{◌≡◌, ◌≤◌, ℕ, List, IfOk, MatchResult};
-ghost use Rattle.std.specs.Result.{result_map_both};
 ghost use Rattle.spec_text.specs.declared.limits.TheConstants.{MAX_SYMBOLS};
 ghost use Rattle.binary_form.specs.BinaryForm.{MakesBinary};
 ghost use Rattle.spec_session.specs.GrammarReplies.{IsAccepted};
@@ -30,20 +29,18 @@ pub(crate) enum LanguageFault {
 fn language_of<C: Cell>(alloc: Global, grammar: Grammar) -> Result<Language<C>, BinaryFault>
     requires room { MAX_SYMBOLS ≤ C.ROOM }
     requires names { HasNamesAndWords grammar }
-    ensures ok { MakesBinary grammar
-        (result_map_both (λ language. language.binary) (λ fault. fault) result) }
-    ensures can { IfOk result (λ language. CanOpen C.ROOM language.grammar) }
+    ensures ok { MakesBinary grammar result }
+    ensures can { IfOk result (CanOpen C.ROOM) }
 {
     let binary = binary::<C>(alloc, &grammar)?;
-    Ok(Language { grammar, binary })
+    Ok(Language::of(grammar, binary))
 }
 
 /// The language of the grammar that the bytes spell.
 fn read_language<C: Cell>(alloc: Global, block: &[u8]) -> Result<Language<C>, LanguageFault>
     requires room { MAX_SYMBOLS ≤ C.ROOM }
-    ensures ok { MatchResult result (λ language. IsAccepted block.now language.grammar)
-        (IsFaultOf block.now) }
-    ensures can { IfOk result (λ language. CanOpen C.ROOM language.grammar) }
+    ensures ok { MatchResult result (IsAccepted block.now) (IsFaultOf block.now) }
+    ensures can { IfOk result (CanOpen C.ROOM) }
 {
     let defs = match read_defs(alloc, block) {
         Ok(defs) => defs,
@@ -66,8 +63,8 @@ pub(crate) fn language_in<C: Cell>(
 ) -> Result<Language<C>, LanguageFault>
     requires room { MAX_SYMBOLS ≤ C.ROOM }
     ensures ok { (bytes : List ℕ) → IsBlock block.now bytes
-        → MatchResult result (λ language. IsAccepted bytes language.grammar) (IsFaultOf bytes) }
-    ensures can { IfOk result (λ language. CanOpen C.ROOM language.grammar) }
+        → MatchResult result (IsAccepted bytes) (IsFaultOf bytes) }
+    ensures can { IfOk result (CanOpen C.ROOM) }
 {
     match block {
         Block::Kept(bytes) => read_language(alloc, bytes.as_slice()),

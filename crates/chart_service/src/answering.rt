@@ -8,7 +8,7 @@ ghost use Rattle.spec_lexing.specs.declared.token.Token.{Token};
 ghost use Rattle.spec_lexing.specs.Tokens.{kinds_of};
 ghost use Rattle.spec_script.specs.Script.{has};
 ghost use Rattle.spec_session.specs.Answers.{IsOfCategory, HasCategory, first_of, end_of, IsAnswer};
-ghost use Rattle.script_reader.specs.Forms.{meant};
+ghost use Rattle.script_reader.specs.Forms.{meant, query_of};
 ghost use Rattle.chart_service.specs.Languages.{CanOpen};
 ghost use Rattle.chart_service.specs.Sessions.{IsOpened};
 ghost use Rattle.chart_service.specs.Answering.{FindsSymbol, answer_line};
@@ -16,6 +16,7 @@ ghost use Rattle.chart_service.specs.Answering.{FindsSymbol, answer_line};
 use crate::language::Language;
 use cell_sets::Cell;
 use lbnf_grammar::{Grammar, Symbol};
+use script_reader::Query;
 use spec_script::Constituent;
 use std::alloc::{AllocError, Global};
 use valiant::Chart;
@@ -67,20 +68,21 @@ fn is_derived<C: Cell>(
     first: u32,
     end: u32,
 ) -> bool
-    requires can { CanOpen C.ROOM language.now.grammar }
-    requires own { category < length language.now.grammar.categories }
+    requires can { CanOpen C.ROOM language.now }
+    requires own { category < length language.now.categories }
     requires order { first ≤ end }
     requires within { end ≤ length chart.now.kinds }
     ensures { (text : List ℕ) (tokens : List Token)
-        → IsOpened language.now.grammar chart.now text tokens
+        → IsOpened language.now chart.now text tokens
         → IsTrue result
-        ↔ Derives language.now.grammar.rules (kinds_of tokens) (Category category) first end }
+        ↔ Derives language.now.rules (kinds_of tokens) (Category category) first end }
 {
-    let symbol = language.binary.symbol_of(Symbol::Category(category));
+    let binary = language.binary();
+    let symbol = binary.symbol_of(Symbol::Category(category));
     if first < end {
         chart.has(symbol, first, end)
     } else {
-        language.binary.nullable(symbol)
+        binary.nullable(symbol)
     }
 }
 
@@ -112,13 +114,13 @@ fn answer_of<C: Cell>(
     chart: &Chart<C>,
     constituent: &Constituent<&[u8]>,
 ) -> Answer
-    requires can { CanOpen C.ROOM language.now.grammar }
+    requires can { CanOpen C.ROOM language.now }
     ensures { (text : List ℕ) (tokens : List Token)
-        → IsOpened language.now.grammar chart.now text tokens
-        → IsAnswer language.now.grammar tokens (has (meant constituent.now))
+        → IsOpened language.now chart.now text tokens
+        → IsAnswer language.now tokens (has (meant constituent.now))
         (answer_line result) }
 {
-    let Some(category) = category_of(&language.grammar, constituent) else {
+    let Some(category) = category_of(language.grammar(), constituent) else {
         return Answer::UnknownCategory;
     };
     let tokens = chart.len();
@@ -146,18 +148,20 @@ fn line_of(alloc: Global, answer: Answer) -> Result<String, AllocError>
     }
 }
 
-/// The line that answers whether the constituent is derived in the text of the chart.
+/// The line that answers the query, asked of the text of the chart.
 pub(crate) fn answer_to<C: Cell>(
     alloc: Global,
     language: &Language<C>,
     chart: &Chart<C>,
-    constituent: &Constituent<&[u8]>,
+    query: &Query<'_>,
 ) -> Result<String, AllocError>
-    requires can { CanOpen C.ROOM language.now.grammar }
+    requires can { CanOpen C.ROOM language.now }
     ensures { (text : List ℕ) (tokens : List Token)
-        → IsOpened language.now.grammar chart.now text tokens
-        → IfOk result (λ line. IsAnswer language.now.grammar tokens
-        (has (meant constituent.now)) (string_bytes line)) }
+        → IsOpened language.now chart.now text tokens
+        → IfOk result (λ line. IsAnswer language.now tokens
+        (query_of query.now) (string_bytes line)) }
 {
-    line_of(alloc, answer_of(language, chart, constituent))
+    match query {
+        Query::Has(constituent) => line_of(alloc, answer_of(language, chart, constituent)),
+    }
 }

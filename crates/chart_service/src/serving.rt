@@ -1,6 +1,6 @@
 //! Serving a script: each reply is written before the source is read again.
-ghost use Rattle.std.specs.Prelude.{◌≡◌, ◌+◌, ◌^◌, ◌<◌, ◌≤◌, ℕ, List, [], Some, IsTrue, IsErrOf};
-ghost use Rattle.std.specs.Prelude.{IfOk, IfErr, OnOk, MatchResult, string_bytes};
+ghost use Rattle.std.specs.Prelude.{◌≡◌, ◌+◌, ◌^◌, ◌<◌, ◌≤◌, ◌↔◌, ℕ, List, [], Some, IsTrue, IsErrOf};
+ghost use Rattle.std.specs.Prelude.{IfOk, IfErr, OnOk, string_bytes};
 ghost use Rattle.spec_text.specs.declared.limits.TheConstants.{MAX_SYMBOLS};
 ghost use Rattle.spec_script.specs.Script.{ended, broken};
 ghost use Rattle.spec_session.specs.Sessions.{last_line};
@@ -11,6 +11,7 @@ ghost use Rattle.chart_service.specs.Languages.{CanOpen};
 ghost use Rattle.chart_service.specs.Progress.{Running, HasEnded, EndsEarly, Ends, HasAccepted};
 ghost use Rattle.chart_service.specs.Progress.{IsFresh, GoesOnOrHasEnded};
 ghost use Rattle.chart_service.specs.declared.ending.EarlyEnd.TheVariants.{Stopped};
+ghost use Rattle.script_reader.specs.declared.command.Command.TheVariants.{End};
 ghost use Rattle.script_reader.specs.declared.stop.Stop.TheVariants.{Fault};
 
 use crate::accepting::language_in;
@@ -40,7 +41,7 @@ fn accept<S: Source, C: Cell>(
     requires end { IsTrue ahead.old.ended → IsAtEnd (S.left source.old) }
     ensures ok { (input : List ℕ) → coming ahead.old (S.left source.old) ≡ Some input
         → IfOk result (λ session. HasAccepted input (coming ahead.new (S.left source.new))
-        ahead.new.offset session.language.grammar) }
+        ahead.new.offset session.language) }
     ensures fresh { IfOk result (IsFresh C.ROOM) }
     ensures err { (input before : List ℕ) → coming ahead.old (S.left source.old) ≡ Some input
         → IfErr result (EndsEarly input before (Some before) []) }
@@ -73,10 +74,11 @@ fn begin<S: Source, K: Sink, C: Cell>(
     requires end { IsTrue ahead.old.ended → IsAtEnd (S.left source.old) }
     ensures ok { (input before : List ℕ) → coming ahead.old (S.left source.old) ≡ Some input
         → K.written sink.old ≡ Some before
-        → MatchResult result
-        (Running input before (coming ahead.new (S.left source.new)) ahead.new.offset
-        (K.written sink.new) replies.new)
-        (EndsEarly input before (K.written sink.new) replies.new) }
+        → IfOk result (Running input before (coming ahead.new (S.left source.new))
+        ahead.new.offset (K.written sink.new) replies.new) }
+    ensures err { (input before : List ℕ) → coming ahead.old (S.left source.old) ≡ Some input
+        → K.written sink.old ≡ Some before
+        → IfErr result (EndsEarly input before (K.written sink.new) replies.new) }
     ensures fresh { IfOk result (IsFresh C.ROOM) }
     ensures read { HasCause (S.faults source.old) (S.faults source.new)
         (IsErrOf result (Stopped (Fault IoFault.Read))) }
@@ -90,6 +92,13 @@ fn begin<S: Source, K: Sink, C: Cell>(
     Ok(session)
 }
 
+/// Whether the line `end` was read.
+fn is_end(command: &Command<'_>) -> bool
+    ensures { IsTrue result ↔ (command.now ≡ End) }
+{
+    matches!(command, Command::End)
+}
+
 /// Reads the next command and replies to it. Answers false behind the line `end`. A reply waits
 /// with others while the next line is held, and is written before the source is read again.
 fn turn<S: Source, K: Sink, C: Cell>(
@@ -101,17 +110,19 @@ fn turn<S: Source, K: Sink, C: Cell>(
     replies: &mut Replies,
     session: &mut Session<C>,
 ) -> Result<bool, EarlyEnd>
-    requires can { CanOpen C.ROOM session.old.language.grammar }
+    requires can { CanOpen C.ROOM session.old.language }
     requires few { session.old.texts ≤ ahead.old.offset }
     requires early { ahead.old.offset < 2 ^ 50 }
     requires end { IsTrue ahead.old.ended → IsAtEnd (S.left source.old) }
     ensures ok { (input before : List ℕ)
         → Running input before (coming ahead.old (S.left source.old)) ahead.old.offset
         (K.written sink.old) replies.old session.old
-        → MatchResult result
-        (GoesOnOrHasEnded input before (coming ahead.new (S.left source.new)) ahead.new.offset
-        (K.written sink.new) replies.new session.new)
-        (EndsEarly input before (K.written sink.new) replies.new) }
+        → IfOk result (GoesOnOrHasEnded input before (coming ahead.new (S.left source.new))
+        ahead.new.offset (K.written sink.new) replies.new session.new) }
+    ensures err { (input before : List ℕ)
+        → Running input before (coming ahead.old (S.left source.old)) ahead.old.offset
+        (K.written sink.old) replies.old session.old
+        → IfErr result (EndsEarly input before (K.written sink.new) replies.new) }
     ensures read { HasCause (S.faults source.old) (S.faults source.new)
         (IsErrOf result (Stopped (Fault IoFault.Read))) }
     ensures write { HasCause (K.faults sink.old) (K.faults sink.new)
@@ -120,18 +131,17 @@ fn turn<S: Source, K: Sink, C: Cell>(
     ensures range { OnOk result
         ((ahead.old.offset < ahead.new.offset) × (ahead.new.offset < 2 ^ 50)) }
     ensures few { OnOk result (session.new.texts ≤ ahead.new.offset) }
-    ensures can { CanOpen C.ROOM session.new.language.grammar }
+    ensures can { CanOpen C.ROOM session.new.language }
 {
     // The line of a text may be held and its block not.
     let is_held = session.is_open() && ahead.has_line();
     replies.flush_unless(sink, is_held)?;
-    match read_command(alloc, source, ahead, line, session.is_open())? {
-        Command::End => Ok(false),
-        command => {
-            replies.say(sink, session.reply(alloc, command))?;
-            Ok(true)
-        }
+    let command = read_command(alloc, source, ahead, line, session.is_open())?;
+    if is_end(&command) {
+        return Ok(false);
     }
+    replies.say(sink, session.reply(alloc, command))?;
+    Ok(true)
 }
 
 /// Replies to command after command, up to the session's end.
@@ -144,16 +154,18 @@ fn reply_all<S: Source, K: Sink, C: Cell>(
     replies: &mut Replies,
     session: &mut Session<C>,
 ) -> Result<(), EarlyEnd>
-    requires can { CanOpen C.ROOM session.old.language.grammar }
+    requires can { CanOpen C.ROOM session.old.language }
     requires few { session.old.texts ≤ ahead.old.offset }
     requires early { ahead.old.offset < 2 ^ 50 }
     requires end { IsTrue ahead.old.ended → IsAtEnd (S.left source.old) }
     ensures ok { (input before : List ℕ)
         → Running input before (coming ahead.old (S.left source.old)) ahead.old.offset
         (K.written sink.old) replies.old session.old
-        → MatchResult result
-        (λ _. HasEnded input before (K.written sink.new) replies.new)
-        (EndsEarly input before (K.written sink.new) replies.new) }
+        → OnOk result (HasEnded input before (K.written sink.new) replies.new) }
+    ensures err { (input before : List ℕ)
+        → Running input before (coming ahead.old (S.left source.old)) ahead.old.offset
+        (K.written sink.old) replies.old session.old
+        → IfErr result (EndsEarly input before (K.written sink.new) replies.new) }
     ensures read { HasCause (S.faults source.old) (S.faults source.new)
         (IsErrOf result (Stopped (Fault IoFault.Read))) }
     ensures write { HasCause (K.faults sink.old) (K.faults sink.new)
@@ -178,9 +190,10 @@ fn run<S: Source, K: Sink, C: Cell>(
     requires none { replies.old ≡ [] }
     ensures ok { (input before : List ℕ) → S.left source.old ≡ Some input
         → K.written sink.old ≡ Some before
-        → MatchResult result
-        (λ _. HasEnded input before (K.written sink.new) replies.new)
-        (EndsEarly input before (K.written sink.new) replies.new) }
+        → OnOk result (HasEnded input before (K.written sink.new) replies.new) }
+    ensures err { (input before : List ℕ) → S.left source.old ≡ Some input
+        → K.written sink.old ≡ Some before
+        → IfErr result (EndsEarly input before (K.written sink.new) replies.new) }
     ensures read { HasCause (S.faults source.old) (S.faults source.new)
         (IsErrOf result (Stopped (Fault IoFault.Read))) }
     ensures write { HasCause (K.faults sink.old) (K.faults sink.new)

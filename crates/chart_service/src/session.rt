@@ -1,10 +1,10 @@
 //! A session behind its grammar: the texts that were opened, and the replies to commands.
 ghost use Rattle.std.specs.Prelude.{◌≡◌, ℕ, ◌+◌, ◌<◌, ◌≤◌, ◌^◌, List, length, IfOk, IsErr, IsTrue};
 ghost use Rattle.std.specs.Prelude.{IsFalse, IsAscii, string_bytes};
-ghost use Rattle.spec_script.specs.Script.{Command as ScriptCommand, opens, ask, has};
+ghost use Rattle.spec_script.specs.Script.{Command as ScriptCommand, opens, ask};
 ghost use Rattle.spec_session.specs.GrammarReplies.{grammar_reply};
 ghost use Rattle.spec_session.specs.Steps.{State, no_texts, IsReply, version_reply};
-ghost use Rattle.script_reader.specs.Forms.{meant};
+ghost use Rattle.script_reader.specs.Forms.{query_of};
 ghost use Rattle.chart_service.specs.Languages.{CanOpen};
 ghost use Rattle.chart_service.specs.Sessions.{CanReply, IsCommand, IsIn, IsVersionOf, RepliesTo};
 ghost use Rattle.chart_service.specs.Sessions.{is_open};
@@ -13,7 +13,6 @@ use crate::answering::answer_to;
 use crate::language::Language;
 use cell_sets::Cell;
 use script_reader::{Command, Query};
-use spec_script::Constituent;
 use std::alloc::{AllocError, Global};
 use text_store::Text;
 use valiant::Chart;
@@ -31,14 +30,14 @@ fn version_of<C: Cell>(
     language: &Language<C>,
     text: &[u8],
 ) -> Result<Version<C>, AllocError>
-    requires can { CanOpen C.ROOM language.now.grammar }
+    requires can { CanOpen C.ROOM language.now }
     requires ascii { IsAscii text.now }
     requires short { length text.now ≤ 4096 }
-    ensures { IfOk result (IsVersionOf language.now.grammar text.now) }
+    ensures { IfOk result (IsVersionOf language.now text.now) }
 {
-    let opened = Text::open(alloc, language.grammar.kinds(), text)?;
+    let opened = Text::open(alloc, language.grammar().kinds(), text)?;
     let kinds = opened.kinds(alloc)?;
-    let chart = Chart::of_kinds(alloc, &language.binary, kinds.as_slice())?;
+    let chart = Chart::of_kinds(alloc, language.binary(), kinds.as_slice())?;
     Ok(Version {
         text: opened,
         chart,
@@ -84,18 +83,18 @@ impl<C: Cell> Session<C> {
 
     /// The line that accepts the grammar.
     pub(crate) fn grammar_line(&self, alloc: Global) -> Result<String, AllocError>
-        ensures { IfOk result (λ text. string_bytes text ≡ grammar_reply self.now.language.grammar) }
+        ensures { IfOk result (λ text. string_bytes text ≡ grammar_reply self.now.language) }
     {
-        let rules = self.language.grammar.rule_count();
-        let categories = self.language.grammar.category_count();
-        let kinds = self.language.grammar.kind_count();
+        let rules = self.language.grammar().rule_count();
+        let categories = self.language.grammar().category_count();
+        let kinds = self.language.grammar().kind_count();
         format!(in alloc; "grammar rules {rules} categories {categories} kinds {kinds}\n")
     }
 
     /// Opens the text, which is then the current one, and makes the reply. Where memory runs out
     /// the current text stays what it was.
     fn open_text(&mut self, alloc: Global, text: &[u8]) -> Result<String, AllocError>
-        requires can { CanOpen C.ROOM self.old.language.grammar }
+        requires can { CanOpen C.ROOM self.old.language }
         requires few { self.old.texts < 2 ^ 61 }
         requires ascii { IsAscii text.now }
         requires short { length text.now ≤ 4096 }
@@ -112,16 +111,16 @@ impl<C: Cell> Session<C> {
         Ok(line)
     }
 
-    /// The answer to whether the constituent is derived in the current text.
-    fn answer(&self, alloc: Global, constituent: &Constituent<&[u8]>) -> Result<String, AllocError>
-        requires can { CanOpen C.ROOM self.now.language.grammar }
+    /// The answer to the query, asked of the current text.
+    fn answer(&self, alloc: Global, query: &Query<'_>) -> Result<String, AllocError>
+        requires can { CanOpen C.ROOM self.now.language }
         requires is_open { IsTrue (is_open self.now) }
         ensures { (state : State) → IsIn self.now state
-            → IfOk result (λ line. IsReply self.now.language.grammar state
-            (ask (has (meant constituent.now))) (string_bytes line)) }
+            → IfOk result (λ line. IsReply self.now.language state
+            (ask (query_of query.now)) (string_bytes line)) }
     {
         match &self.current {
-            Some(version) => answer_to(alloc, &self.language, &version.chart, constituent),
+            Some(version) => answer_to(alloc, &self.language, &version.chart, query),
             None => unreachable!(),
         }
     }
@@ -133,11 +132,11 @@ impl<C: Cell> Session<C> {
         alloc: Global,
         command: Command<'_>,
     ) -> Result<String, AllocError>
-        requires can_open { CanOpen C.ROOM self.old.language.grammar }
+        requires can_open { CanOpen C.ROOM self.old.language }
         requires can_reply { CanReply self.old command }
         requires few { self.old.texts < 2 ^ 61 }
         ensures ok { (state : State) (meaning : ScriptCommand) → IsIn self.old state
-            → IsCommand command meaning
+            → IsCommand command.entry meaning
             → IfOk result (λ line. RepliesTo state meaning (string_bytes line) self.new) }
         ensures err { IsErr result → self.new ≡ self.old }
         ensures language { self.new.language ≡ self.old.language }
@@ -145,7 +144,7 @@ impl<C: Cell> Session<C> {
     {
         match command {
             Command::Open(text) => self.open_text(alloc, text.as_slice()),
-            Command::Ask(Query::Has(constituent)) => self.answer(alloc, &constituent),
+            Command::Ask(query) => self.answer(alloc, &query),
             Command::End => unreachable!(),
         }
     }

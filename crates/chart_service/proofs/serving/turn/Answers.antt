@@ -1,0 +1,100 @@
+-- One command of a session: a reply is said, the session ends, or it stops here.
+use Rattle.std.proofs.Common.{◌≡◌, ℕ, List, Option, true, refl, subst}
+use Rattle.cyk_io.specs.Streams.{coming}
+use Rattle.spec_script.specs.Script.{with_grammar}
+use Rattle.spec_session.specs.Runs.{commands_of, state_after}
+use Rattle.spec_session.specs.Steps.{no_texts}
+use Rattle.script_reader.specs.Reading.{TakesCommand}
+use Rattle.script_reader.specs.declared.command.Command.{Command}
+use Rattle.script_reader.specs.declared.stop.Stop.TheVariants.{Fault}
+use Rattle.chart_service.specs.declared.ending.EarlyEnd.TheVariants.{Stopped}
+use Rattle.cyk_io.specs.declared.fault.IoFault.TheVariants.{Write}
+use Rattle.chart_service.specs.Sessions.{is_open}
+use Rattle.chart_service.specs.Progress.{EndsEarly}
+use Rattle.chart_service.proofs.ToldLemmas.{err_given, other_error}
+use Rattle.chart_service.proofs.RunningLemmas.{cut_running, running_on, running_stops, running_ends}
+use Rattle.chart_service.proofs.RunningLemmas.{running_said, cut_reply, command_read}
+use Rattle.chart_service.proofs.RunningLemmas.{reads_only, some_script, not_end}
+use Rattle.chart_service.proofs.serving.turn.Goals as goal
+
+pub returns-in_err-flush_unless-clause-err : goal.returns-in_err-flush_unless-clause-err
+returns-in_err-flush_unless-clause-err g c input before r =
+    let comes : Option (List ℕ) = coming c.args.ahead.now (g.S.Source.left c.args.source.now) in
+    err_given (EndsEarly input before (g.K.Sink.written c.flush_unless.new.sink) c.flush_unless.new.self)
+    (Stopped (Fault c.in_err-flush_unless.field-0.0)) c.from_residual.result c.from_residual.ensures.1
+    (cut_running input before comes c.args.ahead.now.offset (g.K.Sink.written c.args.sink.now)
+    c.args.replies.now c.args.session.now r (g.K.Sink.written c.flush_unless.new.sink)
+    c.in_err-flush_unless.ensures.err)
+
+pub returns-in_err-command-clause-err : goal.returns-in_err-command-clause-err
+returns-in_err-command-clause-err g c input before r =
+    let comes : Option (List ℕ) = coming c.args.ahead.now (g.S.Source.left c.args.source.now) in
+    let on = running_on input before comes c.args.ahead.now.offset (g.K.Sink.written c.args.sink.now)
+    c.args.replies.now c.args.session.now r (g.K.Sink.written c.flush_unless.new.sink)
+    c.flush_unless.new.self c.in_ok-flush_unless.ensures.ok in
+    err_given (EndsEarly input before (g.K.Sink.written c.flush_unless.new.sink) c.flush_unless.new.self)
+    (Stopped c.in_err-command.field-0.0) c.from_residual-in_err-command.result
+    c.from_residual-in_err-command.ensures.1
+    (running_stops input before comes c.args.ahead.now.offset (g.K.Sink.written c.flush_unless.new.sink)
+    c.flush_unless.new.self c.args.session.now on c.in_err-command.field-0.0
+    (rw c.is_open-2.ensures at c.in_err-command.ensures.err
+    (with_grammar on.block (commands_of on.steps)) on.tells_open))
+
+pub returns-in_err-command-clause-write : goal.returns-in_err-command-clause-write
+returns-in_err-command-clause-write g c =
+    let script = some_script c.is_open-2.result in
+    let comes : Option (List ℕ) = coming c.args.ahead.now (g.S.Source.left c.args.source.now) in
+    let never = reads_only script.0 c.args.ahead.now.offset comes c.in_err-command.field-0.0
+    (c.in_err-command.ensures.err script.0 script.1) in
+    record {
+      later = c.in_ok-flush_unless.ensures.cause.later;
+      cause = λ e. absurd (other_error c.from_residual-in_err-command.result (Stopped c.in_err-command.field-0.0)
+          (Stopped (Fault Write)) c.from_residual-in_err-command.ensures.1 (λ same. never (let e = same in cc)) e);
+    }
+
+pub returns-then-is_end-clause-ok : goal.returns-then-is_end-clause-ok
+returns-then-is_end-clause-ok g c input before r =
+    let comes : Option (List ℕ) = coming c.args.ahead.now (g.S.Source.left c.args.source.now) in
+    let next : Option (List ℕ) = coming c.read_command.new.ahead (g.S.Source.left c.read_command.new.source) in
+    let from : ℕ = c.args.ahead.now.offset in
+    let to : ℕ = c.read_command.new.ahead.offset in
+    let on = running_on input before comes c.args.ahead.now.offset (g.K.Sink.written c.args.sink.now)
+    c.args.replies.now c.args.session.now r (g.K.Sink.written c.flush_unless.new.sink)
+    c.flush_unless.new.self c.in_ok-flush_unless.ensures.ok in
+    running_ends input before comes from (g.K.Sink.written c.flush_unless.new.sink) c.flush_unless.new.self
+    c.args.session.now on to next
+    (subst (λ (x : Command). TakesCommand (is_open c.args.session.now) from to comes next x)
+    (c.is_end.ensures.0 c.if-is_end.true) (rw c.is_open-2.ensures at c.in_ok-command.ensures.ok))
+
+pub returns-in_err-say-clause-err : goal.returns-in_err-say-clause-err
+returns-in_err-say-clause-err g c input before r =
+    let comes : Option (List ℕ) = coming c.args.ahead.now (g.S.Source.left c.args.source.now) in
+    let next : Option (List ℕ) = coming c.read_command.new.ahead (g.S.Source.left c.read_command.new.source) in
+    let on = running_on input before comes c.args.ahead.now.offset (g.K.Sink.written c.args.sink.now)
+    c.args.replies.now c.args.session.now r (g.K.Sink.written c.flush_unless.new.sink)
+    c.flush_unless.new.self c.in_ok-flush_unless.ensures.ok in
+    let read = command_read c.in_ok-command.command (not_end c.is_end.result c.is_end.ensures.1 c.if-is_end.false) in
+    err_given (EndsEarly input before (g.K.Sink.written c.say.new.sink) c.say.new.self)
+    (Stopped (Fault c.in_err-say.field-0.0)) c.from_residual-in_err-say.result
+    c.from_residual-in_err-say.ensures.1
+    (cut_reply input before comes c.args.ahead.now.offset (g.K.Sink.written c.flush_unless.new.sink)
+    c.flush_unless.new.self c.args.session.now on c.in_ok-command.command c.read_command.new.ahead.offset next
+    (rw c.is_open-2.ensures at c.in_ok-command.ensures.ok) read.0 read.1 c.reply.new.self
+    c.reply.ensures.language c.reply.result
+    (c.reply.ensures.ok (state_after no_texts on.steps) read.0 on.is_in read.1)
+    (g.K.Sink.written c.say.new.sink) c.in_err-say.ensures.err)
+
+pub returns-clause-ok : goal.returns-clause-ok
+returns-clause-ok g c input before r =
+    let comes : Option (List ℕ) = coming c.args.ahead.now (g.S.Source.left c.args.source.now) in
+    let next : Option (List ℕ) = coming c.read_command.new.ahead (g.S.Source.left c.read_command.new.source) in
+    let on = running_on input before comes c.args.ahead.now.offset (g.K.Sink.written c.args.sink.now)
+    c.args.replies.now c.args.session.now r (g.K.Sink.written c.flush_unless.new.sink)
+    c.flush_unless.new.self c.in_ok-flush_unless.ensures.ok in
+    let read = command_read c.in_ok-command.command (not_end c.is_end.result c.is_end.ensures.1 c.if-is_end.false) in
+    running_said input before comes c.args.ahead.now.offset (g.K.Sink.written c.flush_unless.new.sink)
+    c.flush_unless.new.self c.args.session.now on c.in_ok-command.command c.read_command.new.ahead.offset next
+    (rw c.is_open-2.ensures at c.in_ok-command.ensures.ok) read.0 read.1 c.reply.new.self
+    c.reply.ensures.language c.reply.result
+    (c.reply.ensures.ok (state_after no_texts on.steps) read.0 on.is_in read.1)
+    (g.K.Sink.written c.say.new.sink) c.say.new.self c.in_ok-say.ensures.ok
