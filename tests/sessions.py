@@ -574,6 +574,48 @@ case('refused: the input ends behind a cyclic grammar', with_grammar(b'A. S ::= 
 case('refused: a break behind a cyclic grammar has no effect', with_grammar(b'A. S ::= S ;', b'hass S\n'), cyclic(b'S'), 2)
 case('refused: a break behind the grammar has no effect', with_grammar(b'A. S ::= S T ;', b'hass S\n'), unknown(b'T', 0), 2)
 
+# ---- More questions on small grammars.
+
+for name, more, replies, status in [
+    ('a break behind the entry and a category', b'has\nhas S\nhas S \nend\n', b'yes\nyes\nscript refused 75\n', 3),
+    ("a question's word for a category over the whole text", b'has has\nend\n', b'refused category\nend\n', 0),
+    ('a span that ends behind the text', b'has S 0 3\nend\n', b'refused span 2\nend\n', 0),
+]:
+    case(name, HGO + more, OPENED + replies, status)
+
+for name, more, replies in [
+    ('an empty text with questions', b'open 0\n\nhas\nhas S\nhas T\nhas S 0 0\nhas S 0 1\nend\n',
+     b'version 0 tokens 0\nno\nno\nrefused category\nno\nrefused span 0\nend\n'),
+    ('a text of one LF', b'open 1\n\n\nhas\nhas S 0 0\nend\n', b'version 0 tokens 0\nno\nno\nend\n'),
+    ('words side by side', b'open 3\naaa\nhas\nhas S\nhas S 0 3\nend\n', b'version 0 tokens 3\nyes\nyes\nyes\nend\n'),
+    ('a stray byte between words', b'open 3\na?a\nhas\nhas S\nhas S 0 1\nhas S 1 2\nhas S 0 3\nhas S 2 3\nend\n',
+     b'version 0 tokens 3\nno\nno\nyes\nno\nno\nyes\nend\n'),
+]:
+    case(name, HG + more, RULES + replies, 0)
+
+PAIR = b'Pair. S ::= A B ; NoA. A ::= ; NoB. B ::= ; OneA. A ::= "a" ;'
+PAIR_RULES = b'grammar rules 4 categories 3 kinds 1\nversion 0 tokens 1\n'
+NO_RULES = b'grammar rules 0 categories 0 kinds 0\nversion 0 tokens 1\n'
+for name, grammar, more, replies in [
+    ('a grammar without rules has no entry', b'', b'open 1\na\nhas\nhas S\nhas S 0 9\nend\n',
+     NO_RULES + b'refused category\n' * 3 + b'end\n'),
+    ('a grammar without rules has no empty span', b'', b'open 1\na\nhas S 0 0\nhas S 1 1\nhas\nend\n',
+     NO_RULES + b'refused category\n' * 3 + b'end\n'),
+    ('a chain of three categories', b'A. S ::= T ; B. T ::= U ; C. U ::= "u" ;',
+     b'open 1\nu\nhas\nhas T\nhas U\nhas S 0 0\nhas U 1 1\nend\n',
+     b'grammar rules 3 categories 3 kinds 1\nversion 0 tokens 1\nyes\nyes\nyes\nno\nno\nend\n'),
+    ('brackets eight deep', b'W. S ::= "(" S ")" ; E. S ::= ;',
+     b'open 16\n(((((((())))))))\nhas\nhas S 1 15\nhas S 7 9\nhas S 8 8\nhas S 0 15\nhas S 1 16\nhas S 6 9\nend\n',
+     b'grammar rules 2 categories 1 kinds 2\nversion 0 tokens 16\nyes\nyes\nyes\nyes\nno\nno\nno\nend\n'),
+    ('two categories that derive the empty span', PAIR,
+     b'open 1\na\nhas S 0 0\nhas B\nhas S 0 2\nhas T 0 0\nhas S\nhas S 1 1\nhas\nhas A\nhas A 0 0\nhas B 1 1\nhas B 0 1\nend\n',
+     PAIR_RULES + b'yes\nno\nrefused span 1\nrefused category\nyes\nyes\nyes\nyes\nyes\nyes\nno\nend\n'),
+    ('a span in each wrong way', PAIR,
+     b'open 1\na\nhas S 1 0\nhas S 0 2\nhas S 2 2\nhas S 2 1\nhas S 3 2\nhas T 2 1\nend\n',
+     PAIR_RULES + b'refused span 1\n' * 5 + b'refused category\nend\n'),
+]:
+    case(name, with_grammar(grammar, more), replies, 0)
+
 # ---- Grammar files by their lines, and questions on some of them.
 
 for file, line in grammar_files.ROWS:

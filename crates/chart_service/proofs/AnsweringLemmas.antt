@@ -12,10 +12,13 @@ use Rattle.binary_form.specs.Symbols.{BinarySymbol, plain, BinaryDerives, symbol
 use Rattle.binary_form.specs.BinaryForm.{IsNumberOf, IsNullableNumber}
 use Rattle.binary_form.proofs.NumberLemmas.{number_is_one}
 use Rattle.valiant.specs.Charts.{ChartValue}
-use Rattle.spec_script.specs.Script.{Constituent}
+use Rattle.std.proofs.Common.{Result, Ok, Err, IfOk, String, string_bytes}
+use Rattle.std.specs.declared.alloc.Global.{Global}
+use Rattle.spec_script.specs.Script.{Constituent, Query}
 use Rattle.spec_script.specs.declared.question.Constituent.TheVariants.{EntryWhole, CategoryWhole, CategorySpan}
-use Rattle.spec_session.specs.Answers.{IsOfCategory, first_of, end_of, IsWithin, IsHasAnswer, yes_line, no_line, yes, no}
-use Rattle.chart_service.specs.Opening.{HasNamesAndWords, IsOpened}
+use Rattle.spec_session.specs.Answers.{IsAnswer, IsOfCategory, first_of, end_of, IsWithin, IsHasAnswer, yes_line, no_line, yes, no}
+use Rattle.chart_service.specs.Languages.{HasNamesAndWords}
+use Rattle.chart_service.specs.Sessions.{IsOpened}
 
 module _ (g : Grammar) (chart : ChartValue) (text : List ℕ) (tokens : List Token)
     (o : IsOpened g chart text tokens) (category : ℕ) (own : category < length g.categories)
@@ -98,9 +101,16 @@ module _ (g : Grammar) (chart : ChartValue) (text : List ℕ) (tokens : List Tok
       IsHasAnswer g tokens constituent no_line
   answer_no never =
       no (category, is) within
-      (λ d. let same : d.category ≡ category = one_category g constituent d.category category o.distinct d.is_category is in
+      (λ d. let same : d.category ≡ category = one_category g constituent d.category category o.names d.is_category is in
       never (subst (λ i. DerivesSpan i end) (sym first_is)
       (subst (DerivesSpan (first_of constituent)) (sym ends)
       (subst (λ c. Derives g.rules (kinds_of tokens) (Category c) (first_of constituent) (end_of (length tokens) constituent))
       same d.derives))))
       refl
+
+-- a line that is that of an answer answers
+pub line_answers : {E : Type 0} → (g : Grammar) (tokens : List Token) (query : Query) (line : List ℕ)
+    → IsAnswer g tokens query line → (r : Result (String Global) E)
+    → IfOk r (λ text. string_bytes text ≡ line) → IfOk r (λ text. IsAnswer g tokens query (string_bytes text))
+line_answers g tokens query line a (Ok text) h = subst (IsAnswer g tokens query) (sym h) a
+line_answers g tokens query line a (Err e) h = h

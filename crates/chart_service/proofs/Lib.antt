@@ -1,4 +1,7 @@
-pub mod OpeningLemmas
+pub mod LanguageLemmas
 pub mod AnsweringLemmas
-pub mod ProgressLemmas
-pub mod BeginningLemmas
+pub mod RepliesLemmas
+pub mod SessionLemmas
+pub mod ToldLemmas
+pub mod RunLemmas
+pub mod RunningLemmas

@@ -1,6 +1,7 @@
 pub mod Serving
 pub mod Statuses
-pub mod Writing
-pub mod Opening
+pub mod Replies
+pub mod Languages
 pub mod Answering
+pub mod Sessions
 pub mod Progress

@@ -1,54 +1,96 @@
 -- Serves the proofs alone: how far a session has come, and how it ended.
-use Rattle.std.specs.Prelude.{◌≡◌, ℕ, ◌⊎◌, List, ◌∷◌, ◌++◌, length, Option, Some, None}
-use Rattle.std.specs.Prelude.{Result, Ok, Err}
-use Rattle.spec_lexing.specs.declared.token.Token.{Token}
-use Rattle.spec_script.specs.Script.{Command, opens, with_grammar, AreQuestions}
-use Rattle.spec_script.specs.Script.{BeginsWithScript}
+use Rattle.std.specs.Prelude.{◌≡◌, ℕ, ◌⊎◌, List, [], ◌++◌, Option, Some, Bool, true, false}
+use Rattle.std.specs.Prelude.{IsFalse}
+use Rattle.spec_grammar.specs.Grammars.{Grammar}
+use Rattle.spec_script.specs.Script.{with_grammar, BeginsWithScript, ended, broken}
 use Rattle.spec_session.specs.GrammarReplies.{IsAccepted, grammar_reply}
-use Rattle.spec_session.specs.Steps.{no_texts, with_text, version_reply}
-use Rattle.spec_session.specs.Runs.{AreReplies}
-use Rattle.spec_session.specs.Sessions.{serve_mode, IsSession}
-use Rattle.chart_service.specs.declared.opening.Opened.{Opened}
+use Rattle.spec_session.specs.Steps.{no_texts, Step}
+use Rattle.spec_session.specs.Runs.{IsRun, commands_of, replies_of, state_after}
+use Rattle.spec_session.specs.Sessions.{serve_mode, IsSession, last_line}
+use Rattle.script_reader.specs.declared.stop.Stop.TheVariants.{Breaks, Fault}
+use Rattle.script_reader.specs.Reading.{TellsOpen}
+use Rattle.chart_service.specs.declared.ending.EarlyEnd.{EarlyEnd}
+use Rattle.chart_service.specs.declared.ending.EarlyEnd.TheVariants.{Refused, Stopped}
+use Rattle.chart_service.specs.declared.session.Session.{Session}
 use Rattle.chart_service.specs.declared.status.Status.{Status}
-use Rattle.chart_service.specs.Statuses.{number_of}
-use Rattle.chart_service.specs.Serving.{IsFaultStatus, IsPrefixOfSession}
-use Rattle.chart_service.specs.Opening.{IsOpened}
+use Rattle.chart_service.specs.Statuses.{number_of, IsFault}
+use Rattle.chart_service.specs.Serving.{IsPrefixOfSession}
+use Rattle.chart_service.specs.Languages.{CanOpen, IsRefusal}
+use Rattle.chart_service.specs.Sessions.{IsIn, is_open}
 
--- the script so far is a grammar that was accepted, a text and questions, what comes stands behind
--- it, and the replies to it were written
-pub record Running (input before : List ℕ) (coming : Option (List ℕ)) (at : ℕ)
-    (now : Option (List ℕ)) (opened : Opened) : Type 0 where
+-- what was told is what was written behind `before`, and then what is gathered
+abbrev pub IsTold : List ℕ → Option (List ℕ) → List ℕ → List ℕ → Type 0
+IsTold before now gathered told =
+    (out : List ℕ) × (now ≡ Some (before ++ out)) × (told ≡ out ++ gathered)
+
+-- the script so far is a grammar that was accepted and the commands of a run, what comes stands
+-- behind it, the session is in the state that they left, and the replies to them were told
+pub record Running {C : Type 0} (input before : List ℕ) (coming : Option (List ℕ)) (at : ℕ)
+    (now : Option (List ℕ)) (gathered : List ℕ) (session : Session C) : Type 0 where
   pub block : List ℕ
-  pub text : List ℕ
-  pub tokens : List Token
-  pub questions : List Command
-  pub replies : List ℕ
+  pub steps : List Step
   pub rest : List ℕ
   pub comes : coming ≡ Some rest
-  pub are_questions : AreQuestions questions
-  pub begins : BeginsWithScript input (with_grammar block (opens text ∷ questions)) at rest
-  pub accepted : IsAccepted block opened.language.grammar
-  pub is_opened : IsOpened opened.language.grammar opened.chart text tokens
-  pub are_replies : AreReplies opened.language.grammar (with_text no_texts text) questions
-      replies
-  pub has_written : now ≡ Some (before
-      ++ (grammar_reply opened.language.grammar ++ (version_reply 0 (length tokens) ++ replies)))
+  pub begins : BeginsWithScript input (with_grammar block (commands_of steps)) at rest
+  pub accepted : IsAccepted block session.language
+  pub is_run : IsRun session.language no_texts steps
+  pub tells_open : TellsOpen (with_grammar block (commands_of steps)) (is_open session)
+  pub is_in : IsIn session (state_after no_texts steps)
+  pub is_told : IsTold before now gathered
+      (grammar_reply session.language ++ replies_of steps)
+
+-- of the session a prefix was written
+abbrev pub IsCutShort : List ℕ → List ℕ → Option (List ℕ) → Type 0
+IsCutShort input before now =
+    (out : List ℕ) × (now ≡ Some (before ++ out)) × IsPrefixOfSession input out
+
+-- all of the session was told but its last line, which is one of these, and its status is this
+pub record LacksLast (input before : List ℕ) (now : Option (List ℕ)) (gathered : List ℕ)
+    (IsLast : List ℕ → Type 0) (status : ℕ) : Type 0 where
+  pub told : List ℕ
+  pub is_told : IsTold before now gathered told
+  pub is_prefix : IsPrefixOfSession input told
+  pub last : (line : List ℕ) → IsLast line → IsSession serve_mode input (told ++ line) status
+
+-- the line `end` was read
+abbrev pub HasEnded : List ℕ → List ℕ → Option (List ℕ) → List ℕ → Type 0
+HasEnded input before now gathered =
+    LacksLast input before now gathered (λ line. line ≡ last_line ended) 0
+
+-- the session ends early, for this reason
+abbrev pub EndsEarly : List ℕ → List ℕ → Option (List ℕ) → List ℕ → EarlyEnd → Type 0
+EndsEarly input before now gathered (Refused fault) =
+    LacksLast input before now gathered (IsRefusal fault) 2
+EndsEarly input before now gathered (Stopped (Breaks at)) =
+    LacksLast input before now gathered (λ line. line ≡ last_line (broken at)) 3
+EndsEarly input before now gathered (Stopped (Fault fault)) = IsCutShort input before now
 
 -- the session was ended with this status: all of it was written, or a fault left a prefix
 abbrev pub Ends : List ℕ → List ℕ → Option (List ℕ) → Status → Type 0
 Ends input before now status =
     (out : List ℕ) × (now ≡ Some (before ++ out))
     × (IsSession serve_mode input out (number_of status)
-    ⊎ (IsFaultStatus (number_of status) × IsPrefixOfSession input out))
+    ⊎ (IsFault status × IsPrefixOfSession input out))
 
--- a text was opened, or the session was ended before
-abbrev pub Begun : List ℕ → List ℕ → Option (List ℕ) → ℕ → Option (List ℕ)
-    → Result Opened Status → Type 0
-Begun input before coming at now (Ok opened) = Running input before coming at now opened
-Begun input before coming at now (Err status) = Ends input before now status
+-- the session goes on, or the line `end` was read
+abbrev pub GoesOnOrHasEnded : {C : Type 0} → List ℕ → List ℕ → Option (List ℕ) → ℕ
+    → Option (List ℕ) → List ℕ → Session C → Bool → Type 0
+GoesOnOrHasEnded input before coming at now gathered session true =
+    Running input before coming at now gathered session
+GoesOnOrHasEnded input before coming at now gathered session false =
+    HasEnded input before now gathered
 
--- the session goes on, or was ended with this status
-abbrev pub GoesOnOrEnds : List ℕ → List ℕ → Option (List ℕ) → ℕ → Option (List ℕ) → Opened
-    → Option Status → Type 0
-GoesOnOrEnds input before coming at now opened None = Running input before coming at now opened
-GoesOnOrEnds input before coming at now opened (Some status) = Ends input before now status
+-- the header and a grammar were read, which was accepted as this one
+pub record HasAccepted (input : List ℕ) (coming : Option (List ℕ)) (at : ℕ) (g : Grammar)
+    : Type 0 where
+  pub block : List ℕ
+  pub accepted : IsAccepted block g
+  pub rest : List ℕ
+  pub comes : coming ≡ Some rest
+  pub begins : BeginsWithScript input (with_grammar block []) at rest
+
+-- no text was opened in the session yet, and texts can be
+pub record IsFresh {C : Type 0} (room : ℕ) (session : Session C) : Type 0 where
+  pub can : CanOpen room session.language
+  pub is_in : IsIn session no_texts
+  pub closed : IsFalse (is_open session)

@@ -6,6 +6,7 @@ use Rattle.chart_service.specs.declared.status.Status.{Status}
 use Rattle.chart_service.specs.declared.status.Status.TheVariants.{Ended, BadGrammar}
 use Rattle.chart_service.specs.declared.status.Status.TheVariants.{BadScript, ReadFault, WriteFault}
 use Rattle.chart_service.specs.declared.status.Status.TheVariants.{OutOfMemory}
+use Rattle.chart_service.specs.Serving.{IsFaultStatus}
 
 -- the exit status
 abbrev pub number_of : Status → ℕ
@@ -22,11 +23,6 @@ status_at Read = ReadFault
 status_at Write = WriteFault
 status_at Memory = OutOfMemory
 
--- a status that a failed write may end with
-abbrev pub IsWriteStop : Status → Type 0
-IsWriteStop Ended = ⊥
-IsWriteStop BadGrammar = ⊥
-IsWriteStop BadScript = ⊥
-IsWriteStop ReadFault = ⊥
-IsWriteStop WriteFault = Unit {0}
-IsWriteStop OutOfMemory = Unit {0}
+-- the status is that of a fault
+abbrev pub IsFault : Status → Type 0
+IsFault status = IsFaultStatus (number_of status)

@@ -1,32 +1,29 @@
 //! Answers to questions about the spans of a text that is open.
-ghost use Rattle.std.specs.Prelude.{◌≡◌, ◌<◌, ◌≤◌, ◌↔◌, ℕ, List, length};
-ghost use Rattle.std.specs.Prelude.{IsTrue, IsErrOf, IfOk, IfErr, IfSome, OnOk, OnErr, MatchOption};
+ghost use Rattle.std.specs.Prelude.{◌≡◌, ◌<◌, ◌≤◌, ◌↔◌, ℕ, List, length, IsTrue, IfOk, IfSome};
+ghost use Rattle.std.specs.Prelude.{MatchOption, string_bytes};
 ghost use Rattle.spec_grammar.specs.Grammars.{IsSymbolOf};
-ghost use Rattle.std.specs.Prelude.{string_bytes};
-ghost use Rattle.cyk_io.specs.Causes.{HasCause};
-ghost use Rattle.cyk_io.specs.Streams.{Grows, GrowsByPrefix};
 ghost use Rattle.spec_grammar.specs.declared.rule.Symbol.TheVariants.{Category};
 ghost use Rattle.spec_grammar.specs.Derivation.{Derives};
 ghost use Rattle.spec_lexing.specs.declared.token.Token.{Token};
 ghost use Rattle.spec_lexing.specs.Tokens.{kinds_of};
-ghost use Rattle.spec_session.specs.Answers.{IsOfCategory, HasCategory, first_of, end_of, IsAnswer};
-ghost use Rattle.chart_service.specs.Statuses.{IsWriteStop};
-ghost use Rattle.chart_service.specs.Opening.{IsOpened};
 ghost use Rattle.spec_script.specs.Script.{has};
-ghost use Rattle.script_reader.specs.Forms.{meant};
+ghost use Rattle.spec_session.specs.Answers.{IsOfCategory, HasCategory, first_of, end_of, IsAnswer};
+ghost use Rattle.script_reader.specs.Forms.{meant, query_of};
+ghost use Rattle.chart_service.specs.Languages.{CanOpen};
+ghost use Rattle.chart_service.specs.Sessions.{IsOpened};
 ghost use Rattle.chart_service.specs.Answering.{FindsSymbol, answer_line};
 
-use crate::opening::Opened;
-use crate::status::Status;
-use crate::writing::say;
-use cyk_io::Sink;
+use crate::language::Language;
+use cell_sets::Cell;
 use lbnf_grammar::{Grammar, Symbol};
+use script_reader::Query;
 use spec_script::Constituent;
 use std::alloc::{AllocError, Global};
+use valiant::Chart;
 
 /// The answer to whether a category derives a span.
 #[derive(Clone, Copy, Debug, PartialEq, Eq)]
-pub(crate) enum Answer {
+enum Answer {
     /// No category has the name, or there is no entry.
     UnknownCategory,
     /// The span is none of the text's, which has so many tokens.
@@ -64,21 +61,28 @@ fn category_of(grammar: &Grammar, constituent: &Constituent<&[u8]>) -> Option<u1
 
 /// Whether the category derives the span: a span that is not empty by its entry in the chart, an
 /// empty one where the category is nullable.
-fn is_derived(opened: &Opened, category: u16, first: u32, end: u32) -> bool
-    requires own { category < length opened.now.language.grammar.categories }
+fn is_derived<C: Cell>(
+    language: &Language<C>,
+    chart: &Chart<C>,
+    category: u16,
+    first: u32,
+    end: u32,
+) -> bool
+    requires can { CanOpen C.ROOM language.now }
+    requires own { category < length language.now.categories }
     requires order { first ≤ end }
-    requires within { end ≤ length opened.now.chart.kinds }
+    requires within { end ≤ length chart.now.kinds }
     ensures { (text : List ℕ) (tokens : List Token)
-        → IsOpened opened.now.language.grammar opened.now.chart text tokens
+        → IsOpened language.now chart.now text tokens
         → IsTrue result
-        ↔ Derives opened.now.language.grammar.rules (kinds_of tokens)
-        (Category category) first end }
+        ↔ Derives language.now.rules (kinds_of tokens) (Category category) first end }
 {
-    let symbol = opened.language.binary.symbol_of(Symbol::Category(category));
+    let binary = language.binary();
+    let symbol = binary.symbol_of(Symbol::Category(category));
     if first < end {
-        opened.chart.has(symbol, first, end)
+        chart.has(symbol, first, end)
     } else {
-        opened.language.binary.nullable(symbol)
+        binary.nullable(symbol)
     }
 }
 
@@ -105,22 +109,27 @@ fn end_of(constituent: &Constituent<&[u8]>, tokens: u32) -> u32
 }
 
 /// The answer to whether the constituent is derived.
-pub(crate) fn answer_of(opened: &Opened, constituent: &Constituent<&[u8]>) -> Answer
+fn answer_of<C: Cell>(
+    language: &Language<C>,
+    chart: &Chart<C>,
+    constituent: &Constituent<&[u8]>,
+) -> Answer
+    requires can { CanOpen C.ROOM language.now }
     ensures { (text : List ℕ) (tokens : List Token)
-        → IsOpened opened.now.language.grammar opened.now.chart text tokens
-        → IsAnswer opened.now.language.grammar tokens (has (meant constituent.now))
+        → IsOpened language.now chart.now text tokens
+        → IsAnswer language.now tokens (has (meant constituent.now))
         (answer_line result) }
 {
-    let Some(category) = category_of(&opened.language.grammar, constituent) else {
+    let Some(category) = category_of(language.grammar(), constituent) else {
         return Answer::UnknownCategory;
     };
-    let tokens = opened.chart.len();
+    let tokens = chart.len();
     let first = first_of(constituent);
     let end = end_of(constituent, tokens);
     if end < first || tokens < end {
         return Answer::SpanOutside { tokens };
     }
-    if is_derived(opened, category, first, end) {
+    if is_derived(language, chart, category, first, end) {
         Answer::Yes
     } else {
         Answer::No
@@ -128,7 +137,7 @@ pub(crate) fn answer_of(opened: &Opened, constituent: &Constituent<&[u8]>) -> An
 }
 
 /// The line of the answer.
-fn answer_text(alloc: Global, answer: Answer) -> Result<String, AllocError>
+fn line_of(alloc: Global, answer: Answer) -> Result<String, AllocError>
     ensures { IfOk result (λ text. string_bytes text ≡ answer_line answer) }
 {
     match answer {
@@ -139,18 +148,20 @@ fn answer_text(alloc: Global, answer: Answer) -> Result<String, AllocError>
     }
 }
 
-/// Writes the line of the answer.
-pub(crate) fn say_answer<K: Sink>(alloc: Global, sink: &mut K, answer: Answer) -> Result<(), Status>
-    ensures ok { OnOk result
-        (Grows (K.written sink.old) (K.written sink.new) (answer_line answer)) }
-    ensures err { OnErr result
-        (GrowsByPrefix (K.written sink.old) (K.written sink.new) (answer_line answer)) }
-    ensures stop { IfErr result IsWriteStop }
-    ensures cause { HasCause (K.faults sink.old) (K.faults sink.new)
-        (IsErrOf result Status.WriteFault) }
+/// The line that answers the query, asked of the text of the chart.
+pub(crate) fn answer_to<C: Cell>(
+    alloc: Global,
+    language: &Language<C>,
+    chart: &Chart<C>,
+    query: &Query<'_>,
+) -> Result<String, AllocError>
+    requires can { CanOpen C.ROOM language.now }
+    ensures { (text : List ℕ) (tokens : List Token)
+        → IsOpened language.now chart.now text tokens
+        → IfOk result (λ line. IsAnswer language.now tokens
+        (query_of query.now) (string_bytes line)) }
 {
-    match answer_text(alloc, answer) {
-        Ok(text) => say(sink, text.as_bytes()),
-        Err(_) => Err(Status::OutOfMemory),
+    match query {
+        Query::Has(constituent) => line_of(alloc, answer_of(language, chart, constituent)),
     }
 }

@@ -2,15 +2,18 @@
 //! tokens.
 #![tactic(auto)]
 
+mod accepting;
 mod answering;
+mod ending;
 mod language;
-mod opening;
 mod options;
+mod refusals;
+mod replies;
 mod serving;
+mod session;
 mod status;
 #[cfg(test)]
 mod tests;
-mod writing;
 
 pub use options::Options;
 pub use serving::serve;

@@ -1,135 +1,235 @@
-//! Serving a script: each reply is written before the next line is read.
-ghost use Rattle.std.specs.Prelude.{◌≡◌, ◌+◌, ◌^◌, ◌<◌, ◌≤◌, ◌++◌, ℕ, List, Some, IsTrue, IsErrOf};
-ghost use Rattle.std.specs.Prelude.{IfNone, OnOk, OnSome};
+//! Serving a script: each reply is written before the source is read again.
+ghost use Rattle.std.specs.Prelude.{◌≡◌, ◌+◌, ◌^◌, ◌<◌, ◌≤◌, ◌↔◌, ℕ, List, [], Some, IsTrue, IsErrOf};
+ghost use Rattle.std.specs.Prelude.{IfOk, IfErr, OnOk, string_bytes};
+ghost use Rattle.spec_text.specs.declared.limits.TheConstants.{MAX_SYMBOLS};
+ghost use Rattle.spec_script.specs.Script.{ended, broken};
+ghost use Rattle.spec_session.specs.Sessions.{last_line};
 ghost use Rattle.cyk_io.specs.Causes.{HasCause};
 ghost use Rattle.cyk_io.specs.Streams.{IsAtEnd, coming};
 ghost use Rattle.chart_service.specs.Serving.{AreAllowed, WritesSession, IsStatus};
-ghost use Rattle.chart_service.specs.Progress.{Running, Ends, Begun, GoesOnOrEnds};
+ghost use Rattle.chart_service.specs.Languages.{CanOpen};
+ghost use Rattle.chart_service.specs.Progress.{Running, HasEnded, EndsEarly, Ends, HasAccepted};
+ghost use Rattle.chart_service.specs.Progress.{IsFresh, GoesOnOrHasEnded};
+ghost use Rattle.chart_service.specs.declared.ending.EarlyEnd.TheVariants.{Stopped};
+ghost use Rattle.script_reader.specs.declared.command.Command.TheVariants.{End};
+ghost use Rattle.script_reader.specs.declared.stop.Stop.TheVariants.{Fault};
 
-use crate::answering::{answer_of, say_answer};
-use crate::opening::{Opened, accept, open_text};
+use crate::accepting::language_in;
+use crate::ending::EarlyEnd;
 use crate::options::Options;
+use crate::refusals::refusal_line;
+use crate::replies::Replies;
+use crate::session::Session;
 use crate::status::Status;
-use crate::writing::{finish, refuse_script};
-use cyk_io::{Ahead, Line, Sink, Source};
-use script_reader::{
-    MAX_LINE, Question, next_line, question_of, read_grammar, read_header, read_text,
-};
-use std::alloc::Global;
+use cell_sets::{Cell, ListCell};
+use cyk_io::{Ahead, IoFault, Line, Sink, Source};
+use script_reader::{Command, Stop, read_command, read_grammar, read_header};
+use spec_text::MAX_LINE;
+use std::alloc::{AllocError, Global};
 use std::sync::ledger::Ledger;
 use step_count::Steps;
 
-/// Reads the script up to its text and writes the replies, or ends the session before.
-fn begin<S: Source, K: Sink>(
+/// Reads the header and the grammar, and accepts it.
+fn accept<S: Source, C: Cell>(
     alloc: Global,
     source: &mut S,
-    sink: &mut K,
     ahead: &mut Ahead,
     line: &mut Line<MAX_LINE>,
-) -> Result<Opened, Status>
+) -> Result<Session<C>, EarlyEnd>
+    requires room { MAX_SYMBOLS ≤ C.ROOM }
     requires start { ahead.old.offset ≡ 0 }
     requires end { IsTrue ahead.old.ended → IsAtEnd (S.left source.old) }
-    ensures ok { (input before : List ℕ) → coming ahead.old (S.left source.old) ≡ Some input
-        → K.written sink.old ≡ Some before
-        → Begun input before (coming ahead.new (S.left source.new)) ahead.new.offset
-        (K.written sink.new) result }
+    ensures ok { (input : List ℕ) → coming ahead.old (S.left source.old) ≡ Some input
+        → IfOk result (λ session. HasAccepted input (coming ahead.new (S.left source.new))
+        ahead.new.offset session.language) }
+    ensures fresh { IfOk result (IsFresh C.ROOM) }
+    ensures err { (input before : List ℕ) → coming ahead.old (S.left source.old) ≡ Some input
+        → IfErr result (EndsEarly input before (Some before) []) }
     ensures read { HasCause (S.faults source.old) (S.faults source.new)
-        (IsErrOf result Status.ReadFault) }
-    ensures write { HasCause (K.faults sink.old) (K.faults sink.new)
-        (IsErrOf result Status.WriteFault) }
+        (IsErrOf result (Stopped (Fault IoFault.Read))) }
+    ensures write { IsErrOf result (Stopped (Fault IoFault.Write)) → ⊥ }
     ensures end { IsTrue ahead.new.ended → IsAtEnd (S.left source.new) }
     ensures range { OnOk result (ahead.new.offset < 2 ^ 50) }
 {
-    let found = read_header(source, ahead, line)?;
-    if !found {
-        return Err(refuse_script(alloc, sink, 0));
-    }
-    let start = ahead.offset();
-    let Some(block) = read_grammar(alloc, source, ahead, line)? else {
-        return Err(refuse_script(alloc, sink, start));
-    };
-    let language = match accept(alloc, sink, &block) {
-        Ok(language) => language,
-        Err(status) => return Err(status),
-    };
-    let start = ahead.offset();
-    match read_text(alloc, source, ahead, line) {
-        Ok(Some(text)) => open_text(alloc, sink, language, text.as_slice()),
-        Ok(None) => Err(refuse_script(alloc, sink, start)),
-        Err(fault) => Err(Status::from(fault)),
+    read_header(source, ahead, line)?;
+    let block = read_grammar(alloc, source, ahead, line)?;
+    match language_in(alloc, &block) {
+        Ok(language) => Ok(Session::of(language)),
+        Err(fault) => Err(EarlyEnd::Refused(fault)),
     }
 }
 
-/// Answers the next line, or ends the session with a status.
-fn turn<S: Source, K: Sink>(
+/// Begins the session: accepts its grammar and replies to it.
+fn begin<S: Source, K: Sink, C: Cell>(
     alloc: Global,
     source: &mut S,
     sink: &mut K,
     ahead: &mut Ahead,
     line: &mut Line<MAX_LINE>,
-    opened: &Opened,
-) -> Option<Status>
-    requires early { ahead.old.offset < 2 ^ 61 }
+    replies: &mut Replies,
+) -> Result<Session<C>, EarlyEnd>
+    requires room { MAX_SYMBOLS ≤ C.ROOM }
+    requires start { ahead.old.offset ≡ 0 }
+    requires none { replies.old ≡ [] }
     requires end { IsTrue ahead.old.ended → IsAtEnd (S.left source.old) }
-    ensures ok { (input before : List ℕ)
-        → Running input before (coming ahead.old (S.left source.old)) ahead.old.offset
-        (K.written sink.old) opened.now
-        → GoesOnOrEnds input before (coming ahead.new (S.left source.new)) ahead.new.offset
-        (K.written sink.new) opened.now result }
+    ensures ok { (input before : List ℕ) → coming ahead.old (S.left source.old) ≡ Some input
+        → K.written sink.old ≡ Some before
+        → IfOk result (Running input before (coming ahead.new (S.left source.new))
+        ahead.new.offset (K.written sink.new) replies.new) }
+    ensures err { (input before : List ℕ) → coming ahead.old (S.left source.old) ≡ Some input
+        → K.written sink.old ≡ Some before
+        → IfErr result (EndsEarly input before (K.written sink.new) replies.new) }
+    ensures fresh { IfOk result (IsFresh C.ROOM) }
     ensures read { HasCause (S.faults source.old) (S.faults source.new)
-        (result ≡ Some Status.ReadFault) }
+        (IsErrOf result (Stopped (Fault IoFault.Read))) }
     ensures write { HasCause (K.faults sink.old) (K.faults sink.new)
-        (result ≡ Some Status.WriteFault) }
+        (IsErrOf result (Stopped (Fault IoFault.Write))) }
     ensures end { IsTrue ahead.new.ended → IsAtEnd (S.left source.new) }
-    ensures range { IfNone result
-        ((ahead.old.offset < ahead.new.offset) × (ahead.new.offset < 2 ^ 50)) }
+    ensures range { OnOk result (ahead.new.offset < 2 ^ 50) }
 {
-    let start = ahead.offset();
-    match next_line(source, ahead, line) {
-        Ok(true) => {}
-        Ok(false) => return Some(refuse_script(alloc, sink, start)),
-        Err(fault) => return Some(Status::from(fault)),
-    }
-    match question_of(line.as_bytes()) {
-        None => Some(refuse_script(alloc, sink, start)),
-        Some(Question::End) => Some(finish(sink, b"end\n".as_slice(), Status::Ended)),
-        Some(Question::Has(constituent)) => {
-            match say_answer(alloc, sink, answer_of(opened, &constituent)) {
-                Ok(()) => None,
-                Err(status) => Some(status),
-            }
-        }
-    }
+    let session: Session<C> = accept(alloc, source, ahead, line)?;
+    replies.say(sink, session.grammar_line(alloc))?;
+    Ok(session)
 }
 
-/// Answers line after line, up to the session's end.
-fn answer_all<S: Source, K: Sink>(
+/// Whether the line `end` was read.
+fn is_end(command: &Command<'_>) -> bool
+    ensures { IsTrue result ↔ (command.now ≡ End) }
+{
+    matches!(command, Command::End)
+}
+
+/// Reads the next command and replies to it. Answers false behind the line `end`. A reply waits
+/// with others while the next line is held, and is written before the source is read again.
+fn turn<S: Source, K: Sink, C: Cell>(
     alloc: Global,
     source: &mut S,
     sink: &mut K,
     ahead: &mut Ahead,
     line: &mut Line<MAX_LINE>,
-    opened: &Opened,
-) -> Status
+    replies: &mut Replies,
+    session: &mut Session<C>,
+) -> Result<bool, EarlyEnd>
+    requires can { CanOpen C.ROOM session.old.language }
+    requires few { session.old.texts ≤ ahead.old.offset }
     requires early { ahead.old.offset < 2 ^ 50 }
     requires end { IsTrue ahead.old.ended → IsAtEnd (S.left source.old) }
     ensures ok { (input before : List ℕ)
         → Running input before (coming ahead.old (S.left source.old)) ahead.old.offset
-        (K.written sink.old) opened.now
-        → Ends input before (K.written sink.new) result }
+        (K.written sink.old) replies.old session.old
+        → IfOk result (GoesOnOrHasEnded input before (coming ahead.new (S.left source.new))
+        ahead.new.offset (K.written sink.new) replies.new session.new) }
+    ensures err { (input before : List ℕ)
+        → Running input before (coming ahead.old (S.left source.old)) ahead.old.offset
+        (K.written sink.old) replies.old session.old
+        → IfErr result (EndsEarly input before (K.written sink.new) replies.new) }
     ensures read { HasCause (S.faults source.old) (S.faults source.new)
-        (result ≡ Status.ReadFault) }
-    ensures write { HasCause (K.faults sink.old) (K.faults sink.new) (result ≡ Status.WriteFault) }
+        (IsErrOf result (Stopped (Fault IoFault.Read))) }
+    ensures write { HasCause (K.faults sink.old) (K.faults sink.new)
+        (IsErrOf result (Stopped (Fault IoFault.Write))) }
+    ensures end { IsTrue ahead.new.ended → IsAtEnd (S.left source.new) }
+    ensures range { OnOk result
+        ((ahead.old.offset < ahead.new.offset) × (ahead.new.offset < 2 ^ 50)) }
+    ensures few { OnOk result (session.new.texts ≤ ahead.new.offset) }
+    ensures can { CanOpen C.ROOM session.new.language }
+{
+    // The line of a text may be held and its block not.
+    let is_held = session.is_open() && ahead.has_line();
+    replies.flush_unless(sink, is_held)?;
+    let command = read_command(alloc, source, ahead, line, session.is_open())?;
+    if is_end(&command) {
+        return Ok(false);
+    }
+    replies.say(sink, session.reply(alloc, command))?;
+    Ok(true)
+}
+
+/// Replies to command after command, up to the session's end.
+fn reply_all<S: Source, K: Sink, C: Cell>(
+    alloc: Global,
+    source: &mut S,
+    sink: &mut K,
+    ahead: &mut Ahead,
+    line: &mut Line<MAX_LINE>,
+    replies: &mut Replies,
+    session: &mut Session<C>,
+) -> Result<(), EarlyEnd>
+    requires can { CanOpen C.ROOM session.old.language }
+    requires few { session.old.texts ≤ ahead.old.offset }
+    requires early { ahead.old.offset < 2 ^ 50 }
+    requires end { IsTrue ahead.old.ended → IsAtEnd (S.left source.old) }
+    ensures ok { (input before : List ℕ)
+        → Running input before (coming ahead.old (S.left source.old)) ahead.old.offset
+        (K.written sink.old) replies.old session.old
+        → OnOk result (HasEnded input before (K.written sink.new) replies.new) }
+    ensures err { (input before : List ℕ)
+        → Running input before (coming ahead.old (S.left source.old)) ahead.old.offset
+        (K.written sink.old) replies.old session.old
+        → IfErr result (EndsEarly input before (K.written sink.new) replies.new) }
+    ensures read { HasCause (S.faults source.old) (S.faults source.new)
+        (IsErrOf result (Stopped (Fault IoFault.Read))) }
+    ensures write { HasCause (K.faults sink.old) (K.faults sink.new)
+        (IsErrOf result (Stopped (Fault IoFault.Write))) }
 {
     loop {
-        if let Some(status) = turn(alloc, source, sink, ahead, line, opened) {
-            return status;
+        let goes_on = turn(alloc, source, sink, ahead, line, replies, session)?;
+        if !goes_on {
+            return Ok(());
         }
     }
 }
 
-/// Runs the session, and answers how it ended.
-fn run<S: Source, K: Sink>(alloc: Global, source: &mut S, sink: &mut K) -> Status
+/// Runs the session up to its last line, which is still to be said.
+fn run<S: Source, K: Sink, C: Cell>(
+    alloc: Global,
+    source: &mut S,
+    sink: &mut K,
+    replies: &mut Replies,
+) -> Result<(), EarlyEnd>
+    requires room { MAX_SYMBOLS ≤ C.ROOM }
+    requires none { replies.old ≡ [] }
+    ensures ok { (input before : List ℕ) → S.left source.old ≡ Some input
+        → K.written sink.old ≡ Some before
+        → OnOk result (HasEnded input before (K.written sink.new) replies.new) }
+    ensures err { (input before : List ℕ) → S.left source.old ≡ Some input
+        → K.written sink.old ≡ Some before
+        → IfErr result (EndsEarly input before (K.written sink.new) replies.new) }
+    ensures read { HasCause (S.faults source.old) (S.faults source.new)
+        (IsErrOf result (Stopped (Fault IoFault.Read))) }
+    ensures write { HasCause (K.faults sink.old) (K.faults sink.new)
+        (IsErrOf result (Stopped (Fault IoFault.Write))) }
+{
+    let mut ahead = Ahead::new();
+    let mut line = Line::new();
+    let mut session: Session<C> = begin(alloc, source, sink, &mut ahead, &mut line, replies)?;
+    reply_all(
+        alloc,
+        source,
+        sink,
+        &mut ahead,
+        &mut line,
+        replies,
+        &mut session,
+    )
+}
+
+/// The last line behind the line `end`.
+fn end_line(alloc: Global) -> Result<String, AllocError>
+    ensures { IfOk result (λ text. string_bytes text ≡ last_line ended) }
+{
+    format!(in alloc; "end\n")
+}
+
+/// The line that refuses the script at this offset.
+fn broken_line(alloc: Global, at: u64) -> Result<String, AllocError>
+    ensures { IfOk result (λ text. string_bytes text ≡ last_line (broken at)) }
+{
+    format!(in alloc; "script refused {at}\n")
+}
+
+/// Runs the session, writes its last line, and answers how it ended.
+fn conclude<S: Source, K: Sink, C: Cell>(alloc: Global, source: &mut S, sink: &mut K) -> Status
+    requires room { MAX_SYMBOLS ≤ C.ROOM }
     ensures ok { (input before : List ℕ) → S.left source.old ≡ Some input
         → K.written sink.old ≡ Some before
         → Ends input before (K.written sink.new) result }
@@ -137,11 +237,16 @@ fn run<S: Source, K: Sink>(alloc: Global, source: &mut S, sink: &mut K) -> Statu
         (result ≡ Status.ReadFault) }
     ensures write { HasCause (K.faults sink.old) (K.faults sink.new) (result ≡ Status.WriteFault) }
 {
-    let mut ahead = Ahead::new();
-    let mut line = Line::new();
-    match begin(alloc, source, sink, &mut ahead, &mut line) {
-        Ok(opened) => answer_all(alloc, source, sink, &mut ahead, &mut line, &opened),
-        Err(status) => status,
+    let mut replies = Replies::new();
+    match run::<S, K, C>(alloc, source, sink, &mut replies) {
+        Ok(()) => replies.finish(sink, end_line(alloc), Status::Ended),
+        Err(EarlyEnd::Refused(fault)) => {
+            replies.finish(sink, refusal_line(alloc, &fault), Status::BadGrammar)
+        }
+        Err(EarlyEnd::Stopped(Stop::Breaks(at))) => {
+            replies.finish(sink, broken_line(alloc, at), Status::BadScript)
+        }
+        Err(EarlyEnd::Stopped(Stop::Fault(fault))) => Status::from(fault),
     }
 }
 
@@ -150,9 +255,9 @@ fn run<S: Source, K: Sink>(alloc: Global, source: &mut S, sink: &mut K) -> Statu
 /// broken, 4 and 5 at a fault of the source and of the sink, 6 for want of memory. `joins` is for
 /// the chart's joins; no join is counted. The options change nothing that is written.
 ///
-/// No clause says what follows. Each reply is written before the next line is read, though up to
-/// 4,096 bytes may have been read ahead by then. The chart of n tokens takes memory for at most
-/// n(n + 1) / 2 entries.
+/// No clause says what follows. Each reply is written before the source is read again; up to 4,096
+/// bytes may have been read ahead by then, and the replies to what they hold go out together. The
+/// chart of n tokens takes memory for at most n(n + 1) / 2 entries.
 pub fn serve<S: Source, K: Sink, L: Ledger>(
     alloc: Global,
     options: &Options,
@@ -168,5 +273,5 @@ pub fn serve<S: Source, K: Sink, L: Ledger>(
     ensures write { HasCause (K.faults sink.old) (K.faults sink.new) (result ≡ 5) }
     ensures cost { joins.new ≡ joins.old }
 {
-    run(alloc, source, sink).number()
+    conclude::<S, K, ListCell>(alloc, source, sink).number()
 }

@@ -1,7 +1,8 @@
 //! Bytes that were read ahead of what was asked for, and the offset of the byte that comes next. A
 //! source is read only where none of them is left, so that after a fault none is held.
 ghost use Rattle.std.specs.Prelude.{◌≡◌, ℕ, ◌+◌, ◌-◌, ◌<◌, ◌≤◌, ◌^◌, ◌↔◌, [], ◌∷◌, IsTrue, IsFalse};
-ghost use Rattle.std.specs.Prelude.{IsErr, OnOk, OnErr, MatchOption, MatchResult, drop, length};
+ghost use Rattle.std.specs.Prelude.{IsErr, OnOk, OnErr, MatchOption, MatchResult, Contains, drop};
+ghost use Rattle.std.specs.Prelude.{length};
 ghost use Rattle.cyk_io.specs.Causes.{HasCause};
 ghost use Rattle.cyk_io.specs.NextByte.{TakesNext};
 ghost use Rattle.cyk_io.specs.Streams.{IsAtEnd, Stays, coming};
@@ -62,6 +63,14 @@ impl Ahead {
         ensures fits { length self.now.held ≤ MAX_AHEAD }
     {
         self.offset
+    }
+
+    /// Whether a whole line is held, so that a line can be read without reading the source. It takes
+    /// no memory.
+    pub fn has_line(&self) -> bool
+        ensures { IsTrue result ↔ Contains self.now.held 10 }
+    {
+        self.held().contains(&b'\n')
     }
 
     pub(crate) fn held(&self) -> &[u8]

@@ -1,3 +1,4 @@
 mod FormsLemmas
 mod QuestionLemmas
-pub mod ReadingLemmas
+mod LinesAndBlocksLemmas
+mod ReadingLemmas

@@ -1,20 +1,16 @@
--- Serves the proofs alone: what a line of a script is found to be.
-use Rattle.std.specs.Prelude.{◌≡◌, ℕ, ◌^◌, ◌<◌, ◌≤◌, List, ◌∷◌, ◌++◌, length, slice_index, true}
+-- What a line of a script is found to be. Callers see `meant` and `query_of`; all else serves the
+-- proofs alone.
+use Rattle.std.specs.Prelude.{◌≡◌, ℕ, ◌^◌, ◌<◌, ◌≤◌, List, ◌∷◌, ◌++◌}
 use Rattle.std.specs.Prelude.{codes, decimal, Option, Some, None, MatchOption, Contains}
 use Rattle.std.specs.Borrow.{Bor}
-use Rattle.std.specs.List.{list_all}
-use Rattle.std.specs.Char.{is_ascii_digit}
 use Rattle.spec_script.specs.declared.question.Constituent.{Constituent as NamedBy}
 use Rattle.spec_script.specs.declared.question.Constituent.TheVariants.{EntryWhole, CategoryWhole}
 use Rattle.spec_script.specs.declared.question.Constituent.TheVariants.{CategorySpan}
-use Rattle.spec_script.specs.Script.{Constituent, constituent_text, IsNameable, has, query_line}
-use Rattle.script_reader.specs.declared.forms.Question.{Question}
-use Rattle.script_reader.specs.declared.forms.Question.TheVariants.{Has, End}
-
--- the word is digits, and no `0` stands before another
-abbrev pub HasNumberForm : List ℕ → Type 0
-HasNumberForm word =
-    (list_all is_ascii_digit word ≡ true) × ((1 < length word) × (slice_index word 0 ≡ 48) → ⊥)
+use Rattle.spec_script.specs.Script.{Constituent, constituent_text, IsNameable, Query, has, query_line}
+use Rattle.script_reader.specs.declared.command.Query.{Query as Asked}
+use Rattle.script_reader.specs.declared.command.Query.TheVariants.{Has}
+use Rattle.script_reader.specs.declared.command.Command.{Command}
+use Rattle.script_reader.specs.declared.command.Command.TheVariants.{Open, Ask, End}
 
 -- the word is the number of at most nine digits, or spells none
 abbrev pub ReadsNumber : List ℕ → Option ℕ → Type 0
@@ -45,6 +41,10 @@ meant EntryWhole = EntryWhole
 meant (CategoryWhole category) = CategoryWhole category.now
 meant (CategorySpan category first end) = CategorySpan category.now first end
 
+-- the query, with its name as the list of the slice's bytes
+abbrev pub query_of : Asked → Query
+query_of (Has constituent) = has (meant constituent)
+
 -- the bytes name the constituent
 pub record IsNameOf (bytes : List ℕ) (constituent : Constituent) : Type 0 where
   pub nameable : IsNameable constituent
@@ -65,8 +65,9 @@ abbrev pub ReadsHas : List ℕ → Option (NamedBy (Bor (List ℕ))) → Type 0
 ReadsHas line None = (constituent : Constituent) → IsHas line constituent → ⊥
 ReadsHas line (Some constituent) = IsHas line (meant constituent)
 
--- the line asks this, or is neither a question nor the line `end`
-abbrev pub ReadsQuestion : List ℕ → Option Question → Type 0
+-- the line asks this or is the line `end`, or is neither a question nor this line
+abbrev pub ReadsQuestion : List ℕ → Option Command → Type 0
 ReadsQuestion line None = (line ≡ codes "end" → ⊥) × ReadsHas line None
+ReadsQuestion line (Some (Open text)) = ⊥
+ReadsQuestion line (Some (Ask (Has constituent))) = ReadsHas line (Some constituent)
 ReadsQuestion line (Some End) = line ≡ codes "end"
-ReadsQuestion line (Some (Has constituent)) = ReadsHas line (Some constituent)

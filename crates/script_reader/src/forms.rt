@@ -1,62 +1,35 @@
 //! The forms of a script's lines. A line is told by its bytes without the LF.
-ghost use Rattle.std.specs.Prelude.{◌≡◌, ◌<◌, ◌^◌, ◌⊎◌, ◌↔◌, ◌∷◌, ◌++◌, ℕ, IsTrue, length};
-ghost use Rattle.std.specs.Prelude.{slice_index};
-ghost use Rattle.std.specs.Prelude.{option_map};
-ghost use Rattle.std.specs.List.{list_all};
-ghost use Rattle.std.specs.Char.{is_ascii_digit};
+ghost use Rattle.std.specs.Prelude.{◌≡◌, ◌<◌, ◌^◌, ◌↔◌, ◌∷◌, ◌++◌, ℕ, IsTrue, decimal, option_map};
 ghost use Rattle.cyk_io.specs.Lines.{HasNoLf};
 ghost use Rattle.spec_script.specs.Script.{AreOfWord};
-ghost use Rattle.script_reader.specs.Forms.{HasNumberForm, ReadsNumber, ReadsBehind, ReadsCount};
-ghost use Rattle.script_reader.specs.Forms.{CutsAtSpace, ReadsConstituent, ReadsHas};
-ghost use Rattle.script_reader.specs.Forms.{ReadsQuestion};
+ghost use Rattle.script_reader.specs.Forms.{ReadsNumber, ReadsBehind, ReadsCount, CutsAtSpace};
+ghost use Rattle.script_reader.specs.Forms.{ReadsConstituent, ReadsHas, ReadsQuestion};
 
+use crate::command::{Command, Query};
+use itoa::Buffer;
+use memchr::memchr;
 use spec_script::Constituent;
 
-/// What a line behind the text asks for.
-#[derive(Drop)]
-pub enum Question<'a> {
-    /// Whether the constituent is derived.
-    Has(Constituent<&'a [u8]>),
-    /// The script's end.
-    End,
-}
+/// The greatest number of nine digits.
+pub(crate) const MAX_NUMBER: u32 = 999_999_999;
 
-/// The first number that has ten digits.
-const TEN_DIGITS: u32 = 1_000_000_000;
-
-/// Whether the bytes are decimal digits alone.
-fn are_digits(word: &[u8]) -> bool
-    ensures { result ≡ list_all is_ascii_digit word.now }
+/// Whether the word is the number's, which has nine digits at most.
+fn is_spelled(word: &[u8], number: u32) -> bool
+    ensures { IsTrue result ↔ ((number < 10 ^ 9) × (word.now ≡ decimal number)) }
 {
-    word.iter().all(|byte| byte.is_ascii_digit())
-}
-
-/// Whether a `0` stands before another byte.
-fn has_leading_zero(word: &[u8]) -> bool
-    ensures { IsTrue result ↔ ((1 < length word.now) × (slice_index word.now 0 ≡ 48)) }
-{
-    word.len() > 1 && word[0] == b'0'
-}
-
-/// Whether the bytes are digits, the first of which may be `0` only where it is alone.
-fn has_number_form(word: &[u8]) -> bool
-    ensures { IsTrue result ↔ HasNumberForm word.now }
-{
-    are_digits(word) && !has_leading_zero(word)
+    let mut buffer = Buffer::new();
+    number <= MAX_NUMBER && word == buffer.format(number).as_bytes()
 }
 
 /// The number that the word spells: `0`, or one to nine digits of which the first is not `0`.
 fn number(word: &[u8]) -> Option<u32>
     ensures { ReadsNumber word.now result }
 {
-    if !has_number_form(word) {
-        return None;
-    }
     let Ok(text) = str::from_utf8(word) else {
         return None;
     };
-    match text.parse::<u32>() {
-        Ok(number) if number < TEN_DIGITS => Some(number),
+    match text.parse() {
+        Ok(number) if is_spelled(word, number) => Some(number),
         _ => None,
     }
 }
@@ -82,12 +55,8 @@ pub(crate) fn count_behind(line: &[u8], beginning: &[u8], most: u32) -> Option<u
 fn cut_at_space(bytes: &[u8]) -> Option<(&[u8], &[u8])>
     ensures { CutsAtSpace bytes.now (option_map (λ cut. (cut.0.now, cut.1.now)) result) }
 {
-    for (place, byte) in bytes.iter().enumerate() {
-        if *byte == b' ' {
-            return Some((&bytes[..place], &bytes[place + 1..]));
-        }
-    }
-    None
+    let place = memchr(b' ', bytes)?;
+    Some((&bytes[..place], &bytes[place + 1..]))
 }
 
 /// The category over the whole text, where it has a byte.
@@ -140,13 +109,13 @@ fn has_question(line: &[u8]) -> Option<Constituent<&[u8]>>
     constituent_of(behind(line, b"has".as_slice())?)
 }
 
-/// The question that the line asks, or the script's end.
-pub fn question_of(line: &[u8]) -> Option<Question<'_>>
+/// The query that the line asks, or the script's end.
+pub(crate) fn question_of(line: &[u8]) -> Option<Command<'_>>
     requires { HasNoLf line.now }
     ensures { ReadsQuestion line.now result }
 {
     if line == b"end".as_slice() {
-        return Some(Question::End);
+        return Some(Command::End);
     }
-    has_question(line).map(Question::Has)
+    has_question(line).map(|constituent| Command::Ask(Query::Has(constituent)))
 }

@@ -1,9 +1,12 @@
-//! Reading the commands of a script from a source: a line is told by its bytes, and a block by the
+//! Reading the parts of a script from a source: a line is told by its bytes, and a block by the
 //! length that its line says. Nothing is known here of what a grammar or a text means.
 #![tactic(auto)]
 
+mod command;
 mod forms;
 mod reading;
+mod stop;
 
-pub use forms::{Question, question_of};
-pub use reading::{Block, MAX_LINE, next_line, read_grammar, read_header, read_text};
+pub use command::{Block, Command, Query};
+pub use reading::{read_command, read_grammar, read_header};
+pub use stop::Stop;

@@ -1,82 +1,109 @@
-//! Reading the commands of a script from a source, one line and block at a time.
-ghost use Rattle.std.specs.Prelude.{◌≡◌, ◌+◌, ◌^◌, ◌<◌, ◌≤◌, ◌++◌, ◌∷◌, [], ℕ, List, length};
-ghost use Rattle.std.specs.Prelude.{IsTrue, IfOk, IsAscii, MatchOption, option_map};
+//! Reading a script from a source, one part at a time: its line, and the block that the line tells.
+ghost use Rattle.std.specs.Prelude.{◌≡◌, ◌+◌, ◌^◌, ◌<◌, ◌≤◌, ◌++◌, ◌∷◌, ◌↔◌, [], ℕ, List};
+ghost use Rattle.std.specs.Prelude.{IsTrue, IfOk, IfErr, OnOk, IsErrOf, MatchOption, true, false, codes};
+ghost use Rattle.cyk_io.specs.Causes.{HasCause};
 ghost use Rattle.cyk_io.specs.Streams.{IsAtEnd, coming};
-ghost use Rattle.script_reader.specs.Reading.{StopsAtRead, NextLine, NextBlock, PassesBlock};
-ghost use Rattle.script_reader.specs.Reading.{NextCount, NextHeader, NextGrammar, NextText, Finds};
+ghost use Rattle.cyk_io.specs.declared.fault.IoFault.TheVariants.{Read};
+ghost use Rattle.spec_script.specs.Script.{Script, nothing, header_alone, header, opens, of_command};
+ghost use Rattle.script_reader.specs.declared.stop.Stop.TheVariants.{Fault};
+ghost use Rattle.script_reader.specs.Reading.{TakesPart, TakesGrammar, TakesCommand, Stops};
+ghost use Rattle.script_reader.specs.Reading.{StopsBehind, TellsOpen};
+ghost use Rattle.script_reader.specs.LinesAndBlocks.{TakesLine, NoLineComes, TakesCount};
+ghost use Rattle.script_reader.specs.LinesAndBlocks.{NoCountComes, TakesBlock, NoBlockComes};
+ghost use Rattle.script_reader.specs.LinesAndBlocks.{PassesBlock, FindsBlock};
 
-use crate::forms::count_behind;
-use cyk_io::{Ahead, IoFault, Line, ReadBlock, ReadLine, Source, read_exact_n, read_line};
+use crate::command::{Block, Command};
+use crate::forms::{MAX_NUMBER, count_behind, question_of};
+use crate::stop::Stop;
+use cyk_io::{Ahead, Line, ReadBlock, ReadLine, Source, read_exact_n, read_line};
+use spec_text::{MAX_FILE, MAX_LINE, MAX_OFFSET, MAX_TEXT};
 use std::alloc::Global;
 
-/// The most bytes of a line, without its LF.
-pub const MAX_LINE: usize = 256;
-
-/// The offset below which each line of a script begins.
-const LINE_LIMIT: u64 = 1 << 48;
-
-/// The most bytes of a block. Nine digits write no greater number.
-const MAX_BLOCK: u32 = 999_999_999;
-
-/// The most bytes of a grammar that is kept.
-const MAX_GRAMMAR: u32 = 65_536;
-
-/// The most bytes of a text.
-const MAX_TEXT: u32 = 4_096;
-
-/// What is known of a block that was read.
-#[derive(Drop)]
-pub enum Block {
-    /// Its bytes.
-    Kept(Vec<u8>),
-    /// How many bytes it had, all of which were passed over.
-    TooLong(u32),
-}
-
-/// Reads the next line. There is none where it begins too late, is too long or has no LF.
-pub fn next_line<S: Source>(
+/// Reads the next line.
+fn next_line<S: Source>(
     source: &mut S,
     ahead: &mut Ahead,
     line: &mut Line<MAX_LINE>,
-) -> Result<bool, IoFault>
+) -> Result<(), Stop>
     requires early { ahead.old.offset < 2 ^ 62 }
     requires end { IsTrue ahead.old.ended → IsAtEnd (S.left source.old) }
-    ensures ok { IfOk result (NextLine ahead.old.offset ahead.new.offset
+    ensures ok { OnOk result (TakesLine ahead.old.offset ahead.new.offset
         (coming ahead.old (S.left source.old)) (coming ahead.new (S.left source.new)) line.new) }
-    ensures stop { StopsAtRead result (S.faults source.old) (S.faults source.new) }
+    ensures err { IfErr result (Stops ahead.old.offset
+        (NoLineComes ahead.old.offset (coming ahead.old (S.left source.old)))) }
+    ensures cause { HasCause (S.faults source.old) (S.faults source.new)
+        (IsErrOf result (Fault Read)) }
     ensures end { IsTrue ahead.new.ended → IsAtEnd (S.left source.new) }
     ensures range { ahead.new.offset ≤ ahead.old.offset + 257 }
 {
-    if ahead.offset() >= LINE_LIMIT {
-        return Ok(false);
+    let at = ahead.offset();
+    if at >= MAX_OFFSET {
+        return Err(Stop::Breaks(at));
     }
-    match read_line(source, ahead, line) {
-        Ok(ReadLine::Line) => Ok(true),
-        Ok(ReadLine::LongLine(_)) => Ok(false),
-        Ok(ReadLine::Ended(_)) => Ok(false),
-        Err(fault) => Err(fault),
+    match read_line(source, ahead, line)? {
+        ReadLine::Line => Ok(()),
+        ReadLine::LongLine(_) => Err(Stop::Breaks(at)),
+        ReadLine::Ended(_) => Err(Stop::Breaks(at)),
     }
 }
 
-/// Reads the line `script 1`.
+/// Whether the line is that of the header.
+fn is_header(line: &[u8]) -> bool
+    ensures { IsTrue result ↔ (line.now ≡ codes "script 1") }
+{
+    line == b"script 1".as_slice()
+}
+
+/// Reads the header, the line `script 1`. It takes no memory.
 pub fn read_header<S: Source>(
     source: &mut S,
     ahead: &mut Ahead,
     line: &mut Line<MAX_LINE>,
-) -> Result<bool, IoFault>
+) -> Result<(), Stop>
+    requires early { ahead.old.offset < 2 ^ 60 }
+    requires end { IsTrue ahead.old.ended → IsAtEnd (S.left source.old) }
+    ensures ok { OnOk result (TakesPart ahead.old.offset ahead.new.offset
+        (coming ahead.old (S.left source.old)) (coming ahead.new (S.left source.new)) header) }
+    ensures err { IfErr result (StopsBehind nothing ahead.old.offset
+        (coming ahead.old (S.left source.old))) }
+    ensures cause { HasCause (S.faults source.old) (S.faults source.new)
+        (IsErrOf result (Fault Read)) }
+    ensures end { IsTrue ahead.new.ended → IsAtEnd (S.left source.new) }
+    ensures range { OnOk result
+        ((ahead.old.offset < ahead.new.offset) × (ahead.new.offset < 2 ^ 50)) }
+{
+    let at = ahead.offset();
+    next_line(source, ahead, line)?;
+    if !is_header(line.as_bytes()) {
+        return Err(Stop::Breaks(at));
+    }
+    Ok(())
+}
+
+/// Reads a line that begins so and ends in the number of bytes of a block.
+fn read_count<S: Source>(
+    source: &mut S,
+    ahead: &mut Ahead,
+    line: &mut Line<MAX_LINE>,
+    beginning: &[u8],
+    most: u32,
+) -> Result<u32, Stop>
+    requires most { most < 10 ^ 9 }
     requires early { ahead.old.offset < 2 ^ 62 }
     requires end { IsTrue ahead.old.ended → IsAtEnd (S.left source.old) }
-    ensures ok { IfOk result (NextHeader ahead.old.offset ahead.new.offset
+    ensures ok { IfOk result (TakesCount beginning.now most ahead.old.offset ahead.new.offset
         (coming ahead.old (S.left source.old)) (coming ahead.new (S.left source.new))) }
-    ensures stop { StopsAtRead result (S.faults source.old) (S.faults source.new) }
+    ensures err { IfErr result (Stops ahead.old.offset
+        (NoCountComes beginning.now most ahead.old.offset
+        (coming ahead.old (S.left source.old)))) }
+    ensures cause { HasCause (S.faults source.old) (S.faults source.new)
+        (IsErrOf result (Fault Read)) }
     ensures end { IsTrue ahead.new.ended → IsAtEnd (S.left source.new) }
     ensures range { ahead.new.offset ≤ ahead.old.offset + 257 }
 {
-    let found = next_line(source, ahead, line)?;
-    if !found {
-        return Ok(false);
-    }
-    Ok(line.as_bytes() == b"script 1".as_slice())
+    let at = ahead.offset();
+    next_line(source, ahead, line)?;
+    count_behind(line.as_bytes(), beginning, most).ok_or(Stop::Breaks(at))
 }
 
 /// The bytes without the LF that they end in.
@@ -90,153 +117,189 @@ fn without_lf(mut bytes: Vec<u8>) -> Option<Vec<u8>>
     }
 }
 
-/// Reads and keeps a block of so many bytes, and reads its LF.
+/// Reads and keeps a block of so many bytes, and reads its LF. Its part begins at the offset `at`.
 fn keep_block<S: Source>(
     alloc: Global,
     source: &mut S,
     ahead: &mut Ahead,
     count: u32,
-) -> Result<Option<Vec<u8>>, IoFault>
+    at: u64,
+) -> Result<Vec<u8>, Stop>
     requires early { ahead.old.offset < 2 ^ 62 }
     requires end { IsTrue ahead.old.ended → IsAtEnd (S.left source.old) }
-    ensures ok { IfOk result (λ block. NextBlock count ahead.old.offset ahead.new.offset
+    ensures ok { IfOk result (λ block. TakesBlock count ahead.old.offset ahead.new.offset
         (coming ahead.old (S.left source.old)) (coming ahead.new (S.left source.new))
-        (option_map (λ b. b.items) block)) }
-    ensures stop { StopsAtRead result (S.faults source.old) (S.faults source.new) }
+        block.items) }
+    ensures err { IfErr result (Stops at
+        (NoBlockComes count (coming ahead.old (S.left source.old)))) }
+    ensures cause { HasCause (S.faults source.old) (S.faults source.new)
+        (IsErrOf result (Fault Read)) }
     ensures end { IsTrue ahead.new.ended → IsAtEnd (S.left source.new) }
 {
     let whole = u64::from(count) + 1;
     let mut bytes = Vec::new(alloc);
-    match read_exact_n(source, ahead, whole, whole, &mut bytes) {
-        Ok(ReadBlock::Kept) => Ok(without_lf(bytes)),
-        Ok(_) => Ok(None),
-        Err(fault) => Err(fault),
+    match read_exact_n(source, ahead, whole, whole, &mut bytes)? {
+        ReadBlock::Kept => without_lf(bytes).ok_or(Stop::Breaks(at)),
+        _ => Err(Stop::Breaks(at)),
     }
 }
 
-/// Passes over a block of so many bytes and its LF, and answers whether they came.
+/// Passes over a block of so many bytes and its LF. Its part begins at the offset `at`.
 fn pass_block<S: Source>(
     alloc: Global,
     source: &mut S,
     ahead: &mut Ahead,
     count: u32,
-) -> Result<bool, IoFault>
+    at: u64,
+) -> Result<(), Stop>
     requires some { 0 < count }
     requires early { ahead.old.offset < 2 ^ 61 }
     requires end { IsTrue ahead.old.ended → IsAtEnd (S.left source.old) }
-    ensures ok { IfOk result (PassesBlock count ahead.old.offset ahead.new.offset
+    ensures ok { OnOk result (PassesBlock count ahead.old.offset ahead.new.offset
         (coming ahead.old (S.left source.old)) (coming ahead.new (S.left source.new))) }
-    ensures stop { StopsAtRead result (S.faults source.old) (S.faults source.new) }
+    ensures err { IfErr result (Stops at
+        (NoBlockComes count (coming ahead.old (S.left source.old)))) }
+    ensures cause { HasCause (S.faults source.old) (S.faults source.new)
+        (IsErrOf result (Fault Read)) }
     ensures end { IsTrue ahead.new.ended → IsAtEnd (S.left source.new) }
 {
     let mut bytes = Vec::new(alloc);
-    match read_exact_n(source, ahead, u64::from(count), 0, &mut bytes) {
-        Ok(ReadBlock::Skipped) => {}
-        Ok(_) => return Ok(false),
-        Err(fault) => return Err(fault),
+    match read_exact_n(source, ahead, u64::from(count), 0, &mut bytes)? {
+        ReadBlock::Skipped => {}
+        _ => return Err(Stop::Breaks(at)),
     }
-    let behind = keep_block(alloc, source, ahead, 0)?;
-    Ok(behind.is_some())
+    keep_block(alloc, source, ahead, 0, at)?;
+    Ok(())
 }
 
-/// Reads a line that begins so and ends in the number of bytes of a block.
-fn read_count<S: Source>(
-    source: &mut S,
-    ahead: &mut Ahead,
-    line: &mut Line<MAX_LINE>,
-    beginning: &[u8],
-    most: u32,
-) -> Result<Option<u32>, IoFault>
-    requires most { most < 10 ^ 9 }
-    requires early { ahead.old.offset < 2 ^ 62 }
-    requires end { IsTrue ahead.old.ended → IsAtEnd (S.left source.old) }
-    ensures ok { IfOk result (NextCount beginning.now most ahead.old.offset ahead.new.offset
-        (coming ahead.old (S.left source.old)) (coming ahead.new (S.left source.new))) }
-    ensures stop { StopsAtRead result (S.faults source.old) (S.faults source.new) }
-    ensures end { IsTrue ahead.new.ended → IsAtEnd (S.left source.new) }
-    ensures range { ahead.new.offset ≤ ahead.old.offset + 257 }
-{
-    let found = next_line(source, ahead, line)?;
-    if !found {
-        return Ok(None);
-    }
-    Ok(count_behind(line.as_bytes(), beginning, most))
-}
-
-/// Reads a block of so many bytes and its LF. One of more than 65,536 bytes is passed over.
+/// Reads a block of so many bytes and its LF. One of more than 65,536 bytes is passed over. Its
+/// part begins at the offset `at`.
 fn read_block<S: Source>(
     alloc: Global,
     source: &mut S,
     ahead: &mut Ahead,
     count: u32,
-) -> Result<Option<Block>, IoFault>
+    at: u64,
+) -> Result<Block, Stop>
     requires early { ahead.old.offset < 2 ^ 61 }
     requires end { IsTrue ahead.old.ended → IsAtEnd (S.left source.old) }
-    ensures ok { IfOk result (Finds 65536 (NextBlock count ahead.old.offset ahead.new.offset
-        (coming ahead.old (S.left source.old)) (coming ahead.new (S.left source.new)))) }
-    ensures stop { StopsAtRead result (S.faults source.old) (S.faults source.new) }
+    ensures ok { IfOk result (FindsBlock count ahead.old.offset ahead.new.offset
+        (coming ahead.old (S.left source.old)) (coming ahead.new (S.left source.new))) }
+    ensures err { IfErr result (Stops at
+        (NoBlockComes count (coming ahead.old (S.left source.old)))) }
+    ensures cause { HasCause (S.faults source.old) (S.faults source.new)
+        (IsErrOf result (Fault Read)) }
     ensures end { IsTrue ahead.new.ended → IsAtEnd (S.left source.new) }
 {
-    if count > MAX_GRAMMAR {
-        let passed = pass_block(alloc, source, ahead, count)?;
-        return Ok(passed.then_some(Block::TooLong(count)));
+    if count as usize > MAX_FILE {
+        pass_block(alloc, source, ahead, count, at)?;
+        return Ok(Block::TooLong(count));
     }
-    let kept = keep_block(alloc, source, ahead, count)?;
-    Ok(kept.map(Block::Kept))
+    let block = keep_block(alloc, source, ahead, count, at)?;
+    Ok(Block::Kept(block))
 }
 
-/// Reads the command `grammar` with its block. One of more than 65,536 bytes is passed over.
+/// Reads the command `grammar` with its block. One of more than 65,536 bytes is passed over, which
+/// takes no memory; any other takes as much as it has bytes.
 pub fn read_grammar<S: Source>(
     alloc: Global,
     source: &mut S,
     ahead: &mut Ahead,
     line: &mut Line<MAX_LINE>,
-) -> Result<Option<Block>, IoFault>
+) -> Result<Block, Stop>
     requires early { ahead.old.offset < 2 ^ 60 }
     requires end { IsTrue ahead.old.ended → IsAtEnd (S.left source.old) }
-    ensures ok { IfOk result (Finds 65536 (NextGrammar ahead.old.offset ahead.new.offset
-        (coming ahead.old (S.left source.old)) (coming ahead.new (S.left source.new)))) }
-    ensures stop { StopsAtRead result (S.faults source.old) (S.faults source.new) }
+    ensures ok { IfOk result (TakesGrammar ahead.old.offset ahead.new.offset
+        (coming ahead.old (S.left source.old)) (coming ahead.new (S.left source.new))) }
+    ensures err { IfErr result (StopsBehind header_alone ahead.old.offset
+        (coming ahead.old (S.left source.old))) }
+    ensures cause { HasCause (S.faults source.old) (S.faults source.new)
+        (IsErrOf result (Fault Read)) }
     ensures end { IsTrue ahead.new.ended → IsAtEnd (S.left source.new) }
+    ensures range { OnOk result
+        ((ahead.old.offset < ahead.new.offset) × (ahead.new.offset < 2 ^ 50)) }
 {
-    match read_count(source, ahead, line, b"grammar ".as_slice(), MAX_BLOCK)? {
-        Some(count) => read_block(alloc, source, ahead, count),
-        None => Ok(None),
-    }
-}
-
-/// The text, where each of its bytes is below 80 (hexadecimal).
-fn only_ascii(text: Vec<u8>) -> Option<Vec<u8>>
-    ensures { MatchOption result (IsAscii text.items → ⊥)
-        (λ same. (same.items ≡ text.items) × IsAscii same.items) }
-{
-    if text.as_slice().is_ascii() {
-        Some(text)
-    } else {
-        None
-    }
+    let at = ahead.offset();
+    let count = read_count(source, ahead, line, b"grammar ".as_slice(), MAX_NUMBER)?;
+    read_block(alloc, source, ahead, count, at)
 }
 
 /// Reads the command `open` with its block.
-pub fn read_text<S: Source>(
+fn read_text<S: Source>(
     alloc: Global,
     source: &mut S,
     ahead: &mut Ahead,
     line: &mut Line<MAX_LINE>,
-) -> Result<Option<Vec<u8>>, IoFault>
+) -> Result<Vec<u8>, Stop>
     requires early { ahead.old.offset < 2 ^ 60 }
     requires end { IsTrue ahead.old.ended → IsAtEnd (S.left source.old) }
-    ensures ok { IfOk result (λ text. NextText ahead.old.offset ahead.new.offset
+    ensures ok { IfOk result (λ text. TakesPart ahead.old.offset ahead.new.offset
         (coming ahead.old (S.left source.old)) (coming ahead.new (S.left source.new))
-        (option_map (λ t. t.items) text)) }
-    ensures stop { StopsAtRead result (S.faults source.old) (S.faults source.new) }
+        (of_command (opens text.items))) }
+    ensures err { (script : Script) → TellsOpen script false
+        → IfErr result (StopsBehind script ahead.old.offset
+        (coming ahead.old (S.left source.old))) }
+    ensures cause { HasCause (S.faults source.old) (S.faults source.new)
+        (IsErrOf result (Fault Read)) }
     ensures end { IsTrue ahead.new.ended → IsAtEnd (S.left source.new) }
 {
-    let Some(count) = read_count(source, ahead, line, b"open ".as_slice(), MAX_TEXT)? else {
-        return Ok(None);
-    };
-    match keep_block(alloc, source, ahead, count)? {
-        Some(text) => Ok(only_ascii(text)),
-        None => Ok(None),
+    let at = ahead.offset();
+    let count = read_count(source, ahead, line, b"open ".as_slice(), MAX_TEXT as u32)?;
+    let text = keep_block(alloc, source, ahead, count, at)?;
+    if !text.as_slice().is_ascii() {
+        return Err(Stop::Breaks(at));
     }
+    Ok(text)
+}
+
+/// Reads a question, or the line `end`.
+fn read_question<'a, S: Source>(
+    source: &mut S,
+    ahead: &mut Ahead,
+    line: &'a mut Line<MAX_LINE>,
+) -> Result<Command<'a>, Stop>
+    requires early { ahead.old.offset < 2 ^ 60 }
+    requires end { IsTrue ahead.old.ended → IsAtEnd (S.left source.old) }
+    ensures ok { IfOk result (TakesCommand true ahead.old.offset ahead.new.offset
+        (coming ahead.old (S.left source.old)) (coming ahead.new (S.left source.new))) }
+    ensures err { (script : Script) → TellsOpen script true
+        → IfErr result (StopsBehind script ahead.old.offset
+        (coming ahead.old (S.left source.old))) }
+    ensures cause { HasCause (S.faults source.old) (S.faults source.new)
+        (IsErrOf result (Fault Read)) }
+    ensures end { IsTrue ahead.new.ended → IsAtEnd (S.left source.new) }
+{
+    let at = ahead.offset();
+    next_line(source, ahead, line)?;
+    question_of(line.as_bytes()).ok_or(Stop::Breaks(at))
+}
+
+/// Reads the next command behind a grammar: where a text is open (`is_open`) a question or the line
+/// `end`, and else a text, which is kept and takes as much memory as it has bytes. The names of a
+/// question are slices of `line`.
+pub fn read_command<'a, S: Source>(
+    alloc: Global,
+    source: &mut S,
+    ahead: &mut Ahead,
+    line: &'a mut Line<MAX_LINE>,
+    is_open: bool,
+) -> Result<Command<'a>, Stop>
+    requires early { ahead.old.offset < 2 ^ 60 }
+    requires end { IsTrue ahead.old.ended → IsAtEnd (S.left source.old) }
+    ensures ok { IfOk result (TakesCommand is_open ahead.old.offset ahead.new.offset
+        (coming ahead.old (S.left source.old)) (coming ahead.new (S.left source.new))) }
+    ensures err { (script : Script) → TellsOpen script is_open
+        → IfErr result (StopsBehind script ahead.old.offset
+        (coming ahead.old (S.left source.old))) }
+    ensures cause { HasCause (S.faults source.old) (S.faults source.new)
+        (IsErrOf result (Fault Read)) }
+    ensures end { IsTrue ahead.new.ended → IsAtEnd (S.left source.new) }
+    ensures range { OnOk result
+        ((ahead.old.offset < ahead.new.offset) × (ahead.new.offset < 2 ^ 50)) }
+{
+    if is_open {
+        return read_question(source, ahead, line);
+    }
+    let text = read_text(alloc, source, ahead, line)?;
+    Ok(Command::Open(text))
 }

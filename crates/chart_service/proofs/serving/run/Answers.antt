@@ -2,7 +2,7 @@
 use Rattle.std.proofs.Common.{refl}
 use Rattle.chart_service.proofs.serving.run.Goals as goal
 
-pub returns-in-Ok-clause-ok : goal.returns-in-Ok-clause-ok
-returns-in-Ok-clause-ok g c input before comes written =
-    c.answer_all.ensures.ok input before
-    (c.in-Ok.ensures.ok input before (rw (comes, c.new-ahead.ensures.held) refl) written)
+pub returns-clause-err : goal.returns-clause-err
+returns-clause-err g c input before left written =
+    c.reply_all.ensures.err input before
+    (c.in_ok-session.ensures.ok input before (rw (left, c.new-ahead.ensures.held) refl) written)

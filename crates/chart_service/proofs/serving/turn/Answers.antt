@@ -1,59 +1,100 @@
--- One line of a session: a question is answered, the session ends, or the script is broken here.
+-- One command of a session: a reply is said, the session ends, or it stops here.
+use Rattle.std.proofs.Common.{◌≡◌, ℕ, List, Option, true, refl, subst}
 use Rattle.cyk_io.specs.Streams.{coming}
-use Rattle.script_reader.specs.Forms.{meant}
-use Rattle.chart_service.proofs.ProgressLemmas.{fault_stop, write_stop, no_line_ends}
-use Rattle.chart_service.proofs.ProgressLemmas.{other_line_ends, end_line_ends, question_asked}
-use Rattle.chart_service.proofs.ProgressLemmas.{running_stopped, running_answered, running_cut}
+use Rattle.spec_script.specs.Script.{with_grammar}
+use Rattle.spec_session.specs.Runs.{commands_of, state_after}
+use Rattle.spec_session.specs.Steps.{no_texts}
+use Rattle.script_reader.specs.Reading.{TakesCommand}
+use Rattle.script_reader.specs.declared.command.Command.{Command}
+use Rattle.script_reader.specs.declared.stop.Stop.TheVariants.{Fault}
+use Rattle.chart_service.specs.declared.ending.EarlyEnd.TheVariants.{Stopped}
+use Rattle.cyk_io.specs.declared.fault.IoFault.TheVariants.{Write}
+use Rattle.chart_service.specs.Sessions.{is_open}
+use Rattle.chart_service.specs.Progress.{EndsEarly}
+use Rattle.chart_service.proofs.ToldLemmas.{err_given, other_error}
+use Rattle.chart_service.proofs.RunningLemmas.{cut_running, running_on, running_stops, running_ends}
+use Rattle.chart_service.proofs.RunningLemmas.{running_said, cut_reply, command_read}
+use Rattle.chart_service.proofs.RunningLemmas.{reads_only, some_script, not_end}
 use Rattle.chart_service.proofs.serving.turn.Goals as goal
 
-pub returns-in-Ok-false-clause-ok : goal.returns-in-Ok-false-clause-ok
-returns-in-Ok-false-clause-ok g c input before r =
-    let next = coming c.next_line.new.ahead (g.S.Source.left c.next_line.new.source) in
-    no_line_ends r c.next_line.new.ahead.offset next c.next_line.new.line
-    (rw c.in-Ok-false.field-0-test at c.in-Ok-false.ensures.ok)
-    c.offset-start.result c.offset-start.ensures.offset
-    (g.K.Sink.written c.refuse_script.new.sink) c.refuse_script.result c.refuse_script.ensures.ok
+pub returns-in_err-flush_unless-clause-err : goal.returns-in_err-flush_unless-clause-err
+returns-in_err-flush_unless-clause-err g c input before r =
+    let comes : Option (List ℕ) = coming c.args.ahead.now (g.S.Source.left c.args.source.now) in
+    err_given (EndsEarly input before (g.K.Sink.written c.flush_unless.new.sink) c.flush_unless.new.self)
+    (Stopped (Fault c.in_err-flush_unless.field-0.0)) c.from_residual.result c.from_residual.ensures.1
+    (cut_running input before comes c.args.ahead.now.offset (g.K.Sink.written c.args.sink.now)
+    c.args.replies.now c.args.session.now r (g.K.Sink.written c.flush_unless.new.sink)
+    c.in_err-flush_unless.ensures.err)
 
-pub returns-in-Err-clause-ok : goal.returns-in-Err-clause-ok
-returns-in-Err-clause-ok g c input before r =
-    running_stopped r c.from.result
-    (fault_stop c.in-Err.fault c.in-Err.ensures.stop.err c.from.result c.from.ensures)
+pub returns-in_err-command-clause-err : goal.returns-in_err-command-clause-err
+returns-in_err-command-clause-err g c input before r =
+    let comes : Option (List ℕ) = coming c.args.ahead.now (g.S.Source.left c.args.source.now) in
+    let on = running_on input before comes c.args.ahead.now.offset (g.K.Sink.written c.args.sink.now)
+    c.args.replies.now c.args.session.now r (g.K.Sink.written c.flush_unless.new.sink)
+    c.flush_unless.new.self c.in_ok-flush_unless.ensures.ok in
+    err_given (EndsEarly input before (g.K.Sink.written c.flush_unless.new.sink) c.flush_unless.new.self)
+    (Stopped c.in_err-command.field-0.0) c.from_residual-in_err-command.result
+    c.from_residual-in_err-command.ensures.1
+    (running_stops input before comes c.args.ahead.now.offset (g.K.Sink.written c.flush_unless.new.sink)
+    c.flush_unless.new.self c.args.session.now on c.in_err-command.field-0.0
+    (rw c.is_open-2.ensures at c.in_err-command.ensures.err
+    (with_grammar on.block (commands_of on.steps)) on.tells_open))
 
-pub returns-in-None-clause-ok : goal.returns-in-None-clause-ok
-returns-in-None-clause-ok g c input before r =
-    let next = coming c.next_line.new.ahead (g.S.Source.left c.next_line.new.source) in
-    other_line_ends r c.next_line.new.ahead.offset next c.next_line.new.line
-    (rw c.in-Ok-true.field-0-test at c.in-Ok-true.ensures.ok)
-    (rw c.as_bytes.ensures.bytes at c.in-None.ensures)
-    c.offset-start.result c.offset-start.ensures.offset
-    (g.K.Sink.written c.refuse_script-in-None.new.sink) c.refuse_script-in-None.result
-    c.refuse_script-in-None.ensures.ok
+pub returns-in_err-command-clause-write : goal.returns-in_err-command-clause-write
+returns-in_err-command-clause-write g c =
+    let script = some_script c.is_open-2.result in
+    let comes : Option (List ℕ) = coming c.args.ahead.now (g.S.Source.left c.args.source.now) in
+    let never = reads_only script.0 c.args.ahead.now.offset comes c.in_err-command.field-0.0
+    (c.in_err-command.ensures.err script.0 script.1) in
+    record {
+      later = c.in_ok-flush_unless.ensures.cause.later;
+      cause = λ e. absurd (other_error c.from_residual-in_err-command.result (Stopped c.in_err-command.field-0.0)
+          (Stopped (Fault Write)) c.from_residual-in_err-command.ensures.1 (λ same. never (let e = same in cc)) e);
+    }
 
-pub returns-in-Some-End-clause-ok : goal.returns-in-Some-End-clause-ok
-returns-in-Some-End-clause-ok g c input before r =
-    let next = coming c.next_line.new.ahead (g.S.Source.left c.next_line.new.source) in
-    end_line_ends r c.next_line.new.ahead.offset next c.next_line.new.line
-    (rw c.in-Ok-true.field-0-test at c.in-Ok-true.ensures.ok)
-    (rw (c.in-Some-End.field-0-is, c.as_bytes.ensures.bytes) at c.in-Some-End.ensures)
-    (g.K.Sink.written c.finish.new.sink) c.finish.result
-    (rw c.as_slice.ensures at c.finish.ensures.ok)
+pub returns-then-is_end-clause-ok : goal.returns-then-is_end-clause-ok
+returns-then-is_end-clause-ok g c input before r =
+    let comes : Option (List ℕ) = coming c.args.ahead.now (g.S.Source.left c.args.source.now) in
+    let next : Option (List ℕ) = coming c.read_command.new.ahead (g.S.Source.left c.read_command.new.source) in
+    let from : ℕ = c.args.ahead.now.offset in
+    let to : ℕ = c.read_command.new.ahead.offset in
+    let on = running_on input before comes c.args.ahead.now.offset (g.K.Sink.written c.args.sink.now)
+    c.args.replies.now c.args.session.now r (g.K.Sink.written c.flush_unless.new.sink)
+    c.flush_unless.new.self c.in_ok-flush_unless.ensures.ok in
+    running_ends input before comes from (g.K.Sink.written c.flush_unless.new.sink) c.flush_unless.new.self
+    c.args.session.now on to next
+    (subst (λ (x : Command). TakesCommand (is_open c.args.session.now) from to comes next x)
+    (c.is_end.ensures.0 c.if-is_end.true) (rw c.is_open-2.ensures at c.in_ok-command.ensures.ok))
 
-pub returns-in-Ok-clause-ok : goal.returns-in-Ok-clause-ok
-returns-in-Ok-clause-ok g c input before r =
-    let next = coming c.next_line.new.ahead (g.S.Source.left c.next_line.new.source) in
-    let asked = question_asked r c.next_line.new.ahead.offset next c.next_line.new.line
-    (rw c.in-Ok-true.field-0-test at c.in-Ok-true.ensures.ok) (meant c.in-Some-Has.constituent)
-    (rw (c.in-Some-Has.field-0-is, c.as_bytes.ensures.bytes) at c.in-Some-Has.ensures) in
-    running_answered r asked _ (c.answer_of.ensures r.text r.tokens r.is_opened)
-    (g.K.Sink.written c.say_answer.new.sink) c.in-Ok.ensures.ok
+pub returns-in_err-say-clause-err : goal.returns-in_err-say-clause-err
+returns-in_err-say-clause-err g c input before r =
+    let comes : Option (List ℕ) = coming c.args.ahead.now (g.S.Source.left c.args.source.now) in
+    let next : Option (List ℕ) = coming c.read_command.new.ahead (g.S.Source.left c.read_command.new.source) in
+    let on = running_on input before comes c.args.ahead.now.offset (g.K.Sink.written c.args.sink.now)
+    c.args.replies.now c.args.session.now r (g.K.Sink.written c.flush_unless.new.sink)
+    c.flush_unless.new.self c.in_ok-flush_unless.ensures.ok in
+    let read = command_read c.in_ok-command.command (not_end c.is_end.result c.is_end.ensures.1 c.if-is_end.false) in
+    err_given (EndsEarly input before (g.K.Sink.written c.say.new.sink) c.say.new.self)
+    (Stopped (Fault c.in_err-say.field-0.0)) c.from_residual-in_err-say.result
+    c.from_residual-in_err-say.ensures.1
+    (cut_reply input before comes c.args.ahead.now.offset (g.K.Sink.written c.flush_unless.new.sink)
+    c.flush_unless.new.self c.args.session.now on c.in_ok-command.command c.read_command.new.ahead.offset next
+    (rw c.is_open-2.ensures at c.in_ok-command.ensures.ok) read.0 read.1 c.reply.new.self
+    c.reply.ensures.language c.reply.result
+    (c.reply.ensures.ok (state_after no_texts on.steps) read.0 on.is_in read.1)
+    (g.K.Sink.written c.say.new.sink) c.in_err-say.ensures.err)
 
-pub returns-in-Err-say_answer-clause-ok : goal.returns-in-Err-say_answer-clause-ok
-returns-in-Err-say_answer-clause-ok g c input before r =
-    let next = coming c.next_line.new.ahead (g.S.Source.left c.next_line.new.source) in
-    let asked = question_asked r c.next_line.new.ahead.offset next c.next_line.new.line
-    (rw c.in-Ok-true.field-0-test at c.in-Ok-true.ensures.ok) (meant c.in-Some-Has.constituent)
-    (rw (c.in-Some-Has.field-0-is, c.as_bytes.ensures.bytes) at c.in-Some-Has.ensures) in
-    running_cut r asked _ (c.answer_of.ensures r.text r.tokens r.is_opened)
-    (g.K.Sink.written c.say_answer.new.sink) c.in-Err-say_answer.ensures.err
-    c.in-Err-say_answer.status
-    (write_stop c.in-Err-say_answer.status c.in-Err-say_answer.ensures.stop)
+pub returns-clause-ok : goal.returns-clause-ok
+returns-clause-ok g c input before r =
+    let comes : Option (List ℕ) = coming c.args.ahead.now (g.S.Source.left c.args.source.now) in
+    let next : Option (List ℕ) = coming c.read_command.new.ahead (g.S.Source.left c.read_command.new.source) in
+    let on = running_on input before comes c.args.ahead.now.offset (g.K.Sink.written c.args.sink.now)
+    c.args.replies.now c.args.session.now r (g.K.Sink.written c.flush_unless.new.sink)
+    c.flush_unless.new.self c.in_ok-flush_unless.ensures.ok in
+    let read = command_read c.in_ok-command.command (not_end c.is_end.result c.is_end.ensures.1 c.if-is_end.false) in
+    running_said input before comes c.args.ahead.now.offset (g.K.Sink.written c.flush_unless.new.sink)
+    c.flush_unless.new.self c.args.session.now on c.in_ok-command.command c.read_command.new.ahead.offset next
+    (rw c.is_open-2.ensures at c.in_ok-command.ensures.ok) read.0 read.1 c.reply.new.self
+    c.reply.ensures.language c.reply.result
+    (c.reply.ensures.ok (state_after no_texts on.steps) read.0 on.is_in read.1)
+    (g.K.Sink.written c.say.new.sink) c.say.new.self c.in_ok-say.ensures.ok

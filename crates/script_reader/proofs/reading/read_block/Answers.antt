@@ -1,12 +1,12 @@
--- A block that is too long is found by its length.
+-- A block that is too long is known by its length.
+use Rattle.std.proofs.Common.{arith}
 use Rattle.cyk_io.specs.Streams.{coming}
-use Rattle.script_reader.proofs.ReadingLemmas.{finds_passed}
+use Rattle.script_reader.proofs.LinesAndBlocksLemmas.{finds_passed}
 use Rattle.script_reader.proofs.reading.read_block.Goals as goal
 
-pub returns-then-count-gt-MAX_GRAMMAR-clause-ok : goal.returns-then-count-gt-MAX_GRAMMAR-clause-ok
-returns-then-count-gt-MAX_GRAMMAR-clause-ok g c =
-    rw c.then_some.ensures
-    (finds_passed 65536 c.args.count c.args.ahead.now.offset c.pass_block.new.ahead.offset
+pub returns-then-count-gt-MAX_FILE-clause-ok : goal.returns-then-count-gt-MAX_FILE-clause-ok
+returns-then-count-gt-MAX_FILE-clause-ok g c =
+    finds_passed c.args.count c.args.ahead.now.offset c.pass_block.new.ahead.offset
     (coming c.args.ahead.now (g.S.Source.left c.args.source.now))
     (coming c.pass_block.new.ahead (g.S.Source.left c.pass_block.new.source))
-    c.if-count-gt-MAX_GRAMMAR.true c.in_ok-passed.passed c.in_ok-passed.ensures.ok)
+    (omega (arith, c.if-count-gt-MAX_FILE.true)) c.in_ok-pass_block.ensures.ok

@@ -1,0 +1,505 @@
+-- How a session begins, goes on and ends: what was told so far is the replies to the script so far.
+use Rattle.std.proofs.Common.{◌≡◌, ℕ, ◌+◌, ◌<◌, ◌≤◌, ◌^◌, List, [], ◌∷◌, ◌++◌, length, codes, Bool, true, false}
+use Rattle.std.proofs.Common.{Option, Some, Result, IfOk, String, string_bytes, IsTrue, is_some, refl, sym, ◌∙◌, ap, subst}
+use Rattle.std.proofs.Common.{append_assoc, append-nil, arith}
+use Rattle.std.specs.declared.alloc.Global.{Global}
+use Rattle.std.specs.declared.alloc.AllocError.{AllocError}
+use Rattle.cyk_io.specs.Streams.{GrowsByPrefix}
+use Rattle.cyk_io.specs.declared.fault.IoFault.TheVariants.{Read, Write, Memory}
+use Rattle.spec_grammar.specs.Grammars.{Grammar}
+use Rattle.spec_script.specs.Script.{Command, opens, ask, Part, header, grammar, of_command, Script}
+use Rattle.spec_script.specs.Script.{nothing, header_alone, with_grammar, as_parts, parts_of, text_of}
+use Rattle.spec_script.specs.Script.{question_form, AreQuestions, AreInOrder, AreComplete, IsInOrder}
+use Rattle.spec_script.specs.Script.{IsComplete, BeginsWithParts, BeginsWithScript, HasEndLine}
+use Rattle.spec_script.specs.Script.{Ending, ended, broken, EndsAs, IsScript}
+use Rattle.spec_script.proofs.BeginningLemmas.{begins_more, parts_more}
+use Rattle.spec_session.specs.GrammarReplies.{IsAccepted, IsRefused, grammar_reply}
+use Rattle.spec_session.specs.Steps.{State, no_texts, Step, IsStep}
+use Rattle.spec_session.specs.Runs.{IsRun, commands_of, replies_of, state_after}
+use Rattle.spec_session.specs.Sessions.{serve_mode, AreAllReplies, IsSession, refused, whole, last_line}
+use Rattle.spec_session.proofs.SessionsLemmas.{replies_come_first}
+use Rattle.spec_session.proofs.FrontLemmas.{questions_more}
+use Rattle.script_reader.specs.declared.command.Command.{Command as ReadCommand}
+use Rattle.script_reader.specs.declared.command.Command.TheVariants.{Open, Ask, End}
+use Rattle.script_reader.specs.declared.stop.Stop.{Stop}
+use Rattle.script_reader.specs.declared.stop.Stop.TheVariants.{Breaks, Fault}
+use Rattle.script_reader.specs.Forms.{query_of}
+use Rattle.script_reader.specs.Reading.{TakesPart, TakesEnd, TakesCommand, StopsBehind, TellsOpen}
+use Rattle.chart_service.specs.declared.accepting.LanguageFault.{LanguageFault}
+use Rattle.chart_service.specs.declared.ending.EarlyEnd.TheVariants.{Refused, Stopped}
+use Rattle.chart_service.specs.declared.session.Session.{Session}
+use Rattle.chart_service.specs.Serving.{IsPrefixOfSession}
+use Rattle.chart_service.specs.Replies.{bytes_of, Passes, Says}
+use Rattle.chart_service.specs.Languages.{IsFaultOf, IsRefusal}
+use Rattle.chart_service.specs.Sessions.{IsIn, is_open, CanReply, IsCommand, RepliesTo}
+use Rattle.chart_service.specs.Progress.{IsTold, Running, IsCutShort, LacksLast, HasEnded, EndsEarly}
+use Rattle.chart_service.specs.Progress.{HasAccepted}
+use Rattle.chart_service.proofs.ToldLemmas.{told_on, whole_is_prefix, written_is_prefix, cut_is_prefix}
+use Rattle.chart_service.proofs.ToldLemmas.{line_is_prefix}
+use Rattle.chart_service.proofs.LanguageLemmas.{refusal_is}
+use Rattle.chart_service.proofs.RunLemmas.{run_more, commands_more, lines_more, after_more}
+
+-- the command of a script that was read
+pub command_read : (command : ReadCommand) → (command ≡ End → ⊥) → (meaning : Command) × IsCommand command meaning
+command_read (Open text) other = (opens text.items, refl)
+command_read (Ask query) other = (ask (query_of query), refl)
+command_read End other = absurd (other refl)
+
+-- a test that fails says that it is not the line `end`
+pub not_end : {P : Type 0} → (test : Bool) → (P → IsTrue test) → test ≡ false → P → ⊥
+not_end test h fails p = let yes : test ≡ true = h p in cc
+
+-- it was taken as a part
+pub part_taken : (flag : Bool) (from to : ℕ) (old new : Option (List ℕ)) (command : ReadCommand)
+    → TakesCommand flag from to old new command → (meaning : Command) → IsCommand command meaning
+    → TakesPart from to old new (of_command meaning)
+part_taken false from to old new (Open text) t meaning e =
+    subst (λ (c : Command). TakesPart from to old new (of_command c)) (sym e) t
+part_taken false from to old new (Ask query) t meaning e = absurd t
+part_taken false from to old new End t meaning e = absurd t
+part_taken true from to old new (Open text) t meaning e = absurd t
+part_taken true from to old new (Ask query) t meaning e =
+    subst (λ (c : Command). TakesPart from to old new (of_command c)) (sym e) t
+part_taken true from to old new End t meaning e = absurd e
+
+-- a session can reply to it
+pub can_reply : {C : Type 0} → (session : Session C) (flag : Bool) → is_open session ≡ flag
+    → (from to : ℕ) (old new : Option (List ℕ)) (command : ReadCommand)
+    → TakesCommand flag from to old new command → (command ≡ End → ⊥) → CanReply session command
+can_reply session false e from to old new (Open text) t other = (t.within_limits.1, t.within_limits.0)
+can_reply session false e from to old new (Ask query) t other = absurd t
+can_reply session false e from to old new End t other = absurd t
+can_reply session true e from to old new (Open text) t other = absurd t
+can_reply session true e from to old new (Ask query) t other = e
+can_reply session true e from to old new End t other = absurd (other refl)
+
+-- the line `end` is taken only where a text is open
+pub end_taken : (flag : Bool) (from to : ℕ) (old new : Option (List ℕ))
+    → TakesCommand flag from to old new End → (flag ≡ true) × TakesEnd from to old new
+end_taken false from to old new t = absurd t
+end_taken true from to old new t = (refl, t)
+
+-- commands behind which a text is open are in order
+complete_in_order : (commands : List Command) → AreComplete commands → AreInOrder commands
+complete_in_order [] h = absurd h
+complete_in_order (opens text ∷ questions) h = h
+complete_in_order (ask query ∷ commands) h = absurd h
+
+-- with one command more, which is in order, a text is open
+order_completes : (commands : List Command) (command : Command) → AreInOrder (commands ++ command ∷ [])
+    → AreComplete (commands ++ command ∷ [])
+order_completes [] (opens text) h = h
+order_completes [] (ask query) h = absurd h
+order_completes (opens text ∷ questions) command h = h
+order_completes (ask query ∷ commands) command h = absurd h
+
+-- a query may stand behind commands behind which a text is open
+query_in_order : (commands : List Command) (query_is : Command) → AreQuestions (query_is ∷ [])
+    → AreComplete commands → AreInOrder (commands ++ query_is ∷ [])
+query_in_order [] query_is q h = absurd h
+query_in_order (opens text ∷ questions) query_is q h = questions_more questions query_is h q
+query_in_order (ask query ∷ commands) query_is q h = absurd h
+
+-- where no text is open, there are no commands
+none_open : (block : List ℕ) (commands : List Command)
+    → TellsOpen (with_grammar block commands) false → commands ≡ []
+none_open block commands (other, e) = cc
+
+-- the script so far is in order
+script_in_order : (block : List ℕ) (commands : List Command) (flag : Bool)
+    → TellsOpen (with_grammar block commands) flag → AreInOrder commands
+script_in_order block commands true h = complete_in_order commands h
+script_in_order block commands false h = subst AreInOrder (sym (none_open block commands h)) tt
+
+-- and the command that was read is in its place
+pub read_in_order : (block : List ℕ) (commands : List Command) (flag : Bool)
+    → TellsOpen (with_grammar block commands) flag → (from to : ℕ) (old new : Option (List ℕ))
+    → (command : ReadCommand) → TakesCommand flag from to old new command → (meaning : Command)
+    → IsCommand command meaning → AreInOrder (commands ++ meaning ∷ [])
+read_in_order block commands false h from to old new (Open text) t meaning e =
+    let none : [] ≡ commands = sym (none_open block commands h) in
+    let P : List Command → Type 0 = λ (these : List Command). AreInOrder (these ++ meaning ∷ []) in
+    let Q : Command → Type 0 = λ (c : Command). AreInOrder (c ∷ []) in
+    subst P none (subst Q (sym e) tt)
+read_in_order block commands false h from to old new (Ask query) t meaning e = absurd t
+read_in_order block commands false h from to old new End t meaning e = absurd t
+read_in_order block commands true h from to old new (Open text) t meaning e = absurd t
+read_in_order block commands true h from to old new (Ask query) t meaning e =
+    let Q : Command → Type 0 = λ (c : Command). AreQuestions (c ∷ []) in
+    query_in_order commands meaning (subst Q (sym e) tt) h
+read_in_order block commands true h from to old new End t meaning e = absurd e
+
+-- nothing was told yet
+pub nothing_told : (before : List ℕ) (now : Option (List ℕ)) → now ≡ Some before → IsTold before now [] []
+nothing_told before now is = ([], is ∙ ap Some (sym (append-nil before)), refl)
+
+-- before a grammar was accepted, where nothing was told
+module _ (input before : List ℕ) (now : Option (List ℕ)) (is : now ≡ Some before) where
+  -- nothing is a prefix
+  none_is_prefix : IsPrefixOfSession input []
+  none_is_prefix out status s = (out, refl)
+
+  -- the script breaks, or there is a fault
+  pub stops_early : (front : Script) (at : ℕ) (rest : List ℕ) → IsInOrder question_form front
+      → AreAllReplies serve_mode front [] → BeginsWithScript input front at rest
+      → (coming : Option (List ℕ)) → coming ≡ Some rest → (stop : Stop)
+      → StopsBehind front at coming stop → EndsEarly input before now [] (Stopped stop)
+  stops_early front at rest in_order replies begins coming comes (Breaks place) h = record {
+    told = [];
+    is_told = nothing_told before now is;
+    is_prefix = none_is_prefix;
+    last = λ line e. whole front (broken place) [] script replies e refl;
+  }
+    where
+      script : IsScript question_form input front (broken place)
+      script = record {
+        at = at;
+        rest = rest;
+        in_order = in_order;
+        begins = begins;
+        ends = (h.0, (h.1 rest comes).0, (h.1 rest comes).1);
+      }
+  stops_early front at rest in_order replies begins coming comes (Fault fault) h =
+      ([], is ∙ ap Some (sym (append-nil before)), none_is_prefix)
+
+  -- the grammar is refused
+  pub refused_early : (block rest : List ℕ) (at : ℕ) → BeginsWithScript input (with_grammar block []) at rest
+      → (fault : LanguageFault) → ((line : List ℕ) → IsRefusal fault line → IsRefused block line)
+      → EndsEarly input before now [] (Refused fault)
+  refused_early block rest at begins fault refuses = record {
+    told = [];
+    is_told = nothing_told before now is;
+    is_prefix = none_is_prefix;
+    last = λ line e. refused block rest at begins (refuses line e) refl;
+  }
+
+-- the header is taken
+pub header_taken : (input : List ℕ) (coming next : Option (List ℕ)) (from to : ℕ) → coming ≡ Some input
+    → from ≡ 0 → TakesPart from to coming next header
+    → (rest : List ℕ) × (next ≡ Some rest) × BeginsWithScript input header_alone to rest
+header_taken input coming next from to comes start t =
+    let behind = t.taken input comes in
+    let begins = begins_more [] 0 0 input input header behind.0 (refl, refl) (omega arith) t.within_limits behind.2 in
+    let P : ℕ → Type 0 = λ place. BeginsWithParts 0 input (header ∷ []) place behind.0 in
+    let end : 0 + length (text_of header) ≡ to = ap (λ place. place + length (text_of header)) (sym start) ∙ sym t.offset in
+    (behind.0, behind.1, subst P end begins)
+
+-- and then a grammar
+pub grammar_taken : (input block rest : List ℕ) (coming next : Option (List ℕ)) (from to : ℕ)
+    → coming ≡ Some rest → BeginsWithScript input header_alone from rest
+    → TakesPart from to coming next (grammar block)
+    → (more : List ℕ) × (next ≡ Some more) × BeginsWithScript input (with_grammar block []) to more
+grammar_taken input block rest coming next from to comes begins t =
+    let behind = t.taken rest comes in
+    let longer = begins_more (header ∷ []) 0 from input rest (grammar block) behind.0 begins t.early t.within_limits behind.2 in
+    let P : ℕ → Type 0 = λ place. BeginsWithParts 0 input (header ∷ grammar block ∷ []) place behind.0 in
+    (behind.0, behind.1, subst P (sym t.offset) longer)
+
+-- no header comes
+pub header_stops : (input before : List ℕ) (coming : Option (List ℕ)) (from : ℕ) → coming ≡ Some input → from ≡ 0
+    → (stop : Stop) → StopsBehind nothing from coming stop → EndsEarly input before (Some before) [] (Stopped stop)
+header_stops input before coming from comes start stop h =
+    stops_early input before (Some before) refl nothing from input tt refl (start, refl) coming comes stop h
+
+-- the header is taken, and then no grammar comes, or one that is accepted or not
+module _ (input before : List ℕ) (coming next : Option (List ℕ)) (from at : ℕ) (comes : coming ≡ Some input)
+    (start : from ≡ 0) (t : TakesPart from at coming next header) where
+  behind_header : (rest : List ℕ) × (next ≡ Some rest) × BeginsWithScript input header_alone at rest
+  behind_header = header_taken input coming next from at comes start t
+
+  pub grammar_stops : (stop : Stop) → StopsBehind header_alone at next stop
+      → EndsEarly input before (Some before) [] (Stopped stop)
+  grammar_stops stop h =
+      let b = behind_header in
+      stops_early input before (Some before) refl header_alone at b.0 tt refl b.2 next b.1 stop h
+
+  module _ (later : Option (List ℕ)) (to : ℕ) (block : List ℕ) (taken : TakesPart at to next later (grammar block)) where
+    behind_grammar : (more : List ℕ) × (later ≡ Some more) × BeginsWithScript input (with_grammar block []) to more
+    behind_grammar =
+        let b = behind_header in
+        grammar_taken input block b.0 next later at to b.1 b.2 taken
+
+    pub grammar_accepted : (g : Grammar) → IsAccepted block g → HasAccepted input later to g
+    grammar_accepted g accepted = let b = behind_grammar in record {
+      block = block;
+      accepted = accepted;
+      rest = b.0;
+      comes = b.1;
+      begins = b.2;
+    }
+
+    pub grammar_refused : (fault : LanguageFault) → IsFaultOf block fault
+        → EndsEarly input before (Some before) [] (Refused fault)
+    grammar_refused fault is =
+        let b = behind_grammar in
+        refused_early input before (Some before) refl block b.0 to b.2 fault (λ line. refusal_is block fault line is)
+
+-- the session runs
+module _ {C : Type 0} (input before : List ℕ) (coming : Option (List ℕ)) (at : ℕ) (now : Option (List ℕ))
+    (gathered : List ℕ) (session : Session C) (r : Running input before coming at now gathered session) where
+  abbrev g : Grammar
+  g = session.language
+
+  abbrev front : Script
+  front = with_grammar r.block (commands_of r.steps)
+
+  abbrev told : List ℕ
+  told = grammar_reply g ++ replies_of r.steps
+
+  in_order : IsInOrder question_form front
+  in_order = script_in_order r.block (commands_of r.steps) (is_open session) r.tells_open
+
+  all_replies : AreAllReplies serve_mode front told
+  all_replies =
+      (g, [], replies_of r.steps, r.accepted, refl, (r.steps, record { run = r.is_run; of_commands = refl }, refl), refl)
+
+  -- what was told is a prefix
+  told_is_prefix : IsPrefixOfSession input told
+  told_is_prefix = replies_come_first input front at r.rest told r.begins in_order all_replies
+
+  -- so is what is written of it
+  pub cut_running : (new : Option (List ℕ)) → GrowsByPrefix now new gathered → IsCutShort input before new
+  cut_running new cut =
+      let P : List ℕ → Type 0 = GrowsByPrefix now new in
+      let Q : List ℕ → Type 0 = IsPrefixOfSession input in
+      cut_is_prefix input before now new gathered [] told r.is_told
+      (subst P (sym (append-nil gathered)) cut) (subst Q (sym (append-nil told)) told_is_prefix)
+
+  -- some of what is gathered is written
+  pub running_on : (new : Option (List ℕ)) (left : List ℕ) → Passes now new gathered [] left
+      → Running input before coming at new left session
+  running_on new left passes = record {
+    block = r.block;
+    steps = r.steps;
+    rest = r.rest;
+    comes = r.comes;
+    begins = r.begins;
+    accepted = r.accepted;
+    is_run = r.is_run;
+    tells_open = r.tells_open;
+    is_in = r.is_in;
+    is_told = subst (IsTold before new left) (append-nil told)
+        (told_on before now new gathered [] left told r.is_told passes);
+  }
+
+  -- the script breaks, or there is a fault
+  pub running_stops : (stop : Stop) → StopsBehind front at coming stop
+      → EndsEarly input before now gathered (Stopped stop)
+  running_stops (Breaks place) h = record {
+    told = told;
+    is_told = r.is_told;
+    is_prefix = told_is_prefix;
+    last = λ line e. whole front (broken place) told script all_replies (ap (λ bytes. told ++ bytes) e) refl;
+  }
+    where
+      script : IsScript question_form input front (broken place)
+      script = record {
+        at = at;
+        rest = r.rest;
+        in_order = in_order;
+        begins = r.begins;
+        ends = (h.0, (h.1 r.rest r.comes).0, (h.1 r.rest r.comes).1);
+      }
+  running_stops (Fault fault) h = written_is_prefix input before now gathered told r.is_told told_is_prefix
+
+  -- the line `end` is read
+  pub running_ends : (to : ℕ) (next : Option (List ℕ)) → TakesCommand (is_open session) at to coming next End
+      → HasEnded input before now gathered
+  running_ends to next t = record {
+    told = told;
+    is_told = r.is_told;
+    is_prefix = told_is_prefix;
+    last = λ line e. whole front ended told script all_replies (ap (λ bytes. told ++ bytes) e) refl;
+  }
+    where
+      taken : (is_open session ≡ true) × TakesEnd at to coming next
+      taken = end_taken (is_open session) at to coming next t
+
+      behind : (more : List ℕ) × (next ≡ Some more) × (r.rest ≡ (codes "end" ++ 10 ∷ []) ++ more)
+      behind = (taken.1).taken r.rest r.comes
+
+      line_comes : HasEndLine question_form front at r.rest
+      line_comes = record {
+        more = behind.0;
+        early = (taken.1).early;
+        complete = subst (TellsOpen front) taken.0 r.tells_open;
+        spelled = behind.2 ∙ append_assoc (codes "end") (10 ∷ []) behind.0;
+      }
+
+      script : IsScript question_form input front ended
+      script = record { at = at; rest = r.rest; in_order = in_order; begins = r.begins; ends = line_comes }
+
+  -- a command is read
+  module _ (command : ReadCommand) (to : ℕ) (next : Option (List ℕ))
+      (t : TakesCommand (is_open session) at to coming next command)
+      (meaning : Command) (is : IsCommand command meaning) where
+    part : TakesPart at to coming next (of_command meaning)
+    part = part_taken (is_open session) at to coming next command t meaning is
+
+    behind : (more : List ℕ) × (next ≡ Some more) × (r.rest ≡ text_of (of_command meaning) ++ more)
+    behind = part.taken r.rest r.comes
+
+    longer_in_order : AreInOrder (commands_of r.steps ++ meaning ∷ [])
+    longer_in_order = read_in_order r.block (commands_of r.steps) (is_open session) r.tells_open at to coming next command t meaning is
+
+    -- and replied to, by a session under the same grammar
+    module _ (later : Session C) (same : later.language ≡ g) (line : List ℕ)
+        (replied : RepliesTo (state_after no_texts r.steps) meaning line later) where
+      abbrev step : Step
+      step = record { command = meaning; line = line; before = state_after no_texts r.steps; after = replied.after }
+
+      abbrev steps : List Step
+      steps = r.steps ++ step ∷ []
+
+      run : IsRun later.language no_texts steps
+      run =
+          let P : Grammar → Type 0 = λ (x : Grammar). IsRun x no_texts r.steps in
+          run_more later.language no_texts r.steps step (subst P (sym same) r.is_run)
+          (record { replies = replied.replies; leaves = replied.leaves }) refl
+
+      accepted : IsAccepted r.block later.language
+      accepted = subst (IsAccepted r.block) (sym same) r.accepted
+
+      -- as one command more
+      of_commands : (P : List Command → Type 0) → P (commands_of r.steps ++ meaning ∷ []) → P (commands_of steps)
+      of_commands P h = subst P (sym (commands_more r.steps step)) h
+
+      begins : BeginsWithScript input (with_grammar r.block (commands_of steps)) to behind.0
+      begins =
+          let longer = begins_more (parts_of front) 0 at input r.rest (of_command meaning) behind.0 r.begins
+          part.early part.within_limits behind.2 in
+          let Places : ℕ → Type 0 = λ place.
+          BeginsWithParts 0 input (parts_of front ++ of_command meaning ∷ []) place behind.0 in
+          let Parts : List Part → Type 0 = λ (parts : List Part).
+          BeginsWithParts 0 input (header ∷ grammar r.block ∷ parts) to behind.0 in
+          of_commands (λ (commands : List Command). BeginsWithScript input (with_grammar r.block commands) to behind.0)
+          (subst Parts (sym (parts_more (commands_of r.steps) meaning)) (subst Places (sym part.offset) longer))
+
+      lines : told ++ line ≡ grammar_reply later.language ++ replies_of steps
+      lines =
+          append_assoc (grammar_reply g) (replies_of r.steps) line
+          ∙ ap (λ bytes. grammar_reply g ++ bytes) (sym (lines_more r.steps step))
+          ∙ ap (λ (x : Grammar). grammar_reply x ++ replies_of steps) (sym same)
+
+      -- what was told then is a prefix
+      pub reply_is_prefix : IsPrefixOfSession input (told ++ line)
+      reply_is_prefix =
+          let script : Script = with_grammar r.block (commands_of steps) in
+          let out : List ℕ = grammar_reply later.language ++ replies_of steps in
+          let ordered : AreInOrder (commands_of steps) = of_commands AreInOrder longer_in_order in
+          let replies : AreAllReplies serve_mode script out = (
+            later.language,
+            [],
+            replies_of steps,
+            accepted,
+            refl,
+            (steps, record { run = run; of_commands = refl }, refl),
+            refl,
+          ) in
+          subst (IsPrefixOfSession input) (sym lines)
+          (replies_come_first input script to behind.0 out begins ordered replies)
+
+      -- the session runs on
+      pub running_replied : (new : Option (List ℕ)) (left : List ℕ) → Passes now new gathered line left
+          → Running input before next to new left later
+      running_replied new left passes = record {
+        block = r.block;
+        steps = steps;
+        rest = behind.0;
+        comes = behind.1;
+        begins = begins;
+        accepted = accepted;
+        is_run = run;
+        tells_open = subst (TellsOpen (with_grammar r.block (commands_of steps))) (sym replied.is_open) complete;
+        is_in = subst (IsIn later) (sym (after_more no_texts r.steps step)) replied.is_in;
+        is_told = subst (IsTold before new left) lines (told_on before now new gathered line left told r.is_told passes);
+      }
+        where
+          complete : AreComplete (commands_of steps)
+          complete = of_commands AreComplete (order_completes (commands_of r.steps) meaning longer_in_order)
+
+    -- the reply was said
+    pub running_said : (later : Session C) → later.language ≡ g → (line : Result (String Global) AllocError)
+        → IfOk line (λ text. RepliesTo (state_after no_texts r.steps) meaning (string_bytes text) later)
+        → (new : Option (List ℕ)) (left : List ℕ) → Says line now new gathered left
+        → Running input before next to new left later
+    running_said later same line replies new left says =
+        let P : Result (String Global) AllocError → Type 0 = λ r.
+        IfOk r (λ text. RepliesTo replied_state meaning (string_bytes text) later) in
+        running_replied later same (string_bytes says.0) (subst P says.1 replies) new left says.2
+      where
+        replied_state : State
+        replied_state = state_after no_texts r.steps
+
+    -- the reply is cut short, or there was no memory for it
+    pub cut_reply : (later : Session C) → later.language ≡ g
+        → (line : Result (String Global) AllocError)
+        → IfOk line (λ text. RepliesTo (state_after no_texts r.steps) meaning (string_bytes text) later)
+        → (new : Option (List ℕ)) → GrowsByPrefix now new (gathered ++ bytes_of line)
+        → IsCutShort input before new
+    cut_reply later same line replies new cut =
+        cut_is_prefix input before now new gathered (bytes_of line) told r.is_told cut
+        (line_is_prefix input before told (λ bytes. RepliesTo (state_after no_texts r.steps) meaning bytes later)
+        told_is_prefix (reply_is_prefix later same) line replies)
+
+-- a session under a grammar that was accepted, to which it replied, runs
+module _ {C : Type 0} (input before : List ℕ) (coming : Option (List ℕ)) (at : ℕ) (session : Session C)
+    (a : HasAccepted input coming at session.language) (old new : Option (List ℕ)) (is : old ≡ Some before) where
+  abbrev reply : List ℕ
+  reply = grammar_reply session.language
+
+  pub first_running : IsIn session no_texts → is_open session ≡ false → (gathered left : List ℕ)
+      → gathered ≡ [] → Passes old new gathered reply left → Running input before coming at new left session
+  first_running is_in closed gathered left none passes = record {
+    block = a.block;
+    steps = [];
+    rest = a.rest;
+    comes = a.comes;
+    begins = a.begins;
+    accepted = a.accepted;
+    is_run = tt;
+    tells_open = subst (TellsOpen (with_grammar a.block [])) (sym closed) (a.block, refl);
+    is_in = is_in;
+    is_told = subst (IsTold before new left) (sym (append-nil reply))
+        (told_on before old new gathered reply left []
+        (subst (λ these. IsTold before old these []) (sym none) (nothing_told before old is)) passes);
+  }
+
+  -- or the reply is cut short
+  pub cut_first : (gathered : List ℕ) → gathered ≡ [] → (line : Result (String Global) AllocError)
+      → IfOk line (λ text. string_bytes text ≡ reply) → GrowsByPrefix old new (gathered ++ bytes_of line)
+      → IsCutShort input before new
+  cut_first gathered none line replies cut =
+      cut_is_prefix input before old new gathered (bytes_of line) []
+      (subst (λ these. IsTold before old these []) (sym none) (nothing_told before old is)) cut
+      (line_is_prefix input before [] (λ bytes. bytes ≡ reply) (λ out status s. (out, refl)) goes line replies)
+    where
+      script : Script
+      script = with_grammar a.block []
+
+      goes : (line : List ℕ) → line ≡ reply → IsPrefixOfSession input ([] ++ line)
+      goes line e =
+          let replies : AreAllReplies serve_mode script reply = (
+            session.language,
+            [],
+            [],
+            a.accepted,
+            refl,
+            ([], record { run = tt; of_commands = refl }, refl),
+            sym (append-nil reply),
+          ) in
+          subst (IsPrefixOfSession input) (sym e)
+          (replies_come_first input script at a.rest reply a.begins tt replies)
+
+-- reading alone writes nothing
+pub reads_only : (script : Script) (at : ℕ) (coming : Option (List ℕ)) (stop : Stop)
+    → StopsBehind script at coming stop → stop ≡ Fault Write → ⊥
+reads_only script at coming (Breaks place) h e = cc
+reads_only script at coming (Fault Read) h e = cc
+reads_only script at coming (Fault Write) h e = h
+reads_only script at coming (Fault Memory) h e = cc
+
+-- a script behind which a text is open, or none
+pub some_script : (flag : Bool) → (script : Script) × TellsOpen script flag
+some_script true = (with_grammar [] (opens [] ∷ []), tt)
+some_script false = (with_grammar [] [], ([], refl))

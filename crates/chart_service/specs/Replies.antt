@@ -1,0 +1,40 @@
+-- Serves the proofs alone: what saying a line leaves of the bytes that are gathered, and of those
+-- that are written.
+use Rattle.std.specs.Prelude.{◌≡◌, ℕ, ◌⊎◌, List, [], ◌++◌, Option, Result, Ok, Err, String}
+use Rattle.std.specs.Prelude.{string_bytes}
+use Rattle.std.specs.declared.alloc.Global.{Global}
+use Rattle.std.specs.declared.alloc.AllocError.{AllocError}
+use Rattle.cyk_io.specs.Streams.{Grows, GrowsByPrefix}
+use Rattle.chart_service.specs.declared.status.Status.{Status}
+use Rattle.chart_service.specs.Statuses.{IsFault}
+
+-- the bytes of the line; there are none where there was no memory for it
+abbrev pub bytes_of : Result (String Global) AllocError → List ℕ
+bytes_of (Ok text) = string_bytes text
+bytes_of (Err error) = []
+
+-- of the gathered bytes and those that come behind them some are written first, and the rest is
+-- left
+abbrev pub Passes : Option (List ℕ) → Option (List ℕ) → List ℕ → List ℕ → List ℕ → Type 0
+Passes old new gathered bytes left =
+    (out : List ℕ) × Grows old new out × (gathered ++ bytes ≡ out ++ left)
+
+-- there is a line, and it was said
+abbrev pub Says : Result (String Global) AllocError → Option (List ℕ) → Option (List ℕ) → List ℕ
+    → List ℕ → Type 0
+Says line old new gathered left =
+    (text : String Global) × (line ≡ Ok text) × Passes old new gathered (string_bytes text) left
+
+-- there is a line, and it is written with all that was gathered
+abbrev pub WritesOut : Result (String Global) AllocError → Option (List ℕ) → Option (List ℕ)
+    → List ℕ → Type 0
+WritesOut line old new gathered =
+    (text : String Global) × (line ≡ Ok text) × Grows old new (gathered ++ string_bytes text)
+
+-- the last line is written with all that was gathered and the status is the one wanted, or a prefix
+-- of them is and it is a fault's
+abbrev pub Finishes : Result (String Global) AllocError → Option (List ℕ) → Option (List ℕ)
+    → List ℕ → Status → Status → Type 0
+Finishes line old new gathered wanted status =
+    (WritesOut line old new gathered × (status ≡ wanted))
+    ⊎ (GrowsByPrefix old new (gathered ++ bytes_of line) × IsFault status)

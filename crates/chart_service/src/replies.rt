@@ -1,0 +1,167 @@
+//! The replies of a session, which are gathered and go to the sink together.
+ghost use Rattle.std.specs.Prelude.{◌≡◌, ℕ, ◌++◌, [], IsTrue, IsFalse, IsErrOf, IfErr, OnOk, OnErr};
+ghost use Rattle.cyk_io.specs.Causes.{HasCause};
+ghost use Rattle.cyk_io.specs.Streams.{Grows, GrowsByPrefix};
+ghost use Rattle.chart_service.specs.Replies.{bytes_of, Passes, Says, WritesOut, Finishes};
+
+use crate::status::Status;
+use arrayvec::ArrayVec;
+use cyk_io::{IoFault, Sink, write_all_counted};
+use std::alloc::AllocError;
+use std::marker::Model;
+
+/// The most bytes that are gathered.
+const MAX_GATHERED: usize = 4096;
+
+/// What was said and is not written yet: at most 4,096 bytes, seen as their list. After an error
+/// nothing more may be said, since a part of the bytes may be written.
+#[derive(Drop)]
+pub(crate) struct Replies {
+    gathered: ArrayVec<u8, MAX_GATHERED>,
+}
+
+impl Model for Replies {
+    ghost use Rattle.std.specs.Prelude.{List, ℕ};
+
+    ghost Value = { List ℕ };
+
+    ghost view = { λ r. r.gathered.items };
+}
+
+impl Replies {
+    /// Nothing is gathered. It takes no memory.
+    pub(crate) fn new() -> Replies
+        ensures { result ≡ [] }
+    {
+        Replies {
+            gathered: ArrayVec::new(),
+        }
+    }
+
+    /// Gathers the bytes where they fit behind those that are gathered, and answers whether.
+    fn gather(&mut self, bytes: &[u8]) -> bool
+        ensures yes { IsTrue result → self.new ≡ self.old ++ bytes.now }
+        ensures no { IsFalse result → self.new ≡ self.old }
+    {
+        self.gathered.try_extend_from_slice(bytes).is_ok()
+    }
+
+    /// Writes what is gathered.
+    pub(crate) fn flush<K: Sink>(&mut self, sink: &mut K) -> Result<(), IoFault>
+        ensures empty { self.new ≡ [] }
+        ensures ok { OnOk result (Grows (K.written sink.old) (K.written sink.new) self.old) }
+        ensures err { OnErr result
+            (GrowsByPrefix (K.written sink.old) (K.written sink.new) self.old) }
+        ensures cause { HasCause (K.faults sink.old) (K.faults sink.new)
+            (IsErrOf result IoFault.Write) }
+        ensures read { IsErrOf result IoFault.Read → ⊥ }
+    {
+        let written = write_all_counted(sink, self.gathered.as_slice());
+        self.gathered.clear();
+        written
+    }
+
+    /// Writes what is gathered, unless what is read next is held already, so that nothing waits
+    /// while the source is read.
+    pub(crate) fn flush_unless<K: Sink>(
+        &mut self,
+        sink: &mut K,
+        is_held: bool,
+    ) -> Result<(), IoFault>
+        ensures ok { OnOk result
+            (Passes (K.written sink.old) (K.written sink.new) self.old [] self.new) }
+        ensures err { OnErr result
+            (GrowsByPrefix (K.written sink.old) (K.written sink.new) self.old) }
+        ensures cause { HasCause (K.faults sink.old) (K.faults sink.new)
+            (IsErrOf result IoFault.Write) }
+        ensures read { IsErrOf result IoFault.Read → ⊥ }
+    {
+        if is_held {
+            return Ok(());
+        }
+        self.flush(sink)
+    }
+
+    /// Gathers the bytes. Where they don't fit, what was gathered is written first, and so are they
+    /// where they are more than can be gathered.
+    fn add<K: Sink>(&mut self, sink: &mut K, bytes: &[u8]) -> Result<(), IoFault>
+        ensures ok { OnOk result
+            (Passes (K.written sink.old) (K.written sink.new) self.old bytes.now self.new) }
+        ensures err { OnErr result
+            (GrowsByPrefix (K.written sink.old) (K.written sink.new) (self.old ++ bytes.now)) }
+        ensures cause { HasCause (K.faults sink.old) (K.faults sink.new)
+            (IsErrOf result IoFault.Write) }
+        ensures read { IsErrOf result IoFault.Read → ⊥ }
+    {
+        if self.gather(bytes) {
+            return Ok(());
+        }
+        self.flush(sink)?;
+        if self.gather(bytes) {
+            return Ok(());
+        }
+        write_all_counted(sink, bytes)
+    }
+
+    /// Says the line. Where there was no memory for it, what is gathered is written, and the answer
+    /// is that.
+    pub(crate) fn say<K: Sink>(
+        &mut self,
+        sink: &mut K,
+        line: Result<String, AllocError>,
+    ) -> Result<(), IoFault>
+        ensures ok { OnOk result
+            (Says line (K.written sink.old) (K.written sink.new) self.old self.new) }
+        ensures err { OnErr result
+            (GrowsByPrefix (K.written sink.old) (K.written sink.new) (self.old ++ bytes_of line)) }
+        ensures cause { HasCause (K.faults sink.old) (K.faults sink.new)
+            (IsErrOf result IoFault.Write) }
+        ensures read { IsErrOf result IoFault.Read → ⊥ }
+    {
+        match line {
+            Ok(text) => self.add(sink, text.as_bytes()),
+            Err(_) => {
+                self.flush(sink)?;
+                Err(IoFault::Memory)
+            }
+        }
+    }
+
+    /// Says the line and writes all.
+    fn write_out<K: Sink>(
+        &mut self,
+        sink: &mut K,
+        line: Result<String, AllocError>,
+    ) -> Result<(), IoFault>
+        ensures ok { OnOk result
+            (WritesOut line (K.written sink.old) (K.written sink.new) self.old) }
+        ensures err { OnErr result
+            (GrowsByPrefix (K.written sink.old) (K.written sink.new) (self.old ++ bytes_of line)) }
+        ensures cause { HasCause (K.faults sink.old) (K.faults sink.new)
+            (IsErrOf result IoFault.Write) }
+        ensures read { IsErrOf result IoFault.Read → ⊥ }
+    {
+        self.say(sink, line)?;
+        self.flush(sink)
+    }
+
+    /// Says the last line of a session, writes all, and answers its status or a fault's.
+    pub(crate) fn finish<K: Sink>(
+        &mut self,
+        sink: &mut K,
+        line: Result<String, AllocError>,
+        wanted: Status,
+    ) -> Status
+        requires read { wanted ≡ Status.ReadFault → ⊥ }
+        requires write { wanted ≡ Status.WriteFault → ⊥ }
+        ensures ok { Finishes line (K.written sink.old) (K.written sink.new) self.old wanted result }
+        ensures cause { HasCause (K.faults sink.old) (K.faults sink.new)
+            (result ≡ Status.WriteFault) }
+        ensures read { result ≡ Status.ReadFault → ⊥ }
+    {
+        match self.write_out(sink, line) {
+            Ok(()) => wanted,
+            Err(fault) => Status::from(fault),
+        }
+    }
+}

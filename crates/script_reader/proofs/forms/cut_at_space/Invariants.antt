@@ -1,6 +1,0 @@
--- No byte so far is a space.
-use Rattle.std.proofs.Common.{◌≡◌, ◌<◌, ℕ, get_or}
-use Rattle.script_reader.proofs.forms.cut_at_space.Given as goal
-
-abbrev pub invariant-loop-place : goal.invariant-loop-place
-invariant-loop-place l = (k : ℕ) → k < l.place → get_or l.bytes k 0 ≡ 32 → ⊥
