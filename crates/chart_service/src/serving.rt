@@ -100,7 +100,8 @@ fn is_end(command: &Command<'_>) -> bool
 }
 
 /// Reads the next command and replies to it. Answers false behind the line `end`. A reply waits
-/// with others while the next line is held, and is written before the source is read again.
+/// with others while the next line is held, and is written before the source is read again; the
+/// line of a text may be held and its block not, so no reply waits for a text.
 fn turn<S: Source, K: Sink, C: Cell>(
     alloc: Global,
     source: &mut S,
@@ -133,9 +134,7 @@ fn turn<S: Source, K: Sink, C: Cell>(
     ensures few { OnOk result (session.new.texts ≤ ahead.new.offset) }
     ensures can { CanOpen C.ROOM session.new.language }
 {
-    // The line of a text may be held and its block not.
-    let is_held = session.is_open() && ahead.has_line();
-    replies.flush_unless(sink, is_held)?;
+    replies.flush_unless(sink, session.is_open() && ahead.has_line())?;
     let command = read_command(alloc, source, ahead, line, session.is_open())?;
     if is_end(&command) {
         return Ok(false);

@@ -18,7 +18,7 @@ loop-number-preserved g c =
     let symbols = g.C.Cell.symbols in
     rw (take_more numbers place 0 c.loop-number-test.true)
     (just_more (take place numbers) (slice_index_or numbers place 0) (symbols c.loop-number.cell)
-        (symbols c.insert.new.self) c.loop-number.invariant c.in_ok-insert.ensures.ok)
+    (symbols c.insert.new.self) c.loop-number.invariant c.in_ok-insert.ensures.ok)
 
 pub returns : goal.returns
 returns g c =

@@ -9,7 +9,7 @@ loop-number-init c =
     c.in_ok-flags.ensures.items_if_clones_equal (λ y same. same) ∙ ap (λ n. replicate n false) c.count.ensures in
     rw c.new-numbers.ensures.items
     (looked_starts c.args.links.now c.args.starts.now c.flag_all.new.flags.items c.flag_all.new.waiting.items
-        (rw (clear, c.new-waiting.ensures.items) at c.in_ok-flag_all.ensures))
+    (rw (clear, c.new-waiting.ensures.items) at c.in_ok-flag_all.ensures))
 
 pub flag_all-requires : goal.flag_all-requires
 flag_all-requires c n start =
@@ -30,9 +30,9 @@ pub loop-number-preserved : goal.loop-number-preserved
 loop-number-preserved c =
     rw c.in_ok-push.ensures.items
     (looked_more c.args.links.now c.args.starts.now c.in-Some.number c.loop-number.flags.items
-        c.flag_all-in-Some.new.flags.items c.pop.new.self.items c.flag_all-in-Some.new.waiting.items
-        c.loop-number.numbers.items
-        (rw c.in-Some.ensures.items at c.loop-number.invariant) (rw c.from.ensures at c.in_ok-flag_all-2.ensures))
+    c.flag_all-in-Some.new.flags.items c.pop.new.self.items c.flag_all-in-Some.new.waiting.items
+    c.loop-number.numbers.items
+    (rw c.in-Some.ensures.items at c.loop-number.invariant) (rw c.from.ensures at c.in_ok-flag_all-2.ensures))
 
 pub returns : goal.returns
 returns c =
