@@ -11,9 +11,11 @@ mod numbering;
 mod product;
 mod rows;
 mod steps;
+mod threads;
 
 pub use build::binary;
 pub use fault::BinaryFault;
 pub use form::Binary;
 pub use laws::{closure_is_derivation, each_symbol_has_its_number, products_agree};
 pub use numbering::symbol_count;
+pub use threads::binary_forms_cross_threads;

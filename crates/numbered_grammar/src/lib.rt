@@ -10,6 +10,7 @@ mod nullable;
 mod parts;
 mod places;
 mod stepping;
+mod threads;
 
 pub use fault::CycleFault;
 pub use grammar::Grammar;
@@ -18,6 +19,7 @@ pub use spec_grammar::{Label, Rule, Symbol};
 pub use spec_lexing::KindDef;
 pub use spec_text::Name;
 pub use sqlite_items::Items;
+pub use threads::grammars_cross_threads;
 
 #[cfg(test)]
 mod tests;
