@@ -1,0 +1,2 @@
+pub mod FirstTreeLemmas
+pub mod ExistenceLemmas

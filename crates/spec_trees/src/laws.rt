@@ -1,0 +1,22 @@
+//! Laws of first trees. Each body is empty: the contract is the law, and calling the function cites
+//! it.
+ghost use Rattle.spec_trees.specs.Laws.{DerivedSpansHaveFirstTrees};
+ghost use Rattle.spec_trees.specs.Laws.{FirstTreesAreParseTrees, LeftTellsApart, OneFirstTree};
+
+/// A symbol has one first tree over a span at most, in any grammar and any order that tells lists of
+/// ends apart. The order from the left does so.
+pub fn one_first_tree()
+    ensures any { OneFirstTree }
+    ensures left { LeftTellsApart }
+{}
+
+/// A first tree is a parse tree, whatever the order of ends is.
+pub fn a_first_tree_is_a_parse_tree()
+    ensures { FirstTreesAreParseTrees }
+{}
+
+/// In a grammar whose categories don't reach themselves a symbol has a first tree over each span that
+/// it derives. Whether a span is derived has to be told of each.
+pub fn a_derived_span_has_a_first_tree()
+    ensures { DerivedSpansHaveFirstTrees }
+{}

@@ -1,0 +1,7 @@
+//! Which of the parse trees of a symbol over a span is the first, and how it is printed. There is no
+//! search for it here.
+#![tactic(auto)]
+
+mod laws;
+
+pub use laws::{a_derived_span_has_a_first_tree, a_first_tree_is_a_parse_tree, one_first_tree};
