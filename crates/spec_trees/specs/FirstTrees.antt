@@ -1,6 +1,6 @@
 -- The first of the parse trees of a symbol over a span, and how many nodes a tree has.
 use Rattle.std.specs.Prelude.{◌≡◌, ℕ, suc, ◌+◌, ◌<◌, List, [], ◌∷◌, Option, Some, slice_get}
-use Rattle.std.specs.Prelude.{Bool, true, false, ◌||◌, ◌&&◌, nat_eq, nat_lt, IsTrue}
+use Rattle.std.specs.Prelude.{Bool, false, ◌||◌, ◌&&◌, nat_eq, nat_lt, IsTrue}
 use Rattle.spec_grammar.specs.declared.rule.Symbol.{Symbol}
 use Rattle.spec_grammar.specs.declared.rule.Symbol.TheVariants.{Category}
 use Rattle.spec_grammar.specs.declared.rule.Rule.{Rule}

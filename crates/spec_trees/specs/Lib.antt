@@ -1,2 +1,3 @@
 pub mod FirstTrees
+pub mod TreeText
 pub mod Laws

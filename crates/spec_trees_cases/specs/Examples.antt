@@ -1,0 +1,153 @@
+-- Four small grammars, each with a text, the first tree of the text and another tree of it.
+use Rattle.std.specs.Prelude.{ℕ, ◌+◌, List, [], ◌∷◌, Option, Some, None, codes}
+use Rattle.spec_lexing.specs.Lexicon.{lexicon_of}
+use Rattle.spec_lexing.specs.declared.expression.Expr.TheVariants.{Eps}
+use Rattle.spec_lexing.specs.declared.kind_def.KindDef.{KindDef}
+use Rattle.spec_lexing.specs.declared.kind_def.KindDef.TheVariants.{Word, Token as TokenDef}
+use Rattle.spec_lexing.specs.declared.token.Token.{Token}
+use Rattle.spec_grammar.specs.declared.rule.Label.{Label}
+use Rattle.spec_grammar.specs.declared.rule.Label.TheVariants.{Named, Wild, Nil, Cons, One}
+use Rattle.spec_grammar.specs.declared.rule.Symbol.{Symbol}
+use Rattle.spec_grammar.specs.declared.rule.Symbol.TheVariants.{Category, Kind}
+use Rattle.spec_grammar.specs.declared.rule.Rule.{Rule}
+use Rattle.spec_grammar.specs.Grammars.{Grammar}
+use Rattle.spec_grammar.specs.Trees.{Tree, leaf, node, Forest, no_trees, trees}
+
+-- the rule
+abbrev pub labelled : Label → ℕ → List Symbol → Rule
+labelled label category items = record { label = label; category = category; items = items }
+
+-- the grammar of these rules and kinds; no text is printed of its categories or of its entry
+abbrev pub grammar_of : List Rule → List KindDef → Grammar
+grammar_of rules kinds =
+    record { rules = rules; categories = []; lexicon = lexicon_of kinds; entry = None }
+
+-- a kind of token of this name; by which expression tokens are cut does not matter
+abbrev pub named_kind : List ℕ → KindDef
+named_kind name = TokenDef name Eps
+
+-- the token of this kind and these bytes
+abbrev pub token_of : ℕ → ℕ → ℕ → Token
+token_of kind first end = record { kind = Some kind; first = first; end = end }
+
+-- the tree of the token of this kind at a place
+abbrev pub token_tree : ℕ → ℕ → Tree
+token_tree kind place = leaf kind place (place + 1)
+
+-- the trees side by side
+abbrev pub one_tree : Tree → Forest
+one_tree t = trees t no_trees
+
+abbrev pub two_trees : Tree → Tree → Forest
+two_trees t other = trees t (one_tree other)
+
+-- an ambiguous sum: `Sum . E ::= E E`, `A . E ::= "a"`
+abbrev pub sums : List Rule
+sums =
+    labelled (Named (codes "Sum")) 0 (Category 0 ∷ Category 0 ∷ [])
+    ∷ labelled (Named (codes "A")) 0 (Kind 0 ∷ []) ∷ []
+
+-- three tokens `a`
+abbrev pub three_kinds : List (Option ℕ)
+three_kinds = Some 0 ∷ Some 0 ∷ Some 0 ∷ []
+
+abbrev pub three_tokens : List Token
+three_tokens = token_of 0 0 1 ∷ token_of 0 1 2 ∷ token_of 0 2 3 ∷ []
+
+-- the tree of one of them
+abbrev pub letter : ℕ → Tree
+letter place = node 1 place (place + 1) (one_tree (token_tree 0 place))
+
+-- the tree of a sum over i..j
+abbrev pub sum : Tree → Tree → ℕ → ℕ → Tree
+sum t other i j = node 0 i j (two_trees t other)
+
+-- the sum whose first item is the shortest possible
+abbrev pub right_sum : Tree
+right_sum = sum (letter 0) (sum (letter 1) (letter 2) 1 3) 0 3
+
+-- the sum whose second item is
+abbrev pub left_sum : Tree
+left_sum = sum (sum (letter 0) (letter 1) 0 2) (letter 2) 0 3
+
+-- siblings that may be empty: `Pair . S ::= P P`, `Empty . P ::=`, `Full . P ::= Letter`
+abbrev pub pairs : List Rule
+pairs =
+    labelled (Named (codes "Pair")) 0 (Category 1 ∷ Category 1 ∷ [])
+    ∷ labelled (Named (codes "Empty")) 1 []
+    ∷ labelled (Named (codes "Full")) 1 (Kind 0 ∷ []) ∷ []
+
+-- one token
+abbrev pub one_kind : List (Option ℕ)
+one_kind = Some 0 ∷ []
+
+abbrev pub one_token : List Token
+one_token = token_of 0 0 1 ∷ []
+
+-- the empty sibling at a place, and the one over the token
+abbrev pub empty_sibling : ℕ → Tree
+empty_sibling place = node 1 place place no_trees
+
+abbrev pub full_sibling : Tree
+full_sibling = node 2 0 1 (one_tree (token_tree 0 0))
+
+-- the token in the second sibling, and in the first
+abbrev pub second_full : Tree
+second_full = node 0 0 1 (two_trees (empty_sibling 0) full_sibling)
+
+abbrev pub first_full : Tree
+first_full = node 0 0 1 (two_trees full_sibling (empty_sibling 1))
+
+-- two rules for one token: `Less . S ::= Mark`, `More . S ::= Mark`
+abbrev pub ties : List Rule
+ties =
+    labelled (Named (codes "Less")) 0 (Kind 0 ∷ [])
+    ∷ labelled (Named (codes "More")) 0 (Kind 0 ∷ []) ∷ []
+
+-- the tree of either rule over the one token
+abbrev pub tie : ℕ → Tree
+tie r = node r 0 1 (one_tree (token_tree 0 0))
+
+-- lists in four forms, and their elements: `[] . [N] ::=`, `(:[]) . [N] ::= N`,
+-- `(:) . [N] ::= N [N]`, `_ . [N] ::= "(" [N] ")"`, `Num . N ::= Digits`
+abbrev pub lists : List Rule
+lists =
+    labelled Nil 0 []
+    ∷ labelled One 0 (Category 1 ∷ [])
+    ∷ labelled Cons 0 (Category 1 ∷ Category 0 ∷ [])
+    ∷ labelled Wild 0 (Kind 1 ∷ Category 0 ∷ Kind 2 ∷ [])
+    ∷ labelled (Named (codes "Num")) 1 (Kind 0 ∷ []) ∷ []
+
+abbrev pub list_kinds : List KindDef
+list_kinds = named_kind (codes "Digits") ∷ Word (codes "(") ∷ Word (codes ")") ∷ []
+
+-- two tokens of digits
+abbrev pub two_kinds : List (Option ℕ)
+two_kinds = Some 0 ∷ Some 0 ∷ []
+
+abbrev pub two_tokens : List Token
+two_tokens = token_of 0 0 1 ∷ token_of 0 2 4 ∷ []
+
+-- the tree of a number at a place
+abbrev pub number : ℕ → Tree
+number place = node 4 place (place + 1) (one_tree (token_tree 0 place))
+
+-- the list of the number at a place alone, and with an empty list behind it
+abbrev pub last_number : ℕ → Tree
+last_number place = node 1 place (place + 1) (one_tree (number place))
+
+abbrev pub number_before_nil : ℕ → Tree
+number_before_nil place =
+    node 2 place (place + 1) (two_trees (number place) (node 0 (place + 1) (place + 1) no_trees))
+
+-- the list of the first number and of the others, which end at j
+abbrev pub number_before : Tree → ℕ → Tree
+number_before others j = node 2 0 j (two_trees (number 0) others)
+
+-- a list in brackets behind the first number: `1(22)`
+abbrev pub bracket_tokens : List Token
+bracket_tokens = token_of 0 0 1 ∷ token_of 1 1 2 ∷ token_of 0 2 4 ∷ token_of 2 4 5 ∷ []
+
+abbrev pub bracket_list : Tree
+bracket_list =
+    number_before (node 3 1 4 (trees (token_tree 1 1) (two_trees (last_number 2) (token_tree 2 3)))) 4
