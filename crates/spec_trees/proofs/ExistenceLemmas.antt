@@ -15,67 +15,8 @@ use Rattle.spec_grammar.specs.CycleLaws.{StepsLeadBelow}
 use Rattle.spec_grammar.proofs.DerivationLemmas.{derives_within, derives_all_within, category_derives, none_derive, some_derive, tree_ordered, forest_ordered, tree_anywhere}
 use Rattle.spec_grammar.proofs.CycleLemmas.{step_lengthens, chain_is_short}
 use Rattle.spec_trees.specs.FirstTrees.{end_of, ends_of, lesser_from_left, NoLesserRule, NoEndsBefore, IsFirstTree, AreFirstTrees}
+use Rattle.spec_trees.proofs.ToldLemmas.{IsToldOf, told_both, told_below, least, below_or_not}
 use Rattle.spec_trees.proofs.FirstTreeLemmas.{below_same_above, lesser_cases, tree_end, first_is_parse_tree}
-
--- the fact is so, or it is not
-abbrev pub IsToldOf : Type 0 → Type 0
-IsToldOf P = P ⊎ (P → ⊥)
-
--- two facts that are told of are told of together
-pub told_both : (P Q : Type 0) → IsToldOf P → IsToldOf Q → IsToldOf (P × Q)
-told_both P Q (inl p) (inl q) = inl (p, q)
-told_both P Q (inr none) q = inr (λ both. none both.0)
-told_both P Q p (inr none) = inr (λ both. none both.1)
-
--- a number below the next one is below this one, or this one
-below_or_last : (n k : ℕ) → k < suc n → (k < n) ⊎ (n ≡ k)
-below_or_last n k below = grind arith
-
-module _ (P : ℕ → Type 0) (told : (k : ℕ) → IsToldOf (P k)) where
-  -- the least number of which it is so
-  abbrev pub HasLeast : Type 0
-  HasLeast = (k : ℕ) × P k × ((m : ℕ) → m < k → P m → ⊥)
-
-  -- below a number there is a least one of which it is so, or there is none
-  pub least_or_none : (n : ℕ) → HasLeast ⊎ ((k : ℕ) → k < n → P k → ⊥)
-  least_or_none zero = inr (λ k below. absurd (omega (arith, below)))
-  least_or_none (suc n) = elim (least_or_none n) [
-    | inl least ↦ inl least
-    | inr none ↦ here none (told n)
-  ]
-    where
-      here :
-          ((k : ℕ) → k < n → P k → ⊥) → IsToldOf (P n)
-          → HasLeast ⊎ ((k : ℕ) → k < suc n → P k → ⊥)
-      here none (inl is) = inl (n, is, none)
-      here none (inr not_it) = inr (λ k below. elim (below_or_last n k below) [
-        | inl less ↦ none k less
-        | inr last ↦ subst (λ m. P m → ⊥) last not_it
-      ])
-
-  -- some number, so a least one
-  pub least : (k : ℕ) → P k → HasLeast
-  least k is = elim (least_or_none (suc k)) [
-    | inl has ↦ has
-    | inr none ↦ absurd (none k (omega arith) is)
-  ]
-
-  -- it is told whether there is one below a number
-  pub told_below : (n : ℕ) → IsToldOf ((k : ℕ) × (k < n) × P k)
-  told_below zero = inr (λ x. absurd (omega (arith, x.1)))
-  told_below (suc n) = elim (told_below n) [
-    | inl x ↦ inl (x.0, omega (arith, x.1), x.2)
-    | inr none ↦ here none (told n)
-  ]
-    where
-      here :
-          ((k : ℕ) × (k < n) × P k → ⊥) → IsToldOf (P n)
-          → IsToldOf ((k : ℕ) × (k < suc n) × P k)
-      here none (inl is) = inl (n, omega arith, is)
-      here none (inr not_it) = inr (λ x. elim (below_or_last n x.0 x.1) [
-        | inl less ↦ none (x.0, less, x.2)
-        | inr last ↦ not_it (subst P (sym last) x.2)
-      ])
 
 -- how far the symbols of items go
 abbrev symbol_bound : Symbol → ℕ
@@ -277,16 +218,13 @@ module _ (rules : List Rule) (kinds : List (Option ℕ)) where
           → Derives rules kinds s a k → HasFirstTree s a k
       item_has_first front behind (Kind kind) a k is from to before after d = kind_has_first kind a k d
       item_has_first front behind (Category b) a k is from to before after d =
-          elim (shorter_or_whole (a + len) k) [
+          elim (below_or_not k (a + len)) [
             | inl less ↦ shorter (Category b) a k less d
             | inr whole ↦
                 below b (step (before (omega (arith, fits, from, to, whole))) (after (omega (arith, fits, from, to, whole)))) a k
                 (omega (arith, fits, from, to, whole)) d
           ]
         where
-          shorter_or_whole : (n k : ℕ) → (k < n) ⊎ (n ≤ k)
-          shorter_or_whole n k = grind arith
-
           step : All (IsNullable rules) front → All (IsNullable rules) behind → StepsTo rules c b
           step nullable_before nullable_behind = record {
             r = r;

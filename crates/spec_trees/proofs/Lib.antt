@@ -1,2 +1,4 @@
 pub mod FirstTreeLemmas
+pub mod ToldLemmas
+pub mod TellingLemmas
 pub mod ExistenceLemmas

@@ -33,14 +33,15 @@ FirstTreesAreParseTrees =
     (rules : List Rule) (kinds : List (Option ℕ)) (t : Tree) (s : Symbol) (i j : ℕ)
     → IsFirstTree is_before rules kinds t s i j → IsParseTree rules kinds t s i j
 
--- it is told of each symbol and span whether the one derives the other
-abbrev pub TellsDerivation : List Rule → List (Option ℕ) → Type 0
-TellsDerivation rules kinds =
-    (s : Symbol) (i j : ℕ) → Derives rules kinds s i j ⊎ (Derives rules kinds s i j → ⊥)
+-- in any grammar a symbol derives a span or does not, and which of the two can be found out
+abbrev pub DerivedOrNot : Type 0
+DerivedOrNot =
+    (rules : List Rule) (kinds : List (Option ℕ)) (s : Symbol) (i j : ℕ)
+    → Derives rules kinds s i j ⊎ (Derives rules kinds s i j → ⊥)
 
 -- where no category reaches itself, a symbol has a first tree over each span that it derives
 abbrev pub DerivedSpansHaveFirstTrees : Type 0
 DerivedSpansHaveFirstTrees =
-    (rules : List Rule) (kinds : List (Option ℕ)) → TellsDerivation rules kinds → IsAcyclic rules
+    (rules : List Rule) (kinds : List (Option ℕ)) → IsAcyclic rules
     → (s : Symbol) (i j : ℕ) → Derives rules kinds s i j
     → (t : Tree) × IsFirstTree lesser_from_left rules kinds t s i j

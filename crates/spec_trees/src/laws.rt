@@ -1,6 +1,6 @@
 //! Laws of first trees. Each body is empty: the contract is the law, and calling the function cites
 //! it.
-ghost use Rattle.spec_trees.specs.Laws.{DerivedSpansHaveFirstTrees};
+ghost use Rattle.spec_trees.specs.Laws.{DerivedOrNot, DerivedSpansHaveFirstTrees};
 ghost use Rattle.spec_trees.specs.Laws.{FirstTreesAreParseTrees, LeftTellsApart, OneFirstTree};
 
 /// A symbol has one first tree over a span at most, in any grammar and any order that tells lists of
@@ -15,8 +15,14 @@ pub fn a_first_tree_is_a_parse_tree()
     ensures { FirstTreesAreParseTrees }
 {}
 
+/// Of each span of each symbol, in any grammar, it can be found out whether the one derives the other.
+pub fn derived_or_not()
+    ensures { DerivedOrNot }
+{}
+
 /// In a grammar whose categories don't reach themselves a symbol has a first tree over each span that
-/// it derives. Whether a span is derived has to be told of each.
+/// it derives. In another grammar it may have none: its least rule may lead back to it over the same
+/// span.
 pub fn a_derived_span_has_a_first_tree()
     ensures { DerivedSpansHaveFirstTrees }
 {}

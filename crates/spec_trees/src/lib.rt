@@ -4,4 +4,6 @@
 
 mod laws;
 
-pub use laws::{a_derived_span_has_a_first_tree, a_first_tree_is_a_parse_tree, one_first_tree};
+pub use laws::{
+    a_derived_span_has_a_first_tree, a_first_tree_is_a_parse_tree, derived_or_not, one_first_tree,
+};
