@@ -2,3 +2,4 @@ pub mod FirstTreeLemmas
 pub mod ToldLemmas
 pub mod TellingLemmas
 pub mod ExistenceLemmas
+pub mod LeastTreeLemmas

@@ -5,6 +5,7 @@ use Rattle.spec_grammar.specs.declared.rule.Rule.{Rule}
 use Rattle.spec_grammar.specs.Trees.{Tree}
 use Rattle.spec_grammar.specs.Derivation.{IsParseTree, Derives}
 use Rattle.spec_grammar.specs.Cycles.{IsAcyclic}
+use Rattle.spec_trees.specs.TreeOrders.{ComesBefore}
 use Rattle.spec_trees.specs.FirstTrees.{EndsOrder, lesser_from_left, IsFirstTree}
 
 -- of two equally long lists that are not the same, one comes before the other
@@ -45,3 +46,20 @@ DerivedSpansHaveFirstTrees =
     (rules : List Rule) (kinds : List (Option ℕ)) → IsAcyclic rules
     → (s : Symbol) (i j : ℕ) → Derives rules kinds s i j
     → (t : Tree) × IsFirstTree lesser_from_left rules kinds t s i j
+
+-- no parse tree of the symbol over the span comes before a first tree, whatever the order
+abbrev pub FirstTreesAreLeast : Type 0
+FirstTreesAreLeast =
+    (is_before : EndsOrder)
+    (rules : List Rule) (kinds : List (Option ℕ)) (t other : Tree) (s : Symbol) (i j : ℕ)
+    → IsFirstTree is_before rules kinds t s i j → IsParseTree rules kinds other s i j
+    → ComesBefore is_before other t → ⊥
+
+-- where no category reaches itself, a parse tree before which none comes is the first tree
+abbrev pub LeastTreesAreFirst : Type 0
+LeastTreesAreFirst =
+    (rules : List Rule) (kinds : List (Option ℕ)) → IsAcyclic rules
+    → (t : Tree) (s : Symbol) (i j : ℕ) → IsParseTree rules kinds t s i j
+    → ((other : Tree)
+    → IsParseTree rules kinds other s i j → ComesBefore lesser_from_left other t → ⊥)
+    → IsFirstTree lesser_from_left rules kinds t s i j

@@ -1,3 +1,4 @@
 pub mod FirstTrees
+pub mod TreeOrders
 pub mod TreeText
 pub mod Laws

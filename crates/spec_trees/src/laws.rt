@@ -1,7 +1,8 @@
 //! Laws of first trees. Each body is empty: the contract is the law, and calling the function cites
 //! it.
 ghost use Rattle.spec_trees.specs.Laws.{DerivedOrNot, DerivedSpansHaveFirstTrees};
-ghost use Rattle.spec_trees.specs.Laws.{FirstTreesAreParseTrees, LeftTellsApart, OneFirstTree};
+ghost use Rattle.spec_trees.specs.Laws.{FirstTreesAreLeast, FirstTreesAreParseTrees};
+ghost use Rattle.spec_trees.specs.Laws.{LeastTreesAreFirst, LeftTellsApart, OneFirstTree};
 
 /// A symbol has one first tree over a span at most, in any grammar and any order that tells lists of
 /// ends apart. The order from the left does so.
@@ -25,4 +26,11 @@ pub fn derived_or_not()
 /// span.
 pub fn a_derived_span_has_a_first_tree()
     ensures { DerivedSpansHaveFirstTrees }
+{}
+
+/// The first tree is the parse tree before which no other comes: none comes before a first tree, and
+/// in a grammar whose categories don't reach themselves a tree before which none comes is first.
+pub fn first_trees_are_least()
+    ensures first { FirstTreesAreLeast }
+    ensures least { LeastTreesAreFirst }
 {}

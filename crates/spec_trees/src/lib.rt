@@ -5,5 +5,6 @@
 mod laws;
 
 pub use laws::{
-    a_derived_span_has_a_first_tree, a_first_tree_is_a_parse_tree, derived_or_not, one_first_tree,
+    a_derived_span_has_a_first_tree, a_first_tree_is_a_parse_tree, derived_or_not,
+    first_trees_are_least, one_first_tree,
 };
