@@ -1,8 +1,9 @@
 -- Where no category reaches itself, and each span of each symbol is derived or not, a derived span
 -- has a first tree: the least rule, the least ends, then first trees of shorter spans or of
 -- categories to which the category steps.
-use Rattle.std.proofs.Common.{◌≡◌, ℕ, zero, suc, ◌+◌, ◌<◌, ◌≤◌, ◌⊎◌, inl, inr, List, [], ◌∷◌, ◌++◌, Option, Some, None, slice_get, refl, sym, ◌∙◌, ap, subst, arith, append_assoc}
+use Rattle.std.proofs.Common.{◌≡◌, ℕ, zero, suc, ◌+◌, ◌<◌, ◌≤◌, ◌⊎◌, inl, inr, List, [], ◌∷◌, ◌++◌, Option, Some, None, slice_get, Bool, refl, sym, ◌∙◌, ap, subst, arith, append_assoc}
 use Rattle.std.specs.List.{All}
+use Rattle.std.specs.Prelude.{IsTrue}
 use Rattle.std.proofs.lemmas.List.Elements.{All-nil, All-cons, All-append}
 use Rattle.spec_grammar.specs.declared.rule.Symbol.{Symbol}
 use Rattle.spec_grammar.specs.declared.rule.Symbol.TheVariants.{Category, Kind}
@@ -14,9 +15,10 @@ use Rattle.spec_grammar.specs.Cycles.{StepsTo, IsAcyclic, HasChain}
 use Rattle.spec_grammar.specs.CycleLaws.{StepsLeadBelow}
 use Rattle.spec_grammar.proofs.DerivationLemmas.{derives_within, derives_all_within, category_derives, none_derive, some_derive, tree_ordered, forest_ordered, tree_anywhere}
 use Rattle.spec_grammar.proofs.CycleLemmas.{step_lengthens, chain_is_short}
-use Rattle.spec_trees.specs.FirstTrees.{end_of, ends_of, lesser_from_left, NoLesserRule, NoEndsBefore, IsFirstTree, AreFirstTrees}
-use Rattle.spec_trees.proofs.ToldLemmas.{IsToldOf, told_both, told_below, least, below_or_not}
-use Rattle.spec_trees.proofs.FirstTreeLemmas.{below_same_above, lesser_cases, tree_end, first_is_parse_tree}
+use Rattle.spec_trees.specs.FirstTrees.{tree_end, ends_of, from_left, NoLesserRule, NoEndsBefore, IsFirstTree, AreFirstTrees}
+use Rattle.spec_trees.specs.Laws.{IsStrictOrder}
+use Rattle.spec_trees.proofs.ToldLemmas.{IsToldOf, told_both, told_below, least, least_below, below_or_not}
+use Rattle.spec_trees.proofs.FirstTreeLemmas.{below_same_above, lesser_cases, ends_with_span, first_is_parse_tree}
 
 -- how far the symbols of items go
 abbrev symbol_bound : Symbol → ℕ
@@ -68,10 +70,10 @@ no_long_chain rules acyclic c =
           items_within rules step.r step.rule step.is_rule,
         )
 
-module _ (rules : List Rule) (kinds : List (Option ℕ)) where
+module _ (is_lesser : ℕ → ℕ → Bool) (order : IsStrictOrder is_lesser) (rules : List Rule) (kinds : List (Option ℕ)) where
   -- the symbol has a first tree over the span
   abbrev pub HasFirstTree : Symbol → ℕ → ℕ → Type 0
-  HasFirstTree s i j = (t : Tree) × IsFirstTree lesser_from_left rules kinds t s i j
+  HasFirstTree s i j = (t : Tree) × IsFirstTree (from_left is_lesser) rules kinds t s i j
 
   -- the parse tree of a kind is its first
   kind_has_first : (k i j : ℕ) → Derives rules kinds (Kind k) i j → HasFirstTree (Kind k) i j
@@ -122,21 +124,22 @@ module _ (rules : List Rule) (kinds : List (Option ℕ)) where
     abbrev pub HasLeastEnds : List Symbol → ℕ → ℕ → Type 0
     HasLeastEnds items i j =
         (ts : Forest) × AreParseTrees rules kinds ts items i j
-        × NoEndsBefore lesser_from_left rules kinds (ends_of ts) items i j
+        × NoEndsBefore (from_left is_lesser) rules kinds (ends_of ts) items i j
 
     -- items that derive a span do so with ends before which no others come
     least_ends : (items : List Symbol) (i j : ℕ) → DerivesAll rules kinds items i j → HasLeastEnds items i j
     least_ends [] i j d = (no_trees, (refl, (none_derive rules kinds i j).0 d), none_before)
       where
-        none_before : NoEndsBefore lesser_from_left rules kinds [] [] i j
+        none_before : NoEndsBefore (from_left is_lesser) rules kinds [] [] i j
         none_before no_trees are before = cc
         none_before (trees t ts) are before = cc
     least_ends (s ∷ rest) i j d =
         let x = (some_derive rules kinds s rest i j).0 d in
-        let cut = least Cut cut_told x.0 (x.1, x.2) in
-        let others = least_ends rest cut.0 j cut.1.1 in
-        let first = cut.1.0 in
-        (trees first.0 others.0, (s, rest, cut.0, refl, first.1, others.1), none_before cut.0 first.0 others.0 first.1 cut.2 others.2)
+        let within = (derives_all_within rules kinds rest x.0 j x.2).0 in
+        let cut = least_below is_lesser order Cut cut_told (suc j) x.0 (omega (arith, within)) (x.1, x.2) in
+        let others = least_ends rest cut.0 j cut.2.1 in
+        let first = cut.2.0 in
+        (trees first.0 others.0, (s, rest, cut.0, refl, first.1, others.1), none_before cut.0 first.0 others.0 first.1 cut.3 others.2)
       where
         Cut : ℕ → Type 0
         Cut k = Derives rules kinds s i k × DerivesAll rules kinds rest k j
@@ -148,21 +151,23 @@ module _ (rules : List Rule) (kinds : List (Option ℕ)) where
 
         none_before :
             (k : ℕ) (t : Tree) (ts : Forest) → IsParseTree rules kinds t s i k
-            → ((m : ℕ) → m < k → Cut m → ⊥)
-            → NoEndsBefore lesser_from_left rules kinds (ends_of ts) rest k j
-            → NoEndsBefore lesser_from_left rules kinds (end_of t ∷ ends_of ts) (s ∷ rest) i j
+            → ((m : ℕ) → m < suc j → Cut m → IsTrue (is_lesser m k) → ⊥)
+            → NoEndsBefore (from_left is_lesser) rules kinds (ends_of ts) rest k j
+            → NoEndsBefore (from_left is_lesser) rules kinds (tree_end t ∷ ends_of ts) (s ∷ rest) i j
         none_before k t ts is lesser behind no_trees are before = cc
         none_before k t ts is lesser behind (trees u us) are before =
             let symbol : are.0 ≡ s = cc in
             let items : are.1 ≡ rest = cc in
-            let own : end_of t ≡ k = tree_end rules kinds t s i k is in
-            let end : end_of u ≡ are.2 = tree_end rules kinds u are.0 i are.2 are.4 in
+            let own : tree_end t ≡ k = ends_with_span rules kinds t s i k is in
+            let end : tree_end u ≡ are.2 = ends_with_span rules kinds u are.0 i are.2 are.4 in
             let tree : IsParseTree rules kinds u s i are.2 =
             subst (λ (x : Symbol). IsParseTree rules kinds u x i are.2) symbol are.4 in
             let forest : AreParseTrees rules kinds us rest are.2 j =
             subst (λ (x : List Symbol). AreParseTrees rules kinds us x are.2 j) items are.5 in
-            elim (lesser_cases (end_of u) (end_of t) (ends_of us) (ends_of ts) before) [
-              | inl below ↦ lesser are.2 (omega (arith, below, own, end)) ((u, tree), (us, forest))
+            elim (lesser_cases is_lesser (tree_end u) (tree_end t) (ends_of us) (ends_of ts) before) [
+              | inl below ↦
+                  let back : are.2 ≤ j = forest_ordered rules kinds us are.1 are.2 j are.5 in
+                  lesser are.2 (omega (arith, back)) ((u, tree), (us, forest)) (rw (end, own) at below)
               | inr same ↦
                   let cut : are.2 ≡ k = sym end ∙ (same.0 ∙ own) in
                   behind us (subst (λ n. AreParseTrees rules kinds us rest n j) cut forest) same.1
@@ -243,7 +248,7 @@ module _ (rules : List Rule) (kinds : List (Option ℕ)) where
           (front items : List Symbol) (a : ℕ)
           → rule.items ≡ front ++ items → i ≤ a → (a ≤ i → All (IsNullable rules) front)
           → (ts : Forest) → AreParseTrees rules kinds ts items a j
-          → (us : Forest) × AreFirstTrees lesser_from_left rules kinds us items a j
+          → (us : Forest) × AreFirstTrees (from_left is_lesser) rules kinds us items a j
           × (ends_of us ≡ ends_of ts)
       items_have_firsts front items a is from before no_trees are = (no_trees, are, refl)
       items_have_firsts front items a is from before (trees t ts) are =
@@ -260,15 +265,23 @@ module _ (rules : List Rule) (kinds : List (Option ℕ)) where
           λ empty. All-append (IsNullable rules) front (s ∷ []) (before (omega (arith, order, empty)))
           (All-cons (IsNullable rules) s [] (nullable_tree t s a k are.4 (omega (arith, empty, from))) (All-nil (IsNullable rules))) in
           let others = items_have_firsts (front ++ (s ∷ [])) rest k more (omega (arith, from, order)) passed ts are.5 in
-          let own : end_of first.0 ≡ k =
-          tree_end rules kinds first.0 s a k (first_is_parse_tree rules kinds lesser_from_left first.0 s a k first.1) in
-          let end : end_of t ≡ k = tree_end rules kinds t s a k are.4 in
-          let same : end_of first.0 ≡ end_of t = own ∙ sym end in
+          let own : tree_end first.0 ≡ k =
+          ends_with_span rules kinds first.0 s a k (first_is_parse_tree rules kinds (from_left is_lesser) first.0 s a k first.1) in
+          let end : tree_end t ≡ k = ends_with_span rules kinds t s a k are.4 in
+          let same : tree_end first.0 ≡ tree_end t = own ∙ sym end in
           (trees first.0 others.0, (s, rest, k, are.3, first.1, others.1), ends_same same others.2)
         where
           ends_same :
               {x y : ℕ} {xs ys : List ℕ} → x ≡ y → xs ≡ ys → x ∷ xs ≡ y ∷ ys
           ends_same same others = cc
+
+    -- trees with the same ends have them as early
+    same_ends_kept :
+        (items : List Symbol) (i j : ℕ) (ts us : Forest) → ends_of us ≡ ends_of ts
+        → NoEndsBefore (from_left is_lesser) rules kinds (ends_of ts) items i j
+        → NoEndsBefore (from_left is_lesser) rules kinds (ends_of us) items i j
+    same_ends_kept items i j ts us same none =
+        subst (λ ends. NoEndsBefore (from_left is_lesser) rules kinds ends items i j) (sym same) none
 
     -- the first tree of a category whose chains are shorter than n
     category_has_first :
@@ -283,10 +296,10 @@ module _ (rules : List Rule) (kinds : List (Option ℕ)) where
         let below : (b : ℕ) → StepsTo rules c b → HasFirstsUpTo len b =
         λ b step. category_has_first len shorter n b (λ chain. none (step_lengthens rules c b n step chain)) in
         let firsts = items_have_firsts len c r rule first.1.1 first.1.2 shorter below i j fits [] rule.items i refl (omega arith) (λ empty. All-nil (IsNullable rules)) ends.0 ends.1 in
-        let no_lesser : NoLesserRule lesser_from_left rules kinds r rule.category i j =
+        let no_lesser : NoLesserRule (from_left is_lesser) rules kinds r rule.category i j =
         λ lesser other less is same derives. first.2 lesser less (other, is, same ∙ first.1.2, derives) in
-        let no_before : NoEndsBefore lesser_from_left rules kinds (ends_of firsts.0) rule.items i j =
-        subst (λ es. NoEndsBefore lesser_from_left rules kinds es rule.items i j) (sym firsts.2) ends.2 in
+        let no_before : NoEndsBefore (from_left is_lesser) rules kinds (ends_of firsts.0) rule.items i j =
+        same_ends_kept rule.items i j ends.0 firsts.0 firsts.2 ends.2 in
         (node r i j firsts.0, (rule, first.1.1, ap Category (sym first.1.2), firsts.1, refl, refl, no_lesser, no_before))
 
     module _ (acyclic : IsAcyclic rules) where

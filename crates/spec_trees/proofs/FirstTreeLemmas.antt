@@ -1,72 +1,123 @@
 -- A first tree is a parse tree, and there is one at most.
 use Rattle.std.proofs.Common.{◌≡◌, ℕ, suc, ◌<◌, ◌⊎◌, inl, inr, List, [], ◌∷◌, Option, Some, length, slice_get, refl, sym, ◌∙◌, ap, subst, arith, Bool, true, false, ◌||◌, ◌&&◌}
 use Rattle.std.specs.Prelude.{nat_lt, nat_eq, IsTrue}
-use Rattle.std.proofs.lemmas.Bool.{lt-ltb, le-ltb, ltb-true, eqb-true}
+use Rattle.std.proofs.lemmas.Bool.{lt-ltb, ltb-true, eqb-true}
 use Rattle.std.proofs.lemmas.Bool.Decides.{nat_tests}
 use Rattle.spec_grammar.specs.declared.rule.Symbol.{Symbol}
 use Rattle.spec_grammar.specs.declared.rule.Rule.{Rule}
 use Rattle.spec_grammar.specs.Trees.{Tree, leaf, node, Forest, no_trees, trees}
 use Rattle.spec_grammar.specs.Derivation.{IsParseTree, AreParseTrees}
-use Rattle.spec_trees.specs.FirstTrees.{end_of, ends_of, EndsOrder, lesser_from_left, NoLesserRule, NoEndsBefore, IsFirstTree, AreFirstTrees}
-use Rattle.spec_trees.specs.Laws.{TellsApart}
+use Rattle.spec_trees.specs.FirstTrees.{tree_end, ends_of, EndsOrder, from_left, NoLesserRule, NoEndsBefore, IsFirstTree, AreFirstTrees}
+use Rattle.spec_trees.specs.Laws.{IsStrictOrder, TellsApart}
 
 -- a number is below another, or the same, or above it
 pub below_same_above : (m n : ℕ) → (m < n) ⊎ ((m ≡ n) ⊎ (n < m))
 below_same_above m n = grind arith
 
-module _ (end other : ℕ) (ends others : List ℕ) where
-  -- a list with a lesser first end comes before
-  pub lesser_first : end < other → IsTrue (lesser_from_left (end ∷ ends) (other ∷ others))
-  lesser_first below = rw (lt-ltb end other below) refl
+-- one of two tests is passed
+or_first : (a b : Bool) → IsTrue a → IsTrue (a || b)
+or_first true b passed = passed
+or_first false b passed = absurd (cc)
 
-  -- and so does one that comes before behind the same first end
-  pub lesser_behind :
-      end ≡ other → IsTrue (lesser_from_left ends others)
-      → IsTrue (lesser_from_left (end ∷ ends) (other ∷ others))
-  lesser_behind same before = rw (same, le-ltb other other (omega arith), before) grind (arith, nat_tests)
+or_second : (a b : Bool) → IsTrue b → IsTrue (a || b)
+or_second true b passed = refl
+or_second false b passed = passed
 
-  -- and no other
-  pub lesser_cases :
-      IsTrue (lesser_from_left (end ∷ ends) (other ∷ others))
-      → (end < other) ⊎ ((end ≡ other) × IsTrue (lesser_from_left ends others))
-  lesser_cases before = by_test (nat_lt end other) (nat_eq end other) refl refl before
-    where
-      by_test :
-          (lesser equal : Bool) → nat_lt end other ≡ lesser → nat_eq end other ≡ equal
-          → IsTrue (lesser || (equal && lesser_from_left ends others))
-          → (end < other) ⊎ ((end ≡ other) × IsTrue (lesser_from_left ends others))
-      by_test true equal is is_equal holds = inl (ltb-true end other is)
-      by_test false true is is_equal holds = inr (eqb-true end other is_equal, holds)
-      by_test false false is is_equal holds = absurd (cc)
+-- the test of two numbers that are the same is passed
+same_passes : (m n : ℕ) → m ≡ n → nat_eq m n ≡ true
+same_passes m n same = rw same grind (arith, nat_tests)
 
--- the order from the left tells lists apart
-pub left_tells_apart : TellsApart lesser_from_left
-left_tells_apart [] [] same = inl refl
-left_tells_apart [] (other ∷ others) same = absurd (omega (arith, same))
-left_tells_apart (end ∷ ends) [] same = absurd (omega (arith, same))
-left_tells_apart (end ∷ ends) (other ∷ others) same =
-    elim (below_same_above end other) [
-      | inl below ↦ inr (inl (lesser_first end other ends others below))
-      | inr (inl equal) ↦ behind equal (left_tells_apart ends others (omega (arith, same)))
-      | inr (inr above) ↦ inr (inr (lesser_first other end others ends above))
-    ]
-  where
-    behind :
-        end ≡ other
-        → (ends ≡ others)
-        ⊎ (IsTrue (lesser_from_left ends others) ⊎ IsTrue (lesser_from_left others ends))
-        → (end ∷ ends ≡ other ∷ others)
-        ⊎ (IsTrue (lesser_from_left (end ∷ ends) (other ∷ others))
-        ⊎ IsTrue (lesser_from_left (other ∷ others) (end ∷ ends)))
-    behind equal (inl all) = inl (cc)
-    behind equal (inr (inl before)) = inr (inl (lesser_behind end other ends others equal before))
-    behind equal (inr (inr after)) = inr (inr (lesser_behind other end others ends (sym equal) after))
+-- and then the other test decides
+and_second : (a b : Bool) → a ≡ true → IsTrue b → IsTrue (a && b)
+and_second a b is passed = rw is passed
+
+-- the lesser number first is a strict order
+pub lesser_is_strict : IsStrictOrder nat_lt
+lesser_is_strict = record {
+  apart = λ m n. elim (below_same_above m n) [
+    | inl below ↦ inr (inl (lt-ltb m n below))
+    | inr (inl same) ↦ inl same
+    | inr (inr above) ↦ inr (inr (lt-ltb n m above))
+  ];
+  chain = λ k m n below above.
+      lt-ltb k n (omega (arith, ltb-true k m below, ltb-true m n above));
+  never = λ n below. omega (arith, ltb-true n n below);
+}
+
+-- and so is the greater number first
+pub greater_is_strict : IsStrictOrder (λ m n. nat_lt n m)
+greater_is_strict = record {
+  apart = λ m n. elim (below_same_above n m) [
+    | inl below ↦ inr (inl (lt-ltb n m below))
+    | inr (inl same) ↦ inl (sym same)
+    | inr (inr above) ↦ inr (inr (lt-ltb m n above))
+  ];
+  chain = λ k m n below above.
+      lt-ltb n k (omega (arith, ltb-true m k below, ltb-true n m above));
+  never = λ n below. omega (arith, ltb-true n n below);
+}
+
+module _ (is_lesser : ℕ → ℕ → Bool) where
+  module _ (end other : ℕ) (ends others : List ℕ) where
+    -- a list with a lesser first end comes before
+    pub lesser_first :
+        IsTrue (is_lesser end other) → IsTrue (from_left is_lesser (end ∷ ends) (other ∷ others))
+    lesser_first below =
+        or_first (is_lesser end other) (nat_eq end other && from_left is_lesser ends others) below
+
+    -- and so does one that comes before behind the same first end
+    pub lesser_behind :
+        end ≡ other → IsTrue (from_left is_lesser ends others)
+        → IsTrue (from_left is_lesser (end ∷ ends) (other ∷ others))
+    lesser_behind same before =
+        or_second (is_lesser end other) (nat_eq end other && from_left is_lesser ends others)
+        (and_second (nat_eq end other) (from_left is_lesser ends others) (same_passes end other same) before)
+
+    -- and no other
+    pub lesser_cases :
+        IsTrue (from_left is_lesser (end ∷ ends) (other ∷ others))
+        → IsTrue (is_lesser end other)
+        ⊎ ((end ≡ other) × IsTrue (from_left is_lesser ends others))
+    lesser_cases before = by_test (is_lesser end other) (nat_eq end other) refl refl before
+      where
+        by_test :
+            (lesser equal : Bool) → is_lesser end other ≡ lesser → nat_eq end other ≡ equal
+            → IsTrue (lesser || (equal && from_left is_lesser ends others))
+            → IsTrue (is_lesser end other)
+            ⊎ ((end ≡ other) × IsTrue (from_left is_lesser ends others))
+        by_test true equal is is_equal holds = inl is
+        by_test false true is is_equal holds = inr (eqb-true end other is_equal, holds)
+        by_test false false is is_equal holds = absurd (cc)
+
+  module _ (order : IsStrictOrder is_lesser) where
+    -- the order from the left tells lists apart
+    pub left_tells_apart : TellsApart (from_left is_lesser)
+    left_tells_apart [] [] same = inl refl
+    left_tells_apart [] (other ∷ others) same = absurd (omega (arith, same))
+    left_tells_apart (end ∷ ends) [] same = absurd (omega (arith, same))
+    left_tells_apart (end ∷ ends) (other ∷ others) same =
+        elim (order.apart end other) [
+          | inl equal ↦ behind equal (left_tells_apart ends others (omega (arith, same)))
+          | inr (inl below) ↦ inr (inl (lesser_first end other ends others below))
+          | inr (inr above) ↦ inr (inr (lesser_first other end others ends above))
+        ]
+      where
+        behind :
+            end ≡ other
+            → (ends ≡ others)
+            ⊎ (IsTrue (from_left is_lesser ends others) ⊎ IsTrue (from_left is_lesser others ends))
+            → (end ∷ ends ≡ other ∷ others)
+            ⊎ (IsTrue (from_left is_lesser (end ∷ ends) (other ∷ others))
+            ⊎ IsTrue (from_left is_lesser (other ∷ others) (end ∷ ends)))
+        behind equal (inl all) = inl (cc)
+        behind equal (inr (inl before)) = inr (inl (lesser_behind end other ends others equal before))
+        behind equal (inr (inr after)) = inr (inr (lesser_behind other end others ends (sym equal) after))
 
 module _ (rules : List Rule) (kinds : List (Option ℕ)) where
   -- a tree ends where its span does
-  pub tree_end : (t : Tree) (s : Symbol) (i j : ℕ) → IsParseTree rules kinds t s i j → end_of t ≡ j
-  tree_end (leaf kind first end) s i j is = is.4
-  tree_end (node r first end subtrees) s i j is = is.5
+  pub ends_with_span : (t : Tree) (s : Symbol) (i j : ℕ) → IsParseTree rules kinds t s i j → tree_end t ≡ j
+  ends_with_span (leaf kind first end) s i j is = is.4
+  ends_with_span (node r first end subtrees) s i j is = is.5
 
   -- there are as many trees as items
   pub ends_length :
@@ -174,10 +225,10 @@ module _ (rules : List Rule) (kinds : List (Option ℕ)) where
         first_trees_are_one (trees t ts) (trees t' ts') items i j ends are are' =
             let symbol : are'.0 ≡ are.0 = cc in
             let rest : are'.1 ≡ are.1 = cc in
-            let end : end_of t ≡ end_of t' = cc in
+            let end : tree_end t ≡ tree_end t' = cc in
             let behind : ends_of ts ≡ ends_of ts' = cc in
-            let here = tree_end t are.0 i are.2 (first_is_parse_tree t are.0 i are.2 are.4) in
-            let here' = tree_end t' are'.0 i are'.2 (first_is_parse_tree t' are'.0 i are'.2 are'.4) in
+            let here = ends_with_span t are.0 i are.2 (first_is_parse_tree t are.0 i are.2 are.4) in
+            let here' = ends_with_span t' are'.0 i are'.2 (first_is_parse_tree t' are'.0 i are'.2 are'.4) in
             let cut : are'.2 ≡ are.2 = sym here' ∙ (sym end ∙ here) in
             let P : Symbol → ℕ → Type 0 = λ s k. IsFirstTree is_before rules kinds t' s i k in
             let Q : List Symbol → ℕ → Type 0 = λ items k. AreFirstTrees is_before rules kinds ts' items k j in

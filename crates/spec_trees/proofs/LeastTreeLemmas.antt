@@ -1,15 +1,15 @@
 -- A first tree is one before which none comes, and where no category reaches itself each such tree
 -- is first.
-use Rattle.std.proofs.Common.{◌≡◌, ℕ, ◌⊎◌, inl, inr, List, Option, refl, sym, ◌∙◌, subst}
+use Rattle.std.proofs.Common.{Bool, ◌≡◌, ℕ, ◌⊎◌, inl, inr, List, Option, refl, sym, ◌∙◌, subst}
 use Rattle.spec_grammar.specs.declared.rule.Symbol.{Symbol}
 use Rattle.spec_grammar.specs.declared.rule.Rule.{Rule}
 use Rattle.spec_grammar.specs.Trees.{Tree, leaf, node, Forest, no_trees, trees}
 use Rattle.spec_grammar.specs.Derivation.{IsParseTree, AreParseTrees}
 use Rattle.spec_grammar.specs.Cycles.{IsAcyclic}
-use Rattle.spec_trees.specs.FirstTrees.{end_of, ends_of, EndsOrder, lesser_from_left, IsFirstTree, AreFirstTrees}
+use Rattle.spec_trees.specs.FirstTrees.{tree_end, ends_of, EndsOrder, from_left, IsFirstTree, AreFirstTrees}
 use Rattle.spec_trees.specs.TreeOrders.{ComesBefore, HasFirstBefore}
-use Rattle.spec_trees.specs.Laws.{TellsApart}
-use Rattle.spec_trees.proofs.FirstTreeLemmas.{below_same_above, tree_end, ends_length, first_is_parse_tree, left_tells_apart}
+use Rattle.spec_trees.specs.Laws.{IsStrictOrder, TellsApart}
+use Rattle.spec_trees.proofs.FirstTreeLemmas.{below_same_above, ends_with_span, ends_length, first_is_parse_tree, left_tells_apart}
 use Rattle.spec_trees.proofs.TellingLemmas.{derived_or_not}
 use Rattle.spec_trees.proofs.ExistenceLemmas.{HasFirstTree, derived_has_first}
 
@@ -53,10 +53,10 @@ module _ (rules : List Rule) (kinds : List (Option ℕ)) (is_before : EndsOrder)
     none_before_firsts (trees t ts) (trees u us) items i j ends are are_others before =
         let symbol : are_others.0 ≡ are.0 = cc in
         let rest : are_others.1 ≡ are.1 = cc in
-        let end : end_of t ≡ end_of u = cc in
+        let end : tree_end t ≡ tree_end u = cc in
         let behind : ends_of ts ≡ ends_of us = cc in
-        let here = tree_end rules kinds t are.0 i are.2 (first_is_parse_tree rules kinds is_before t are.0 i are.2 are.4) in
-        let here' = tree_end rules kinds u are_others.0 i are_others.2 are_others.4 in
+        let here = ends_with_span rules kinds t are.0 i are.2 (first_is_parse_tree rules kinds is_before t are.0 i are.2 are.4) in
+        let here' = ends_with_span rules kinds u are_others.0 i are_others.2 are_others.4 in
         let cut : are_others.2 ≡ are.2 = sym here' ∙ (sym end ∙ here) in
         let P : Symbol → ℕ → Type 0 = λ s k. IsParseTree rules kinds u s i k in
         let Q : List Symbol → ℕ → Type 0 = λ items k. AreParseTrees rules kinds us items k j in
@@ -128,10 +128,10 @@ module _ (rules : List Rule) (kinds : List (Option ℕ)) (is_before : EndsOrder)
       forests_are_compared (trees t ts) (trees u us) items i j ends are are' =
           let symbol : are'.0 ≡ are.0 = cc in
           let rest : are'.1 ≡ are.1 = cc in
-          let end : end_of t ≡ end_of u = cc in
+          let end : tree_end t ≡ tree_end u = cc in
           let behind : ends_of ts ≡ ends_of us = cc in
-          let here = tree_end rules kinds t are.0 i are.2 are.4 in
-          let here' = tree_end rules kinds u are'.0 i are'.2 are'.4 in
+          let here = ends_with_span rules kinds t are.0 i are.2 are.4 in
+          let here' = ends_with_span rules kinds u are'.0 i are'.2 are'.4 in
           let cut : are'.2 ≡ are.2 = sym here' ∙ (sym end ∙ here) in
           let P : Symbol → ℕ → Type 0 = λ s k. IsParseTree rules kinds u s i k in
           let Q : List Symbol → ℕ → Type 0 = λ items k. AreParseTrees rules kinds us items k j in
@@ -150,19 +150,20 @@ module _ (rules : List Rule) (kinds : List (Option ℕ)) (is_before : EndsOrder)
 
 -- where no category reaches itself, a parse tree before which none comes is first
 pub least_is_first :
-    (rules : List Rule) (kinds : List (Option ℕ)) → IsAcyclic rules
+    (is_lesser : ℕ → ℕ → Bool) → IsStrictOrder is_lesser
+    → (rules : List Rule) (kinds : List (Option ℕ)) → IsAcyclic rules
     → (t : Tree) (s : Symbol) (i j : ℕ) → IsParseTree rules kinds t s i j
     → ((other : Tree)
-    → IsParseTree rules kinds other s i j → ComesBefore lesser_from_left other t → ⊥)
-    → IsFirstTree lesser_from_left rules kinds t s i j
-least_is_first rules kinds acyclic t s i j is none =
-    let first : HasFirstTree rules kinds s i j =
-    derived_has_first rules kinds (derived_or_not rules kinds) acyclic s i j (t, is) in
-    let parses = first_is_parse_tree rules kinds lesser_from_left first.0 s i j first.1 in
-    elim (trees_are_compared rules kinds lesser_from_left left_tells_apart t first.0 s i j is parses) [
+    → IsParseTree rules kinds other s i j → ComesBefore (from_left is_lesser) other t → ⊥)
+    → IsFirstTree (from_left is_lesser) rules kinds t s i j
+least_is_first is_lesser order rules kinds acyclic t s i j is none =
+    let first : HasFirstTree is_lesser order rules kinds s i j =
+    derived_has_first is_lesser order rules kinds (derived_or_not rules kinds) acyclic s i j (t, is) in
+    let parses = first_is_parse_tree rules kinds (from_left is_lesser) first.0 s i j first.1 in
+    elim (trees_are_compared rules kinds (from_left is_lesser) (left_tells_apart is_lesser order) t first.0 s i j is parses) [
       | inl same ↦
-          subst (λ x. IsFirstTree lesser_from_left rules kinds x s i j) (sym same) first.1
+          subst (λ x. IsFirstTree (from_left is_lesser) rules kinds x s i j) (sym same) first.1
       | inr (inl before) ↦
-          absurd (none_before_first rules kinds lesser_from_left first.0 t s i j first.1 is before)
+          absurd (none_before_first rules kinds (from_left is_lesser) first.0 t s i j first.1 is before)
       | inr (inr after) ↦ absurd (none first.0 parses after)
     ]

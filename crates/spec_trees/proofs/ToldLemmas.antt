@@ -1,5 +1,7 @@
 -- Facts of which it can be told whether they are so, and the least number of which one is so.
-use Rattle.std.proofs.Common.{◌≡◌, ℕ, zero, suc, ◌<◌, ◌≤◌, ◌⊎◌, inl, inr, sym, subst, arith}
+use Rattle.std.proofs.Common.{◌≡◌, ℕ, zero, suc, ◌<◌, ◌≤◌, ◌⊎◌, inl, inr, sym, subst, arith, Bool}
+use Rattle.std.specs.Prelude.{IsTrue}
+use Rattle.spec_trees.specs.Laws.{IsStrictOrder}
 use Rattle.spec_trees.proofs.FirstTreeLemmas.{below_same_above}
 
 -- the fact is so, or it is not
@@ -90,3 +92,76 @@ module _ (P : ℕ → Type 0) (told : (k : ℕ) → IsToldOf (P k)) where
         | inl less ↦ none (x.0, less, x.2)
         | inr last ↦ not_it (subst P (sym last) x.2)
       ])
+
+module _ (is_lesser : ℕ → ℕ → Bool) (order : IsStrictOrder is_lesser) (P : ℕ → Type 0) (told : (k : ℕ) → IsToldOf (P k)) where
+  -- of the numbers below n of which it is so, one is the least in this order
+  abbrev pub HasLeastBelow : ℕ → Type 0
+  HasLeastBelow n =
+      (k : ℕ) × (k < n) × P k × ((m : ℕ) → m < n → P m → IsTrue (is_lesser m k) → ⊥)
+
+  -- and there is one, or none of which it is so
+  pub least_below_or_none : (n : ℕ) → HasLeastBelow n ⊎ ((k : ℕ) → k < n → P k → ⊥)
+  least_below_or_none zero = inr (λ k below. absurd (omega (arith, below)))
+  least_below_or_none (suc n) = elim (least_below_or_none n) [
+    | inl least ↦ inl (compared least (told n))
+    | inr none ↦ alone none (told n)
+  ]
+    where
+      -- a number below the next one is below this one, or is this one
+      alone :
+          ((k : ℕ) → k < n → P k → ⊥) → IsToldOf (P n)
+          → HasLeastBelow (suc n) ⊎ ((k : ℕ) → k < suc n → P k → ⊥)
+      alone none (inl is) = inl (
+        n,
+        omega arith,
+        is,
+        (λ m below own lesser. elim (below_or_last n m below) [
+          | inl less ↦ none m less own
+          | inr last ↦ order.never n (subst (λ k. IsTrue (is_lesser k n)) (sym last) lesser)
+        ]),
+      )
+      alone none (inr not_it) = inr (λ k below. elim (below_or_last n k below) [
+        | inl less ↦ none k less
+        | inr last ↦ subst (λ m. P m → ⊥) last not_it
+      ])
+
+      compared : HasLeastBelow n → IsToldOf (P n) → HasLeastBelow (suc n)
+      compared least (inr not_it) = (
+        least.0,
+        omega (arith, least.1),
+        least.2,
+        (λ m below own. elim (below_or_last n m below) [
+          | inl less ↦ least.3 m less own
+          | inr last ↦ absurd (not_it (subst P (sym last) own))
+        ]),
+      )
+      compared least (inl is) = elim (order.apart n least.0) [
+        | inl same ↦ absurd (omega (arith, same, least.1))
+        | inr (inl sooner) ↦ (
+          n,
+          omega arith,
+          is,
+          (λ m below own lesser. elim (below_or_last n m below) [
+            | inl less ↦ least.3 m less own (order.chain m n least.0 lesser sooner)
+            | inr last ↦ order.never n (subst (λ k. IsTrue (is_lesser k n)) (sym last) lesser)
+          ]),
+        )
+        | inr (inr later) ↦ (
+          least.0,
+          omega (arith, least.1),
+          least.2,
+          (λ m below own lesser. elim (below_or_last n m below) [
+            | inl less ↦ least.3 m less own lesser
+            | inr last ↦
+                order.never least.0
+                (order.chain least.0 n least.0 later (subst (λ k. IsTrue (is_lesser k least.0)) (sym last) lesser))
+          ]),
+        )
+      ]
+
+  -- there is one, as there is some number
+  pub least_below : (n k : ℕ) → k < n → P k → HasLeastBelow n
+  least_below n k below is = elim (least_below_or_none n) [
+    | inl has ↦ has
+    | inr none ↦ absurd (none k below is)
+  ]

@@ -8,25 +8,30 @@ use Rattle.spec_grammar.specs.Trees.{Tree, leaf, node, Forest, no_trees, trees}
 use Rattle.spec_grammar.specs.Derivation.{IsParseTree, AreParseTrees, DerivesAll}
 
 -- the place behind the last token of the tree
-abbrev pub end_of : Tree → ℕ
-end_of (leaf kind first end) = end
-end_of (node r first end subtrees) = end
+abbrev pub tree_end : Tree → ℕ
+tree_end (leaf kind first end) = end
+tree_end (node r first end subtrees) = end
 
 -- the ends of the trees, from left to right
 abbrev pub ends_of : Forest → List ℕ
 ends_of no_trees = []
-ends_of (trees t ts) = end_of t ∷ ends_of ts
+ends_of (trees t ts) = tree_end t ∷ ends_of ts
 
 -- an order of lists of ends: whether the first list comes before the second
 abbrev pub EndsOrder : Type 0
 EndsOrder = List ℕ → List ℕ → Bool
 
--- the order from the left: at the first place where the lists differ, the first has the lesser end
+-- the order from the left: at the first place where the lists differ, the first list has the
+-- lesser end, by this order of ends
+abbrev pub from_left : (ℕ → ℕ → Bool) → EndsOrder
+from_left is_lesser [] others = false
+from_left is_lesser (end ∷ ends) [] = false
+from_left is_lesser (end ∷ ends) (other ∷ others) =
+    is_lesser end other || (nat_eq end other && from_left is_lesser ends others)
+
+-- the order from the left, by which the first item is as short as can be
 abbrev pub lesser_from_left : EndsOrder
-lesser_from_left [] others = false
-lesser_from_left (end ∷ ends) [] = false
-lesser_from_left (end ∷ ends) (other ∷ others) =
-    nat_lt end other || (nat_eq end other && lesser_from_left ends others)
+lesser_from_left = from_left nat_lt
 
 module _ (is_before : EndsOrder) (rules : List Rule) (kinds : List (Option ℕ)) where
   -- of the category's rules, none with a lesser number derives the span i..j
@@ -44,8 +49,8 @@ module _ (is_before : EndsOrder) (rules : List Rule) (kinds : List (Option ℕ))
       → ⊥
 
   abbrev mutual
-    -- the tree is the first one of the symbol over the span i..j: a leaf is the only one; a node has
-    -- the least rule, then the ends that come before all others, then first trees
+    -- the tree is the first one of the symbol over the span i..j: a leaf is the only one; a node
+    -- has the least rule, by this rule the ends before which none come, and first trees below it
     pub IsFirstTree : Tree → Symbol → ℕ → ℕ → Type 0
     IsFirstTree (leaf kind first end) s i j = IsParseTree rules kinds (leaf kind first end) s i j
     IsFirstTree (node r first end subtrees) s i j =

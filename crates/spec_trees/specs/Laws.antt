@@ -1,12 +1,12 @@
 -- What the functions of src/laws.rt say of first trees.
-use Rattle.std.specs.Prelude.{◌≡◌, ℕ, ◌⊎◌, List, Option, length, IsTrue}
+use Rattle.std.specs.Prelude.{◌≡◌, ℕ, ◌⊎◌, List, Option, length, Bool, IsTrue, nat_lt}
 use Rattle.spec_grammar.specs.declared.rule.Symbol.{Symbol}
 use Rattle.spec_grammar.specs.declared.rule.Rule.{Rule}
 use Rattle.spec_grammar.specs.Trees.{Tree}
 use Rattle.spec_grammar.specs.Derivation.{IsParseTree, Derives}
 use Rattle.spec_grammar.specs.Cycles.{IsAcyclic}
 use Rattle.spec_trees.specs.TreeOrders.{ComesBefore}
-use Rattle.spec_trees.specs.FirstTrees.{EndsOrder, lesser_from_left, IsFirstTree}
+use Rattle.spec_trees.specs.FirstTrees.{EndsOrder, from_left, IsFirstTree}
 
 -- of two equally long lists that are not the same, one comes before the other
 abbrev pub TellsApart : EndsOrder → Type 0
@@ -15,9 +15,24 @@ TellsApart is_before =
     → length ends ≡ length others → (ends ≡ others)
     ⊎ (IsTrue (is_before ends others) ⊎ IsTrue (is_before others ends))
 
--- the order from the left tells such lists apart
+-- the test is a strict order of numbers
+pub record IsStrictOrder (is_lesser : ℕ → ℕ → Bool) : Type 0 where
+  -- of two numbers that are not the same, one is lesser
+  pub apart : (m n : ℕ) → (m ≡ n) ⊎ (IsTrue (is_lesser m n) ⊎ IsTrue (is_lesser n m))
+  -- what is lesser than a lesser number is lesser
+  pub chain :
+      (k m n : ℕ) → IsTrue (is_lesser k m) → IsTrue (is_lesser m n) → IsTrue (is_lesser k n)
+  -- no number is lesser than itself
+  pub never : (n : ℕ) → IsTrue (is_lesser n n) → ⊥
+
+-- the lesser number first, and the greater number first, are strict orders
+abbrev pub NumbersAreOrdered : Type 0
+NumbersAreOrdered = IsStrictOrder nat_lt × IsStrictOrder (λ m n. nat_lt n m)
+
+-- each order from the left tells such lists apart
 abbrev pub LeftTellsApart : Type 0
-LeftTellsApart = TellsApart lesser_from_left
+LeftTellsApart =
+    (is_lesser : ℕ → ℕ → Bool) → IsStrictOrder is_lesser → TellsApart (from_left is_lesser)
 
 -- in any order that tells lists apart, a symbol has one first tree over a span at most
 abbrev pub OneFirstTree : Type 0
@@ -40,12 +55,14 @@ DerivedOrNot =
     (rules : List Rule) (kinds : List (Option ℕ)) (s : Symbol) (i j : ℕ)
     → Derives rules kinds s i j ⊎ (Derives rules kinds s i j → ⊥)
 
--- where no category reaches itself, a symbol has a first tree over each span that it derives
+-- where no category reaches itself, a symbol has a first tree over each span that it derives, in
+-- each order from the left
 abbrev pub DerivedSpansHaveFirstTrees : Type 0
 DerivedSpansHaveFirstTrees =
-    (rules : List Rule) (kinds : List (Option ℕ)) → IsAcyclic rules
+    (is_lesser : ℕ → ℕ → Bool) → IsStrictOrder is_lesser
+    → (rules : List Rule) (kinds : List (Option ℕ)) → IsAcyclic rules
     → (s : Symbol) (i j : ℕ) → Derives rules kinds s i j
-    → (t : Tree) × IsFirstTree lesser_from_left rules kinds t s i j
+    → (t : Tree) × IsFirstTree (from_left is_lesser) rules kinds t s i j
 
 -- no parse tree of the symbol over the span comes before a first tree, whatever the order
 abbrev pub FirstTreesAreLeast : Type 0
@@ -55,11 +72,13 @@ FirstTreesAreLeast =
     → IsFirstTree is_before rules kinds t s i j → IsParseTree rules kinds other s i j
     → ComesBefore is_before other t → ⊥
 
--- where no category reaches itself, a parse tree before which none comes is the first tree
+-- where no category reaches itself, a parse tree before which none comes is the first tree, in
+-- each order from the left
 abbrev pub LeastTreesAreFirst : Type 0
 LeastTreesAreFirst =
-    (rules : List Rule) (kinds : List (Option ℕ)) → IsAcyclic rules
+    (is_lesser : ℕ → ℕ → Bool) → IsStrictOrder is_lesser
+    → (rules : List Rule) (kinds : List (Option ℕ)) → IsAcyclic rules
     → (t : Tree) (s : Symbol) (i j : ℕ) → IsParseTree rules kinds t s i j
     → ((other : Tree)
-    → IsParseTree rules kinds other s i j → ComesBefore lesser_from_left other t → ⊥)
-    → IsFirstTree lesser_from_left rules kinds t s i j
+    → IsParseTree rules kinds other s i j → ComesBefore (from_left is_lesser) other t → ⊥)
+    → IsFirstTree (from_left is_lesser) rules kinds t s i j

@@ -5,8 +5,9 @@ use Rattle.spec_trees.specs.FirstTrees.{EndsOrder, ends_of}
 
 module _ (is_before : EndsOrder) where
   abbrev mutual
-    -- the first tree comes before the second: its rule is the lesser one; or the rules are the same
-    -- and its ends come before; or the ends are too, and the first subtree that differs comes before
+    -- the tree comes before the other: its rule is the lesser one; or the rules are the same and
+    -- its ends come before; or the ends are the same too, and the first subtree that differs comes
+    -- before
     pub ComesBefore : Tree → Tree → Type 0
     ComesBefore (leaf kind first end) other = ⊥
     ComesBefore (node r first end subtrees) (leaf kind first' end') = ⊥
@@ -15,7 +16,7 @@ module _ (is_before : EndsOrder) where
         ⊎ ((r ≡ r') × (IsTrue (is_before (ends_of subtrees) (ends_of subtrees'))
         ⊎ ((ends_of subtrees ≡ ends_of subtrees') × HasFirstBefore subtrees subtrees')))
 
-    -- the first tree that differs comes before
+    -- of trees side by side, the first that differs comes before
     pub HasFirstBefore : Forest → Forest → Type 0
     HasFirstBefore no_trees others = ⊥
     HasFirstBefore (trees t ts) no_trees = ⊥

@@ -35,8 +35,8 @@ print_elements no_print = []
 print_elements (text_print text) = []
 print_elements (list_print elements) = elements
 
--- what is printed of these bytes as a token of the kind: nothing of a word; the kind's name, a colon
--- and the bytes, of any other
+-- what is printed of these bytes as a token of the kind: nothing of a word; of any other the
+-- kind's name, a colon and the bytes
 abbrev pub token_print : KindDef → List ℕ → Print
 token_print (Word word) bytes = no_print
 token_print (TokenDef name expr) bytes = text_print (name ++ (58 ∷ printed bytes))
@@ -45,9 +45,9 @@ token_print (TokenDef name expr) bytes = text_print (name ++ (58 ∷ printed byt
 abbrev pub child_print : List Print → ℕ → Print
 child_print children number = get_or children number no_print
 
--- what is printed of a node with this label, where so much is of its children: behind a name each
--- child in turn; of `_` its one child, be it a list or not; a list of no elements, of one, or of one
--- before those of the second child
+-- what is printed of a node with this label, where this is printed of its children: behind a name
+-- each child in turn; of `_` what is printed of its one child, be it a list or not; a list of no
+-- elements, of one, or of one before those of the second child
 abbrev pub node_print : Label → List Print → Print
 node_print (Named name) children =
     text_print (codes "(" ++ (name

@@ -1,5 +1,5 @@
-//! Which of the parse trees of a symbol over a span is the first, and how it is printed. There is no
-//! search for it here.
+//! Which of the parse trees of a symbol over a span is the first, and how a tree is printed. There
+//! is no search here.
 #![tactic(auto)]
 
 mod laws;

@@ -1,15 +1,17 @@
 -- The first trees: no lesser rule derives the span, and no lesser cut has both its parts.
-use Rattle.std.proofs.Common.{◌≡◌, ℕ, zero, suc, ◌+◌, ◌<◌, inl, inr, List, [], ◌∷◌, Option, Some, slice_get, refl, sym, subst, arith}
+use Rattle.std.proofs.Common.{◌∙◌, ◌≡◌, ℕ, zero, suc, ◌+◌, ◌<◌, inl, inr, List, [], ◌∷◌, Option, Some, slice_get, refl, sym, subst, arith}
+use Rattle.std.specs.Prelude.{nat_lt}
+use Rattle.std.proofs.lemmas.Bool.{ltb-true}
 use Rattle.spec_grammar.specs.declared.rule.Symbol.{Symbol}
 use Rattle.spec_grammar.specs.declared.rule.Symbol.TheVariants.{Category, Kind}
 use Rattle.spec_grammar.specs.declared.rule.Rule.{Rule}
-use Rattle.spec_grammar.specs.Trees.{Tree, Forest, no_trees, trees}
+use Rattle.spec_grammar.specs.Trees.{leaf, node, Tree, Forest, no_trees, trees}
 use Rattle.spec_grammar.specs.Derivation.{IsParseTree, AreParseTrees, Derives, DerivesAll}
 use Rattle.spec_grammar.proofs.DerivationLemmas.{AreFull, kind_derives, category_derives, none_derive, some_derive, derives_grows}
-use Rattle.spec_trees.specs.FirstTrees.{end_of, ends_of, lesser_from_left, NoLesserRule, NoEndsBefore}
-use Rattle.spec_trees.proofs.FirstTreeLemmas.{lesser_cases, tree_end, first_is_parse_tree}
-use Rattle.spec_trees_cases.specs.Examples.{sums, three_kinds, letter, sum, right_sum, left_sum, pairs, one_kind, empty_sibling, full_sibling, second_full, first_full, ties, tie, lists, two_kinds, number, last_number, number_before_nil, number_before, one_tree, two_trees, token_tree}
-use Rattle.spec_trees_cases.specs.FirstTreeCases.{IsFirst, IsOther, SmallFirstTrees}
+use Rattle.spec_trees.specs.FirstTrees.{tree_end, ends_of, lesser_from_left, NoLesserRule, NoEndsBefore}
+use Rattle.spec_trees.proofs.FirstTreeLemmas.{lesser_cases, ends_with_span, first_is_parse_tree, firsts_are_parse_trees}
+use Rattle.spec_trees_cases.specs.Examples.{sums, three_kinds, letter_tree, sum_tree, right_sum, left_sum, pairs, one_kind, empty_sibling, full_sibling, second_full, first_full, ties, gap_tree, less_tie, more_tie, loops, lists, two_kinds, number_tree, last_number, number_before_nil, number_before, one_tree, two_trees, token_tree}
+use Rattle.spec_trees_cases.specs.FirstTreeCases.{IsFirstFromLeft, IsOtherTree, SmallFirstTrees}
 
 module _ (rules : List Rule) (kinds : List (Option ℕ)) where
   -- no ends come before none
@@ -22,10 +24,10 @@ module _ (rules : List Rule) (kinds : List (Option ℕ)) where
   before_one s i j no_trees are before = cc
   before_one s i j (trees t ts) are before =
       let rest : are.1 ≡ [] = cc in
-      let end : end_of t ≡ are.2 = tree_end rules kinds t are.0 i are.2 are.4 in
+      let end : tree_end t ≡ are.2 = ends_with_span rules kinds t are.0 i are.2 are.4 in
       let last : j ≡ are.2 = (none_derive rules kinds are.2 j).0 (ts, subst (λ (x : List Symbol). AreParseTrees rules kinds ts x are.2 j) rest are.5) in
-      elim (lesser_cases (end_of t) j (ends_of ts) [] before) [
-        | inl below ↦ omega (arith, below, end, last)
+      elim (lesser_cases nat_lt (tree_end t) j (ends_of ts) [] before) [
+        | inl below ↦ omega (arith, ltb-true (tree_end t) j below, end, last)
         | inr same ↦ before_none are.1 are.2 j ts are.5 same.1
       ]
 
@@ -38,13 +40,13 @@ module _ (rules : List Rule) (kinds : List (Option ℕ)) where
   before_two s other i k j none (trees t ts) are before =
       let symbol : are.0 ≡ s = cc in
       let rest : are.1 ≡ other ∷ [] = cc in
-      let end : end_of t ≡ are.2 = tree_end rules kinds t are.0 i are.2 are.4 in
+      let end : tree_end t ≡ are.2 = ends_with_span rules kinds t are.0 i are.2 are.4 in
       let first : Derives rules kinds s i are.2 =
       (t, subst (λ (x : Symbol). IsParseTree rules kinds t x i are.2) symbol are.4) in
       let behind : AreParseTrees rules kinds ts (other ∷ []) are.2 j =
       subst (λ (x : List Symbol). AreParseTrees rules kinds ts x are.2 j) rest are.5 in
-      elim (lesser_cases (end_of t) k (ends_of ts) (j ∷ []) before) [
-        | inl below ↦ none are.2 (omega (arith, below, end)) first (second are.2 ts behind)
+      elim (lesser_cases nat_lt (tree_end t) k (ends_of ts) (j ∷ []) before) [
+        | inl below ↦ none are.2 (omega (arith, ltb-true (tree_end t) k below, end)) first (second are.2 ts behind)
         | inr same ↦ before_one other are.2 j ts behind same.1
       ]
     where
@@ -88,7 +90,7 @@ no_sum_of_one i zero rule less is same d =
 no_sum_of_one i (suc r) rule less is same d = omega (arith, less)
 
 -- the letter at a place is first
-letter_is_first : (i : ℕ) → slice_get three_kinds i ≡ Some (Some 0) → IsFirst sums three_kinds (letter i) (Category 0) i (i + 1)
+letter_is_first : (i : ℕ) → slice_get three_kinds i ≡ Some (Some 0) → IsFirstFromLeft sums three_kinds (letter_tree i) (Category 0) i (i + 1)
 letter_is_first i is = (
   _,
   refl,
@@ -103,9 +105,9 @@ letter_is_first i is = (
 -- a sum whose first item is one token is first where its items are
 sum_is_first :
     (t : Tree) (i j : ℕ) → slice_get three_kinds i ≡ Some (Some 0)
-    → IsFirst sums three_kinds t (Category 0) (i + 1) j
-    → end_of t ≡ j
-    → IsFirst sums three_kinds (sum (letter i) t i j) (Category 0) i j
+    → IsFirstFromLeft sums three_kinds t (Category 0) (i + 1) j
+    → tree_end t ≡ j
+    → IsFirstFromLeft sums three_kinds (sum_tree (letter_tree i) t i j) (Category 0) i j
 sum_is_first t i j is first end = (
   _,
   refl,
@@ -118,35 +120,35 @@ sum_is_first t i j is first end = (
       (λ m less d behind. omega (arith, less, sum_grows i m d))),
 )
 
-right_is_first : IsFirst sums three_kinds right_sum (Category 0) 0 3
+right_is_first : IsFirstFromLeft sums three_kinds right_sum (Category 0) 0 3
 right_is_first =
-    sum_is_first (sum (letter 1) (letter 2) 1 3) 0 3 refl
-    (sum_is_first (letter 2) 1 3 refl (letter_is_first 2 refl) refl) refl
+    sum_is_first (sum_tree (letter_tree 1) (letter_tree 2) 1 3) 0 3 refl
+    (sum_is_first (letter_tree 2) 1 3 refl (letter_is_first 2 refl) refl) refl
 
 -- the letter at a place is a parse tree
-letter_is : (i : ℕ) → slice_get three_kinds i ≡ Some (Some 0) → IsParseTree sums three_kinds (letter i) (Category 0) i (i + 1)
-letter_is i is = first_is_parse_tree sums three_kinds lesser_from_left (letter i) (Category 0) i (i + 1) (letter_is_first i is)
+letter_is : (i : ℕ) → slice_get three_kinds i ≡ Some (Some 0) → IsParseTree sums three_kinds (letter_tree i) (Category 0) i (i + 1)
+letter_is i is = first_is_parse_tree sums three_kinds lesser_from_left (letter_tree i) (Category 0) i (i + 1) (letter_is_first i is)
 
-left_is_other : IsOther sums three_kinds left_sum (Category 0) 0 3
+left_is_other : IsOtherTree sums three_kinds left_sum (Category 0) 0 3
 left_is_other = (
   (_, refl, refl, (_, _, _, refl, front, (_, _, _, refl, letter_is 2 refl, (refl, refl))), refl, refl),
   (λ first. later first),
 )
   where
-    front : IsParseTree sums three_kinds (sum (letter 0) (letter 1) 0 2) (Category 0) 0 2
+    front : IsParseTree sums three_kinds (sum_tree (letter_tree 0) (letter_tree 1) 0 2) (Category 0) 0 2
     front = (_, refl, refl, (_, _, _, refl, letter_is 0 refl, (_, _, _, refl, letter_is 1 refl, (refl, refl))), refl, refl)
 
-    behind : IsParseTree sums three_kinds (sum (letter 1) (letter 2) 1 3) (Category 0) 1 3
+    behind : IsParseTree sums three_kinds (sum_tree (letter_tree 1) (letter_tree 2) 1 3) (Category 0) 1 3
     behind = (_, refl, refl, (_, _, _, refl, letter_is 1 refl, (_, _, _, refl, letter_is 2 refl, (refl, refl))), refl, refl)
 
-    right : AreParseTrees sums three_kinds (two_trees (letter 0) (sum (letter 1) (letter 2) 1 3)) (Category 0 ∷ Category 0 ∷ []) 0 3
+    right : AreParseTrees sums three_kinds (two_trees (letter_tree 0) (sum_tree (letter_tree 1) (letter_tree 2) 1 3)) (Category 0 ∷ Category 0 ∷ []) 0 3
     right = (_, _, _, refl, letter_is 0 refl, (_, _, _, refl, behind, (refl, refl)))
 
-    later : IsFirst sums three_kinds left_sum (Category 0) 0 3 → ⊥
+    later : IsFirstFromLeft sums three_kinds left_sum (Category 0) 0 3 → ⊥
     later first =
         let items : (first.0).items ≡ Category 0 ∷ Category 0 ∷ [] = cc in
         let P : List Symbol → Type 0 = λ x. NoEndsBefore lesser_from_left sums three_kinds (2 ∷ 3 ∷ []) x 0 3 in
-        (subst P items first.7) (two_trees (letter 0) (sum (letter 1) (letter 2) 1 3)) right refl
+        (subst P items first.7) (two_trees (letter_tree 0) (sum_tree (letter_tree 1) (letter_tree 2) 1 3)) right refl
 
 -- no rule before the empty one is of the siblings' category
 empty_is_least : (i : ℕ) → NoLesserRule lesser_from_left pairs one_kind 1 1 i i
@@ -161,11 +163,11 @@ full_is_least (suc zero) rule less is same d =
     omega (arith, (none_derive pairs one_kind 0 1).0 (subst (λ (y : List Symbol). DerivesAll pairs one_kind y 0 1) items d))
 full_is_least (suc (suc r)) rule less is same d = omega (arith, less)
 
-empty_is_first : (i : ℕ) → IsFirst pairs one_kind (empty_sibling i) (Category 1) i i
+empty_is_first : (i : ℕ) → IsFirstFromLeft pairs one_kind (empty_sibling i) (Category 1) i i
 empty_is_first i =
     (_, refl, refl, (refl, refl), refl, refl, empty_is_least i, before_none pairs one_kind [] i i)
 
-full_is_first : IsFirst pairs one_kind full_sibling (Category 1) 0 1
+full_is_first : IsFirstFromLeft pairs one_kind full_sibling (Category 1) 0 1
 full_is_first = (
   _,
   refl,
@@ -177,7 +179,7 @@ full_is_first = (
   before_one pairs one_kind (Kind 0) 0 1,
 )
 
-second_is_first : IsFirst pairs one_kind second_full (Category 0) 0 1
+second_is_first : IsFirstFromLeft pairs one_kind second_full (Category 0) 0 1
 second_is_first = (
   _,
   refl,
@@ -189,7 +191,7 @@ second_is_first = (
   before_two pairs one_kind (Category 1) (Category 1) 0 0 1 (λ m less. absurd (omega (arith, less))),
 )
 
-first_is_other : IsOther pairs one_kind first_full (Category 0) 0 1
+first_is_other : IsOtherTree pairs one_kind first_full (Category 0) 0 1
 first_is_other = (
   (_, refl, refl, (_, _, _, refl, full, (_, _, _, refl, no_token 1, (refl, refl))), refl, refl),
   later,
@@ -204,37 +206,90 @@ first_is_other = (
     second : AreParseTrees pairs one_kind (two_trees (empty_sibling 0) full_sibling) (Category 1 ∷ Category 1 ∷ []) 0 1
     second = (_, _, _, refl, no_token 0, (_, _, _, refl, full, (refl, refl)))
 
-    later : IsFirst pairs one_kind first_full (Category 0) 0 1 → ⊥
+    later : IsFirstFromLeft pairs one_kind first_full (Category 0) 0 1 → ⊥
     later first =
         let items : (first.0).items ≡ Category 1 ∷ Category 1 ∷ [] = cc in
         let P : List Symbol → Type 0 = λ x. NoEndsBefore lesser_from_left pairs one_kind (1 ∷ 1 ∷ []) x 0 1 in
         (subst P items first.7) (two_trees (empty_sibling 0) full_sibling) second refl
 
-less_is_first : IsFirst ties one_kind (tie 0) (Category 0) 0 1
+-- the gap at a place is first, since no lesser rule is of its category
+gap_is_first : (i : ℕ) → IsFirstFromLeft ties one_kind (gap_tree i) (Category 1) i i
+gap_is_first i = (_, refl, refl, (refl, refl), refl, refl, least, before_none ties one_kind [] i i)
+  where
+    least : NoLesserRule lesser_from_left ties one_kind 2 1 i i
+    least zero rule less is same d = cc
+    least (suc zero) rule less is same d = cc
+    least (suc (suc r)) rule less is same d = omega (arith, less)
+
+less_is_first : IsFirstFromLeft ties one_kind less_tie (Category 0) 0 1
 less_is_first = (
   _,
   refl,
   refl,
-  (_, _, _, refl, (refl, refl, refl, refl, refl), (refl, refl)),
+  (_, _, _, refl, (refl, refl, refl, refl, refl), (_, _, _, refl, gap_is_first 1, (refl, refl))),
   refl,
   refl,
   (λ lesser rule less. absurd (omega (arith, less))),
-  before_one ties one_kind (Kind 0) 0 1,
+  before_two ties one_kind (Kind 0) (Category 1) 0 1 1
+      (λ m less d. absurd (omega (arith, less, ((kind_derives ties one_kind 0 0 m).0 d).1))),
 )
 
-more_is_other : IsOther ties one_kind (tie 1) (Category 0) 0 1
+more_is_other : IsOtherTree ties one_kind more_tie (Category 0) 0 1
 more_is_other = (
-  (_, refl, refl, (_, _, _, refl, (refl, refl, refl, refl, refl), (refl, refl)), refl, refl),
+  (
+    _,
+    refl,
+    refl,
+    (_, _, _, refl, no_token 0, (_, _, _, refl, (refl, refl, refl, refl, refl), (refl, refl))),
+    refl,
+    refl,
+  ),
   later,
 )
   where
-    mark : DerivesAll ties one_kind (Kind 0 ∷ []) 0 1
-    mark = (one_tree (token_tree 0 0), (_, _, _, refl, (refl, refl, refl, refl, refl), (refl, refl)))
+    no_token : (i : ℕ) → IsParseTree ties one_kind (gap_tree i) (Category 1) i i
+    no_token i = first_is_parse_tree ties one_kind lesser_from_left (gap_tree i) (Category 1) i i (gap_is_first i)
 
-    later : IsFirst ties one_kind (tie 1) (Category 0) 0 1 → ⊥
+    mark : DerivesAll ties one_kind (Kind 0 ∷ Category 1 ∷ []) 0 1
+    mark = (
+      two_trees (token_tree 0 0) (gap_tree 1),
+      (_, _, _, refl, (refl, refl, refl, refl, refl), (_, _, _, refl, no_token 1, (refl, refl))),
+    )
+
+    later : IsFirstFromLeft ties one_kind more_tie (Category 0) 0 1 → ⊥
     later first =
         let category : 0 ≡ (first.0).category = cc in
         first.6 0 _ (omega arith) refl category mark
+
+-- the span of the loop is derived, by the greater rule
+loop_derives : Derives loops one_kind (Category 0) 0 1
+loop_derives = (
+  node 1 0 1 (one_tree (token_tree 0 0)),
+  (_, refl, refl, (_, _, _, refl, (refl, refl, refl, refl, refl), (refl, refl)), refl, refl),
+)
+
+-- the least rule leads back to the same span, and no tree goes on for ever
+no_first_loop : (t : Tree) (k : ℕ) → k ≡ 1 → IsFirstFromLeft loops one_kind t (Category 0) 0 k → ⊥
+no_first_loop (leaf kind first end) k one is = cc
+no_first_loop (node zero first end no_trees) k one is =
+    let none : (is.0).items ≡ [] = is.3.0 in
+    let items : (is.0).items ≡ Category 0 ∷ [] = cc in
+    cc
+no_first_loop (node zero first end (trees t ts)) k one is =
+    let items : (is.0).items ≡ Category 0 ∷ [] = cc in
+    let symbol : is.3.0 ≡ Category 0 = cc in
+    let rest : is.3.1 ≡ [] = cc in
+    let behind = firsts_are_parse_trees loops one_kind lesser_from_left ts is.3.1 is.3.2 k is.3.5 in
+    let last : k ≡ is.3.2 =
+    (none_derive loops one_kind is.3.2 k).0
+    (ts, subst (λ (x : List Symbol). AreParseTrees loops one_kind ts x is.3.2 k) rest behind) in
+    no_first_loop t is.3.2 (sym last ∙ one)
+    (subst (λ (x : Symbol). IsFirstFromLeft loops one_kind t x 0 is.3.2) symbol is.3.4)
+no_first_loop (node (suc zero) first end subtrees) k one is =
+    let category : 0 ≡ (is.0).category = cc in
+    is.6 0 _ (omega arith) refl category
+    (one_tree (loop_derives.0), (_, _, _, refl, subst (λ n. IsParseTree loops one_kind loop_derives.0 (Category 0) 0 n) (sym one) loop_derives.1, (refl, refl)))
+no_first_loop (node (suc (suc r)) first end subtrees) k one is = cc
 
 -- each rule of category 1 is the last of the lists
 number_rule :
@@ -262,7 +317,7 @@ number_is_least i j (suc (suc zero)) rule less is same d = cc
 number_is_least i j (suc (suc (suc zero))) rule less is same d = cc
 number_is_least i j (suc (suc (suc (suc r)))) rule less is same d = omega (arith, less)
 
-number_is_first : (i : ℕ) → slice_get two_kinds i ≡ Some (Some 0) → IsFirst lists two_kinds (number i) (Category 1) i (i + 1)
+number_is_first : (i : ℕ) → slice_get two_kinds i ≡ Some (Some 0) → IsFirstFromLeft lists two_kinds (number_tree i) (Category 1) i (i + 1)
 number_is_first i is = (
   _,
   refl,
@@ -284,7 +339,7 @@ last_is_least : (i : ℕ) → NoLesserRule lesser_from_left lists two_kinds 1 0 
 last_is_least i zero rule less is same d = nil_is_empty i (i + 1) (omega arith) rule is d
 last_is_least i (suc r) rule less is same d = omega (arith, less)
 
-last_is_first : (i : ℕ) → slice_get two_kinds i ≡ Some (Some 0) → IsFirst lists two_kinds (last_number i) (Category 0) i (i + 1)
+last_is_first : (i : ℕ) → slice_get two_kinds i ≡ Some (Some 0) → IsFirstFromLeft lists two_kinds (last_number i) (Category 0) i (i + 1)
 last_is_first i is = (
   _,
   refl,
@@ -308,7 +363,7 @@ list_is_least (suc zero) rule less is same d =
     )
 list_is_least (suc (suc r)) rule less is same d = omega (arith, less)
 
-list_is_first : IsFirst lists two_kinds (number_before (last_number 1) 2) (Category 0) 0 2
+list_is_first : IsFirstFromLeft lists two_kinds (number_before (last_number 1) 2) (Category 0) 0 2
 list_is_first = (
   _,
   refl,
@@ -320,14 +375,14 @@ list_is_first = (
   before_two lists two_kinds (Category 1) (Category 0) 0 1 2 (λ m less d. absurd (omega (arith, less, number_is_one 0 m d))),
 )
 
-list_is_other : IsOther lists two_kinds (number_before (number_before_nil 1) 2) (Category 0) 0 2
+list_is_other : IsOtherTree lists two_kinds (number_before (number_before_nil 1) 2) (Category 0) 0 2
 list_is_other = (
   (_, refl, refl, (_, _, _, refl, number_is 0 refl, (_, _, _, refl, inner, (refl, refl))), refl, refl),
   later,
 )
   where
-    number_is : (i : ℕ) → slice_get two_kinds i ≡ Some (Some 0) → IsParseTree lists two_kinds (number i) (Category 1) i (i + 1)
-    number_is i is = first_is_parse_tree lists two_kinds lesser_from_left (number i) (Category 1) i (i + 1) (number_is_first i is)
+    number_is : (i : ℕ) → slice_get two_kinds i ≡ Some (Some 0) → IsParseTree lists two_kinds (number_tree i) (Category 1) i (i + 1)
+    number_is i is = first_is_parse_tree lists two_kinds lesser_from_left (number_tree i) (Category 1) i (i + 1) (number_is_first i is)
 
     inner : IsParseTree lists two_kinds (number_before_nil 1) (Category 0) 1 2
     inner = (
@@ -340,16 +395,16 @@ list_is_other = (
     )
 
     one : DerivesAll lists two_kinds (Category 1 ∷ []) 1 2
-    one = (one_tree (number 1), (_, _, _, refl, number_is 1 refl, (refl, refl)))
+    one = (one_tree (number_tree 1), (_, _, _, refl, number_is 1 refl, (refl, refl)))
 
-    within : (s : Symbol) (k j : ℕ) → k ≡ 1 → j ≡ 2 → IsFirst lists two_kinds (number_before_nil 1) s k j → ⊥
+    within : (s : Symbol) (k j : ℕ) → k ≡ 1 → j ≡ 2 → IsFirstFromLeft lists two_kinds (number_before_nil 1) s k j → ⊥
     within s k j is_first is_end first =
         let category : 0 ≡ (first.0).category = cc in
         first.6 1 _ (omega arith) refl category
         (subst (λ n. DerivesAll lists two_kinds (Category 1 ∷ []) n j) (sym is_first)
         (subst (λ n. DerivesAll lists two_kinds (Category 1 ∷ []) 1 n) (sym is_end) one))
 
-    later : IsFirst lists two_kinds (number_before (number_before_nil 1) 2) (Category 0) 0 2 → ⊥
+    later : IsFirstFromLeft lists two_kinds (number_before (number_before_nil 1) 2) (Category 0) 0 2 → ⊥
     later first =
         let behind = first.3.5 in
         within behind.0 first.3.2 behind.2 (sym behind.4.4) (sym behind.4.5) behind.4
@@ -365,6 +420,8 @@ small_first_trees = record {
   the_greater_rule_comes_later = more_is_other;
   the_last_of_a_list = list_is_first;
   a_child_decides = list_is_other;
+  a_loop_derives = loop_derives;
+  a_loop_has_no_first = λ t. no_first_loop t 1 refl;
   nodes_of_a_sum = refl;
   nodes_of_siblings = refl;
 }

@@ -14,8 +14,8 @@ use Rattle.spec_grammar.specs.Grammars.{Grammar}
 use Rattle.spec_grammar.specs.Trees.{Tree, leaf, node, Forest, no_trees, trees}
 
 -- the rule
-abbrev pub labelled : Label → ℕ → List Symbol → Rule
-labelled label category items = record { label = label; category = category; items = items }
+abbrev pub labelled_rule : Label → ℕ → List Symbol → Rule
+labelled_rule label category items = record { label = label; category = category; items = items }
 
 -- the grammar of these rules and kinds; no text is printed of its categories or of its entry
 abbrev pub grammar_of : List Rule → List KindDef → Grammar
@@ -44,8 +44,8 @@ two_trees t other = trees t (one_tree other)
 -- an ambiguous sum: `Sum . E ::= E E`, `A . E ::= "a"`
 abbrev pub sums : List Rule
 sums =
-    labelled (Named (codes "Sum")) 0 (Category 0 ∷ Category 0 ∷ [])
-    ∷ labelled (Named (codes "A")) 0 (Kind 0 ∷ []) ∷ []
+    labelled_rule (Named (codes "Sum")) 0 (Category 0 ∷ Category 0 ∷ [])
+    ∷ labelled_rule (Named (codes "A")) 0 (Kind 0 ∷ []) ∷ []
 
 -- three tokens `a`
 abbrev pub three_kinds : List (Option ℕ)
@@ -55,27 +55,27 @@ abbrev pub three_tokens : List Token
 three_tokens = token_of 0 0 1 ∷ token_of 0 1 2 ∷ token_of 0 2 3 ∷ []
 
 -- the tree of one of them
-abbrev pub letter : ℕ → Tree
-letter place = node 1 place (place + 1) (one_tree (token_tree 0 place))
+abbrev pub letter_tree : ℕ → Tree
+letter_tree place = node 1 place (place + 1) (one_tree (token_tree 0 place))
 
 -- the tree of a sum over i..j
-abbrev pub sum : Tree → Tree → ℕ → ℕ → Tree
-sum t other i j = node 0 i j (two_trees t other)
+abbrev pub sum_tree : Tree → Tree → ℕ → ℕ → Tree
+sum_tree t other i j = node 0 i j (two_trees t other)
 
 -- the sum whose first item is the shortest possible
 abbrev pub right_sum : Tree
-right_sum = sum (letter 0) (sum (letter 1) (letter 2) 1 3) 0 3
+right_sum = sum_tree (letter_tree 0) (sum_tree (letter_tree 1) (letter_tree 2) 1 3) 0 3
 
 -- the sum whose second item is
 abbrev pub left_sum : Tree
-left_sum = sum (sum (letter 0) (letter 1) 0 2) (letter 2) 0 3
+left_sum = sum_tree (sum_tree (letter_tree 0) (letter_tree 1) 0 2) (letter_tree 2) 0 3
 
 -- siblings that may be empty: `Pair . S ::= P P`, `Empty . P ::=`, `Full . P ::= Letter`
 abbrev pub pairs : List Rule
 pairs =
-    labelled (Named (codes "Pair")) 0 (Category 1 ∷ Category 1 ∷ [])
-    ∷ labelled (Named (codes "Empty")) 1 []
-    ∷ labelled (Named (codes "Full")) 1 (Kind 0 ∷ []) ∷ []
+    labelled_rule (Named (codes "Pair")) 0 (Category 1 ∷ Category 1 ∷ [])
+    ∷ labelled_rule (Named (codes "Empty")) 1 []
+    ∷ labelled_rule (Named (codes "Full")) 1 (Kind 0 ∷ []) ∷ []
 
 -- one token
 abbrev pub one_kind : List (Option ℕ)
@@ -98,25 +98,39 @@ second_full = node 0 0 1 (two_trees (empty_sibling 0) full_sibling)
 abbrev pub first_full : Tree
 first_full = node 0 0 1 (two_trees full_sibling (empty_sibling 1))
 
--- two rules for one token: `Less . S ::= Mark`, `More . S ::= Mark`
+-- two rules for one token and nothing: `Less . S ::= Mark P`, `More . S ::= P Mark`, `Gap . P ::=`
 abbrev pub ties : List Rule
 ties =
-    labelled (Named (codes "Less")) 0 (Kind 0 ∷ [])
-    ∷ labelled (Named (codes "More")) 0 (Kind 0 ∷ []) ∷ []
+    labelled_rule (Named (codes "Less")) 0 (Kind 0 ∷ Category 1 ∷ [])
+    ∷ labelled_rule (Named (codes "More")) 0 (Category 1 ∷ Kind 0 ∷ [])
+    ∷ labelled_rule (Named (codes "Gap")) 1 [] ∷ []
 
--- the tree of either rule over the one token
-abbrev pub tie : ℕ → Tree
-tie r = node r 0 1 (one_tree (token_tree 0 0))
+-- the empty item at a place
+abbrev pub gap_tree : ℕ → Tree
+gap_tree place = node 2 place place no_trees
+
+-- the tree of the lesser rule over the one token, and that of the greater
+abbrev pub less_tie : Tree
+less_tie = node 0 0 1 (two_trees (token_tree 0 0) (gap_tree 1))
+
+abbrev pub more_tie : Tree
+more_tie = node 1 0 1 (two_trees (gap_tree 0) (token_tree 0 0))
+
+-- a category that reaches itself: `Again . A ::= A`, `Stop . A ::= "a"`
+abbrev pub loops : List Rule
+loops =
+    labelled_rule (Named (codes "Again")) 0 (Category 0 ∷ [])
+    ∷ labelled_rule (Named (codes "Stop")) 0 (Kind 0 ∷ []) ∷ []
 
 -- lists in four forms, and their elements: `[] . [N] ::=`, `(:[]) . [N] ::= N`,
 -- `(:) . [N] ::= N [N]`, `_ . [N] ::= "(" [N] ")"`, `Num . N ::= Digits`
 abbrev pub lists : List Rule
 lists =
-    labelled Nil 0 []
-    ∷ labelled One 0 (Category 1 ∷ [])
-    ∷ labelled Cons 0 (Category 1 ∷ Category 0 ∷ [])
-    ∷ labelled Wild 0 (Kind 1 ∷ Category 0 ∷ Kind 2 ∷ [])
-    ∷ labelled (Named (codes "Num")) 1 (Kind 0 ∷ []) ∷ []
+    labelled_rule Nil 0 []
+    ∷ labelled_rule One 0 (Category 1 ∷ [])
+    ∷ labelled_rule Cons 0 (Category 1 ∷ Category 0 ∷ [])
+    ∷ labelled_rule Wild 0 (Kind 1 ∷ Category 0 ∷ Kind 2 ∷ [])
+    ∷ labelled_rule (Named (codes "Num")) 1 (Kind 0 ∷ []) ∷ []
 
 abbrev pub list_kinds : List KindDef
 list_kinds = named_kind (codes "Digits") ∷ Word (codes "(") ∷ Word (codes ")") ∷ []
@@ -129,25 +143,28 @@ abbrev pub two_tokens : List Token
 two_tokens = token_of 0 0 1 ∷ token_of 0 2 4 ∷ []
 
 -- the tree of a number at a place
-abbrev pub number : ℕ → Tree
-number place = node 4 place (place + 1) (one_tree (token_tree 0 place))
+abbrev pub number_tree : ℕ → Tree
+number_tree place = node 4 place (place + 1) (one_tree (token_tree 0 place))
 
 -- the list of the number at a place alone, and with an empty list behind it
 abbrev pub last_number : ℕ → Tree
-last_number place = node 1 place (place + 1) (one_tree (number place))
+last_number place = node 1 place (place + 1) (one_tree (number_tree place))
 
 abbrev pub number_before_nil : ℕ → Tree
 number_before_nil place =
-    node 2 place (place + 1) (two_trees (number place) (node 0 (place + 1) (place + 1) no_trees))
+    node 2 place (place + 1)
+    (two_trees (number_tree place) (node 0 (place + 1) (place + 1) no_trees))
 
 -- the list of the first number and of the others, which end at j
 abbrev pub number_before : Tree → ℕ → Tree
-number_before others j = node 2 0 j (two_trees (number 0) others)
+number_before others j = node 2 0 j (two_trees (number_tree 0) others)
 
 -- a list in brackets behind the first number: `1(22)`
 abbrev pub bracket_tokens : List Token
 bracket_tokens = token_of 0 0 1 ∷ token_of 1 1 2 ∷ token_of 0 2 4 ∷ token_of 2 4 5 ∷ []
 
+abbrev pub between_brackets : Forest
+between_brackets = trees (token_tree 1 1) (two_trees (last_number 2) (token_tree 2 3))
+
 abbrev pub bracket_list : Tree
-bracket_list =
-    number_before (node 3 1 4 (trees (token_tree 1 1) (two_trees (last_number 2) (token_tree 2 3)))) 4
+bracket_list = number_before (node 3 1 4 between_brackets) 4

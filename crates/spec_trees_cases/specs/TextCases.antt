@@ -5,7 +5,8 @@ use Rattle.spec_trees.specs.TreeText.{tree_text}
 use Rattle.spec_trees_cases.specs.Examples.{grammar_of, named_kind, token_of, token_tree}
 use Rattle.spec_trees_cases.specs.Examples.{sums, three_tokens, right_sum, left_sum}
 use Rattle.spec_trees_cases.specs.Examples.{pairs, one_token, second_full, first_full}
-use Rattle.spec_trees_cases.specs.Examples.{ties, tie, lists, list_kinds, two_tokens, last_number}
+use Rattle.spec_trees_cases.specs.Examples.{ties, less_tie, more_tie, lists, list_kinds}
+use Rattle.spec_trees_cases.specs.Examples.{two_tokens, last_number}
 use Rattle.spec_trees_cases.specs.Examples.{number_before_nil, number_before, bracket_tokens}
 use Rattle.spec_trees_cases.specs.Examples.{bracket_list}
 use Rattle.spec_grammar.specs.Trees.{node, no_trees}
@@ -22,22 +23,24 @@ pub record SmallTreeTexts : Type 0 where
       ≡ codes "(Sum (Sum (A) (A)) (A))"
   -- a token is printed behind the name of its kind
   pub of_a_full_second_sibling :
-      tree_text (grammar_of pairs (named_kind (codes "Letter") ∷ [])) (codes "x") one_token second_full
+      tree_text (grammar_of pairs (named_kind (codes "Letter") ∷ [])) (codes "x") one_token
+      second_full
       ≡ codes "(Pair (Empty) (Full Letter:x))"
   -- the same in the first sibling
   pub of_a_full_first_sibling :
-      tree_text (grammar_of pairs (named_kind (codes "Letter") ∷ [])) (codes "x") one_token first_full
+      tree_text (grammar_of pairs (named_kind (codes "Letter") ∷ [])) (codes "x") one_token
+      first_full
       ≡ codes "(Pair (Full Letter:x) (Empty))"
   -- a backslash is doubled, and a control byte is written by its number
   pub of_the_lesser_rule :
       tree_text (grammar_of ties (named_kind (codes "Mark") ∷ [])) (92 ∷ 7 ∷ [])
-      (token_of 0 0 2 ∷ []) (tie 0)
-      ≡ codes "(Less Mark:\\\\\\x07)"
+      (token_of 0 0 2 ∷ []) less_tie
+      ≡ codes "(Less Mark:\\\\\\x07 (Gap))"
   -- the greater rule prints its own label
   pub of_the_greater_rule :
       tree_text (grammar_of ties (named_kind (codes "Mark") ∷ [])) (92 ∷ 7 ∷ [])
-      (token_of 0 0 2 ∷ []) (tie 1)
-      ≡ codes "(More Mark:\\\\\\x07)"
+      (token_of 0 0 2 ∷ []) more_tie
+      ≡ codes "(More (Gap) Mark:\\\\\\x07)"
   -- a list has its elements between brackets
   pub of_a_list :
       tree_text (grammar_of lists list_kinds) (codes "1 22") two_tokens

@@ -4,4 +4,4 @@ use Rattle.spec_trees.proofs.ExistenceLemmas.{derived_has_first}
 use Rattle.spec_trees.proofs.laws.a_derived_span_has_a_first_tree.Goals as goal
 
 pub returns : goal.returns
-returns c = λ rules kinds. derived_has_first rules kinds (derived_or_not rules kinds)
+returns c = λ is_lesser order rules kinds. derived_has_first is_lesser order rules kinds (derived_or_not rules kinds)
