@@ -296,7 +296,7 @@ module _ (is_lesser : ℕ → ℕ → Bool) (order : IsStrictOrder is_lesser) (r
         let below : (b : ℕ) → StepsTo rules c b → HasFirstsUpTo len b =
         λ b step. category_has_first len shorter n b (λ chain. none (step_lengthens rules c b n step chain)) in
         let firsts = items_have_firsts len c r rule first.1.1 first.1.2 shorter below i j fits [] rule.items i refl (omega arith) (λ empty. All-nil (IsNullable rules)) ends.0 ends.1 in
-        let no_lesser : NoLesserRule (from_left is_lesser) rules kinds r rule.category i j =
+        let no_lesser : NoLesserRule rules kinds r rule.category i j =
         λ lesser other less is same derives. first.2 lesser less (other, is, same ∙ first.1.2, derives) in
         let no_before : NoEndsBefore (from_left is_lesser) rules kinds (ends_of firsts.0) rule.items i j =
         same_ends_kept rule.items i j ends.0 firsts.0 firsts.2 ends.2 in

@@ -158,8 +158,8 @@ module _ (rules : List Rule) (kinds : List (Option ℕ)) where
         → rule.category ≡ other_rule.category
         → AreParseTrees rules kinds ts rule.items i j
         → AreParseTrees rules kinds others other_rule.items i j
-        → NoLesserRule is_before rules kinds r rule.category i j
-        → NoLesserRule is_before rules kinds other other_rule.category i j
+        → NoLesserRule rules kinds r rule.category i j
+        → NoLesserRule rules kinds other other_rule.category i j
         → r ≡ other
     same_rule r other i j rule other_rule ts others is is_other same are are_others least least_other =
         elim (below_same_above r other) [

@@ -33,14 +33,14 @@ from_left is_lesser (end ∷ ends) (other ∷ others) =
 abbrev pub lesser_from_left : EndsOrder
 lesser_from_left = from_left nat_lt
 
-module _ (is_before : EndsOrder) (rules : List Rule) (kinds : List (Option ℕ)) where
-  -- of the category's rules, none with a lesser number derives the span i..j
-  abbrev pub NoLesserRule : ℕ → ℕ → ℕ → ℕ → Type 0
-  NoLesserRule r category i j =
-      (lesser : ℕ) (rule : Rule)
-      → lesser < r → slice_get rules lesser ≡ Some rule → rule.category ≡ category
-      → DerivesAll rules kinds rule.items i j → ⊥
+-- of the category's rules, none with a number below this one derives the span i..j
+abbrev pub NoLesserRule : List Rule → List (Option ℕ) → ℕ → ℕ → ℕ → ℕ → Type 0
+NoLesserRule rules kinds r category i j =
+    (lesser : ℕ) (rule : Rule)
+    → lesser < r → slice_get rules lesser ≡ Some rule → rule.category ≡ category
+    → DerivesAll rules kinds rule.items i j → ⊥
 
+module _ (is_before : EndsOrder) (rules : List Rule) (kinds : List (Option ℕ)) where
   -- no trees of the items over the span i..j have ends that come before these
   abbrev pub NoEndsBefore : List ℕ → List Symbol → ℕ → ℕ → Type 0
   NoEndsBefore ends items i j =
@@ -56,7 +56,8 @@ module _ (is_before : EndsOrder) (rules : List Rule) (kinds : List (Option ℕ))
     IsFirstTree (node r first end subtrees) s i j =
         (rule : Rule) × (slice_get rules r ≡ Some rule) × (s ≡ Category rule.category)
         × AreFirstTrees subtrees rule.items i j × (first ≡ i) × (end ≡ j)
-        × NoLesserRule r rule.category i j × NoEndsBefore (ends_of subtrees) rule.items i j
+        × NoLesserRule rules kinds r rule.category i j
+        × NoEndsBefore (ends_of subtrees) rule.items i j
 
     -- each tree is the first one of its item, over adjacent spans that together are i..j
     pub AreFirstTrees : Forest → List Symbol → ℕ → ℕ → Type 0

@@ -10,8 +10,13 @@ use Rattle.spec_grammar.specs.Derivation.{IsParseTree, AreParseTrees, Derives, D
 use Rattle.spec_grammar.proofs.DerivationLemmas.{AreFull, kind_derives, category_derives, none_derive, some_derive, derives_grows}
 use Rattle.spec_trees.specs.FirstTrees.{tree_end, ends_of, lesser_from_left, NoLesserRule, NoEndsBefore}
 use Rattle.spec_trees.proofs.FirstTreeLemmas.{lesser_cases, ends_with_span, first_is_parse_tree, firsts_are_parse_trees}
-use Rattle.spec_trees_cases.specs.Examples.{sums, three_kinds, letter_tree, sum_tree, right_sum, left_sum, pairs, one_kind, empty_sibling, full_sibling, second_full, first_full, ties, gap_tree, less_tie, more_tie, loops, lists, two_kinds, number_tree, last_number, number_before_nil, number_before, one_tree, two_trees, token_tree}
 use Rattle.spec_trees_cases.specs.FirstTreeCases.{IsFirstFromLeft, IsOtherTree, SmallFirstTrees}
+use Rattle.spec_trees_cases.specs.Examples.{sums, three_kinds, letter_tree, sum_tree, right_sum}
+use Rattle.spec_trees_cases.specs.Examples.{left_sum, pairs, one_kind, empty_sibling, full_sibling}
+use Rattle.spec_trees_cases.specs.Examples.{second_full, first_full, ties, gap_tree, less_tie}
+use Rattle.spec_trees_cases.specs.Examples.{more_tie, loops, one_tree, two_trees, token_tree}
+use Rattle.spec_trees_cases.specs.ListExamples.{lists, two_kinds, number_tree, last_number}
+use Rattle.spec_trees_cases.specs.ListExamples.{number_before_nil, number_before}
 
 module _ (rules : List Rule) (kinds : List (Option ℕ)) where
   -- no ends come before none
@@ -81,7 +86,7 @@ sum_grows : (i j : ℕ) → Derives sums three_kinds (Category 0) i j → i < j
 sum_grows i j d = derives_grows sums three_kinds sums_are_full (Category 0) i j d
 
 -- no sum is of one token
-no_sum_of_one : (i : ℕ) → NoLesserRule lesser_from_left sums three_kinds 1 0 i (i + 1)
+no_sum_of_one : (i : ℕ) → NoLesserRule sums three_kinds 1 0 i (i + 1)
 no_sum_of_one i zero rule less is same d =
     let items : rule.items ≡ Category 0 ∷ Category 0 ∷ [] = cc in
     let x = two_parts sums three_kinds (Category 0) (Category 0) i (i + 1)
@@ -151,12 +156,12 @@ left_is_other = (
         (subst P items first.7) (two_trees (letter_tree 0) (sum_tree (letter_tree 1) (letter_tree 2) 1 3)) right refl
 
 -- no rule before the empty one is of the siblings' category
-empty_is_least : (i : ℕ) → NoLesserRule lesser_from_left pairs one_kind 1 1 i i
+empty_is_least : (i : ℕ) → NoLesserRule pairs one_kind 1 1 i i
 empty_is_least i zero rule less is same d = cc
 empty_is_least i (suc r) rule less is same d = omega (arith, less)
 
 -- and the empty one derives no token
-full_is_least : NoLesserRule lesser_from_left pairs one_kind 2 1 0 1
+full_is_least : NoLesserRule pairs one_kind 2 1 0 1
 full_is_least zero rule less is same d = cc
 full_is_least (suc zero) rule less is same d =
     let items : rule.items ≡ [] = cc in
@@ -216,7 +221,7 @@ first_is_other = (
 gap_is_first : (i : ℕ) → IsFirstFromLeft ties one_kind (gap_tree i) (Category 1) i i
 gap_is_first i = (_, refl, refl, (refl, refl), refl, refl, least, before_none ties one_kind [] i i)
   where
-    least : NoLesserRule lesser_from_left ties one_kind 2 1 i i
+    least : NoLesserRule ties one_kind 2 1 i i
     least zero rule less is same d = cc
     least (suc zero) rule less is same d = cc
     least (suc (suc r)) rule less is same d = omega (arith, less)
@@ -310,7 +315,7 @@ number_is_one i j d =
     let all = subst (λ (y : List Symbol). DerivesAll lists two_kinds y i j) items x.4 in
     ((kind_derives lists two_kinds 0 i j).0 (one_part lists two_kinds (Kind 0) i j all)).1
 
-number_is_least : (i j : ℕ) → NoLesserRule lesser_from_left lists two_kinds 4 1 i j
+number_is_least : (i j : ℕ) → NoLesserRule lists two_kinds 4 1 i j
 number_is_least i j zero rule less is same d = cc
 number_is_least i j (suc zero) rule less is same d = cc
 number_is_least i j (suc (suc zero)) rule less is same d = cc
@@ -335,7 +340,7 @@ nil_is_empty i j order rule is d =
     let items : rule.items ≡ [] = cc in
     omega (arith, order, (none_derive lists two_kinds i j).0 (subst (λ (y : List Symbol). DerivesAll lists two_kinds y i j) items d))
 
-last_is_least : (i : ℕ) → NoLesserRule lesser_from_left lists two_kinds 1 0 i (i + 1)
+last_is_least : (i : ℕ) → NoLesserRule lists two_kinds 1 0 i (i + 1)
 last_is_least i zero rule less is same d = nil_is_empty i (i + 1) (omega arith) rule is d
 last_is_least i (suc r) rule less is same d = omega (arith, less)
 
@@ -352,7 +357,7 @@ last_is_first i is = (
 )
 
 -- two tokens are no list of one or none
-list_is_least : NoLesserRule lesser_from_left lists two_kinds 2 0 0 2
+list_is_least : NoLesserRule lists two_kinds 2 0 0 2
 list_is_least zero rule less is same d = nil_is_empty 0 2 (omega arith) rule is d
 list_is_least (suc zero) rule less is same d =
     let items : rule.items ≡ Category 1 ∷ [] = cc in

@@ -1,19 +1,19 @@
--- Four small grammars, each with a text, the first tree of the text and another tree of it.
+-- Four small grammars, each with a text, and trees of the text.
 use Rattle.std.specs.Prelude.{ℕ, ◌+◌, List, [], ◌∷◌, Option, Some, None, codes}
 use Rattle.spec_lexing.specs.Lexicon.{lexicon_of}
 use Rattle.spec_lexing.specs.declared.expression.Expr.TheVariants.{Eps}
 use Rattle.spec_lexing.specs.declared.kind_def.KindDef.{KindDef}
-use Rattle.spec_lexing.specs.declared.kind_def.KindDef.TheVariants.{Word, Token as TokenDef}
+use Rattle.spec_lexing.specs.declared.kind_def.KindDef.TheVariants.{Token as TokenDef}
 use Rattle.spec_lexing.specs.declared.token.Token.{Token}
 use Rattle.spec_grammar.specs.declared.rule.Label.{Label}
-use Rattle.spec_grammar.specs.declared.rule.Label.TheVariants.{Named, Wild, Nil, Cons, One}
+use Rattle.spec_grammar.specs.declared.rule.Label.TheVariants.{Named}
 use Rattle.spec_grammar.specs.declared.rule.Symbol.{Symbol}
 use Rattle.spec_grammar.specs.declared.rule.Symbol.TheVariants.{Category, Kind}
 use Rattle.spec_grammar.specs.declared.rule.Rule.{Rule}
 use Rattle.spec_grammar.specs.Grammars.{Grammar}
 use Rattle.spec_grammar.specs.Trees.{Tree, leaf, node, Forest, no_trees, trees}
 
--- the rule
+-- the rule with this label, category and right side
 abbrev pub labelled_rule : Label → ℕ → List Symbol → Rule
 labelled_rule label category items = record { label = label; category = category; items = items }
 
@@ -34,10 +34,11 @@ token_of kind first end = record { kind = Some kind; first = first; end = end }
 abbrev pub token_tree : ℕ → ℕ → Tree
 token_tree kind place = leaf kind place (place + 1)
 
--- the trees side by side
+-- the tree alone
 abbrev pub one_tree : Tree → Forest
 one_tree t = trees t no_trees
 
+-- two trees side by side
 abbrev pub two_trees : Tree → Tree → Forest
 two_trees t other = trees t (one_tree other)
 
@@ -47,10 +48,11 @@ sums =
     labelled_rule (Named (codes "Sum")) 0 (Category 0 ∷ Category 0 ∷ [])
     ∷ labelled_rule (Named (codes "A")) 0 (Kind 0 ∷ []) ∷ []
 
--- three tokens `a`
+-- the kinds of three tokens `a`
 abbrev pub three_kinds : List (Option ℕ)
 three_kinds = Some 0 ∷ Some 0 ∷ Some 0 ∷ []
 
+-- and the tokens
 abbrev pub three_tokens : List Token
 three_tokens = token_of 0 0 1 ∷ token_of 0 1 2 ∷ token_of 0 2 3 ∷ []
 
@@ -77,24 +79,27 @@ pairs =
     ∷ labelled_rule (Named (codes "Empty")) 1 []
     ∷ labelled_rule (Named (codes "Full")) 1 (Kind 0 ∷ []) ∷ []
 
--- one token
+-- the kind of one token
 abbrev pub one_kind : List (Option ℕ)
 one_kind = Some 0 ∷ []
 
+-- and the token, of one byte
 abbrev pub one_token : List Token
 one_token = token_of 0 0 1 ∷ []
 
--- the empty sibling at a place, and the one over the token
+-- the empty sibling at a place
 abbrev pub empty_sibling : ℕ → Tree
 empty_sibling place = node 1 place place no_trees
 
+-- the sibling over the token
 abbrev pub full_sibling : Tree
 full_sibling = node 2 0 1 (one_tree (token_tree 0 0))
 
--- the token in the second sibling, and in the first
+-- the token in the second sibling
 abbrev pub second_full : Tree
 second_full = node 0 0 1 (two_trees (empty_sibling 0) full_sibling)
 
+-- the token in the first sibling
 abbrev pub first_full : Tree
 first_full = node 0 0 1 (two_trees full_sibling (empty_sibling 1))
 
@@ -109,10 +114,11 @@ ties =
 abbrev pub gap_tree : ℕ → Tree
 gap_tree place = node 2 place place no_trees
 
--- the tree of the lesser rule over the one token, and that of the greater
+-- the tree of the lesser rule over the one token
 abbrev pub less_tie : Tree
 less_tie = node 0 0 1 (two_trees (token_tree 0 0) (gap_tree 1))
 
+-- the tree of the greater rule over it
 abbrev pub more_tie : Tree
 more_tie = node 1 0 1 (two_trees (gap_tree 0) (token_tree 0 0))
 
@@ -121,50 +127,3 @@ abbrev pub loops : List Rule
 loops =
     labelled_rule (Named (codes "Again")) 0 (Category 0 ∷ [])
     ∷ labelled_rule (Named (codes "Stop")) 0 (Kind 0 ∷ []) ∷ []
-
--- lists in four forms, and their elements: `[] . [N] ::=`, `(:[]) . [N] ::= N`,
--- `(:) . [N] ::= N [N]`, `_ . [N] ::= "(" [N] ")"`, `Num . N ::= Digits`
-abbrev pub lists : List Rule
-lists =
-    labelled_rule Nil 0 []
-    ∷ labelled_rule One 0 (Category 1 ∷ [])
-    ∷ labelled_rule Cons 0 (Category 1 ∷ Category 0 ∷ [])
-    ∷ labelled_rule Wild 0 (Kind 1 ∷ Category 0 ∷ Kind 2 ∷ [])
-    ∷ labelled_rule (Named (codes "Num")) 1 (Kind 0 ∷ []) ∷ []
-
-abbrev pub list_kinds : List KindDef
-list_kinds = named_kind (codes "Digits") ∷ Word (codes "(") ∷ Word (codes ")") ∷ []
-
--- two tokens of digits
-abbrev pub two_kinds : List (Option ℕ)
-two_kinds = Some 0 ∷ Some 0 ∷ []
-
-abbrev pub two_tokens : List Token
-two_tokens = token_of 0 0 1 ∷ token_of 0 2 4 ∷ []
-
--- the tree of a number at a place
-abbrev pub number_tree : ℕ → Tree
-number_tree place = node 4 place (place + 1) (one_tree (token_tree 0 place))
-
--- the list of the number at a place alone, and with an empty list behind it
-abbrev pub last_number : ℕ → Tree
-last_number place = node 1 place (place + 1) (one_tree (number_tree place))
-
-abbrev pub number_before_nil : ℕ → Tree
-number_before_nil place =
-    node 2 place (place + 1)
-    (two_trees (number_tree place) (node 0 (place + 1) (place + 1) no_trees))
-
--- the list of the first number and of the others, which end at j
-abbrev pub number_before : Tree → ℕ → Tree
-number_before others j = node 2 0 j (two_trees (number_tree 0) others)
-
--- a list in brackets behind the first number: `1(22)`
-abbrev pub bracket_tokens : List Token
-bracket_tokens = token_of 0 0 1 ∷ token_of 1 1 2 ∷ token_of 0 2 4 ∷ token_of 2 4 5 ∷ []
-
-abbrev pub between_brackets : Forest
-between_brackets = trees (token_tree 1 1) (two_trees (last_number 2) (token_tree 2 3))
-
-abbrev pub bracket_list : Tree
-bracket_list = number_before (node 3 1 4 between_brackets) 4

@@ -8,9 +8,9 @@ use Rattle.spec_grammar.specs.Derivation.{IsParseTree, Derives}
 use Rattle.spec_trees.specs.FirstTrees.{lesser_from_left, IsFirstTree, node_count}
 use Rattle.spec_trees_cases.specs.Examples.{sums, three_kinds, letter_tree, right_sum, left_sum}
 use Rattle.spec_trees_cases.specs.Examples.{pairs, one_kind, second_full, first_full, ties}
-use Rattle.spec_trees_cases.specs.Examples.{less_tie}
-use Rattle.spec_trees_cases.specs.Examples.{lists, two_kinds, last_number, number_before_nil}
-use Rattle.spec_trees_cases.specs.Examples.{number_before, more_tie, loops}
+use Rattle.spec_trees_cases.specs.Examples.{less_tie, more_tie, loops}
+use Rattle.spec_trees_cases.specs.ListExamples.{lists, two_kinds, last_number, number_before_nil}
+use Rattle.spec_trees_cases.specs.ListExamples.{number_before}
 
 module _ (rules : List Rule) (kinds : List (Option ℕ)) (t : Tree) (s : Symbol) (i j : ℕ) where
   -- the tree is the first one by ends from the left

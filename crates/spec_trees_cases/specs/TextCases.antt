@@ -2,14 +2,13 @@
 use Rattle.std.specs.Prelude.{◌≡◌, [], ◌∷◌, codes}
 use Rattle.spec_lexing.specs.declared.kind_def.KindDef.TheVariants.{Word}
 use Rattle.spec_trees.specs.TreeText.{tree_text}
-use Rattle.spec_trees_cases.specs.Examples.{grammar_of, named_kind, token_of, token_tree}
-use Rattle.spec_trees_cases.specs.Examples.{sums, three_tokens, right_sum, left_sum}
-use Rattle.spec_trees_cases.specs.Examples.{pairs, one_token, second_full, first_full}
-use Rattle.spec_trees_cases.specs.Examples.{ties, less_tie, more_tie, lists, list_kinds}
-use Rattle.spec_trees_cases.specs.Examples.{two_tokens, last_number}
-use Rattle.spec_trees_cases.specs.Examples.{number_before_nil, number_before, bracket_tokens}
-use Rattle.spec_trees_cases.specs.Examples.{bracket_list}
 use Rattle.spec_grammar.specs.Trees.{node, no_trees}
+use Rattle.spec_trees_cases.specs.Examples.{grammar_of, named_kind, token_of, token_tree, sums}
+use Rattle.spec_trees_cases.specs.Examples.{three_tokens, right_sum, left_sum, pairs, one_token}
+use Rattle.spec_trees_cases.specs.Examples.{second_full, first_full, ties, less_tie, more_tie}
+use Rattle.spec_trees_cases.specs.ListExamples.{lists, list_kinds, two_tokens, last_number}
+use Rattle.spec_trees_cases.specs.ListExamples.{number_before_nil, number_before, bracket_tokens}
+use Rattle.spec_trees_cases.specs.ListExamples.{bracket_list}
 
 -- the printed texts, worked on small cases
 pub record SmallTreeTexts : Type 0 where
