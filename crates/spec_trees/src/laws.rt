@@ -33,8 +33,8 @@ pub fn first_trees_are_least()
     ensures least { LeastTreesAreFirst }
 {}
 
-/// In any grammar it can be found out of each symbol and span whether the one derives the other, so
-/// no law of first trees has to ask for it.
+/// In any grammar it can be found out of each symbol and span whether the one derives the other.
+/// So no law of first trees has to ask for it.
 pub fn derived_or_not()
     ensures { DerivedOrNot }
 {}
