@@ -17,8 +17,9 @@ use Rattle.spec_grammar.proofs.DerivationLemmas.{derives_within, derives_all_wit
 use Rattle.spec_grammar.proofs.CycleLemmas.{step_lengthens, chain_is_short}
 use Rattle.spec_trees.specs.FirstTrees.{tree_end, ends_of, from_left, NoLesserRule, NoEndsBefore, IsFirstTree, AreFirstTrees}
 use Rattle.spec_trees.specs.Laws.{IsStrictOrder}
+use Rattle.spec_trees.proofs.EndsLemmas.{none_before_none, none_before_cut}
 use Rattle.spec_trees.proofs.ToldLemmas.{IsToldOf, told_both, told_below, least, least_below, below_or_not}
-use Rattle.spec_trees.proofs.FirstTreeLemmas.{below_same_above, lesser_cases, ends_with_span, first_is_parse_tree}
+use Rattle.spec_trees.proofs.FirstTreeLemmas.{below_same_above, ends_with_span, first_is_parse_tree}
 
 -- how far the symbols of items go
 abbrev symbol_bound : Symbol → ℕ
@@ -128,18 +129,19 @@ module _ (is_lesser : ℕ → ℕ → Bool) (order : IsStrictOrder is_lesser) (r
 
     -- items that derive a span do so with ends before which no others come
     least_ends : (items : List Symbol) (i j : ℕ) → DerivesAll rules kinds items i j → HasLeastEnds items i j
-    least_ends [] i j d = (no_trees, (refl, (none_derive rules kinds i j).0 d), none_before)
-      where
-        none_before : NoEndsBefore (from_left is_lesser) rules kinds [] [] i j
-        none_before no_trees are before = cc
-        none_before (trees t ts) are before = cc
+    least_ends [] i j d =
+        (no_trees, (refl, (none_derive rules kinds i j).0 d), none_before_none is_lesser rules kinds [] i j)
     least_ends (s ∷ rest) i j d =
         let x = (some_derive rules kinds s rest i j).0 d in
         let within = (derives_all_within rules kinds rest x.0 j x.2).0 in
         let cut = least_below is_lesser order Cut cut_told (suc j) x.0 (omega (arith, within)) (x.1, x.2) in
         let others = least_ends rest cut.0 j cut.2.1 in
         let first = cut.2.0 in
-        (trees first.0 others.0, (s, rest, cut.0, refl, first.1, others.1), none_before cut.0 first.0 others.0 first.1 cut.3 others.2)
+        let end : tree_end first.0 ≡ cut.0 = ends_with_span rules kinds first.0 s i cut.0 first.1 in (
+          trees first.0 others.0,
+          (s, rest, cut.0, refl, first.1, others.1),
+          none_before (tree_end first.0) cut.0 (ends_of others.0) end cut.3 others.2,
+        )
       where
         Cut : ℕ → Type 0
         Cut k = Derives rules kinds s i k × DerivesAll rules kinds rest k j
@@ -150,28 +152,14 @@ module _ (is_lesser : ℕ → ℕ → Bool) (order : IsStrictOrder is_lesser) (r
             (told_all rest k j)
 
         none_before :
-            (k : ℕ) (t : Tree) (ts : Forest) → IsParseTree rules kinds t s i k
+            (end k : ℕ) (ends : List ℕ) → end ≡ k
             → ((m : ℕ) → m < suc j → Cut m → IsTrue (is_lesser m k) → ⊥)
-            → NoEndsBefore (from_left is_lesser) rules kinds (ends_of ts) rest k j
-            → NoEndsBefore (from_left is_lesser) rules kinds (tree_end t ∷ ends_of ts) (s ∷ rest) i j
-        none_before k t ts is lesser behind no_trees are before = cc
-        none_before k t ts is lesser behind (trees u us) are before =
-            let symbol : are.0 ≡ s = cc in
-            let items : are.1 ≡ rest = cc in
-            let own : tree_end t ≡ k = ends_with_span rules kinds t s i k is in
-            let end : tree_end u ≡ are.2 = ends_with_span rules kinds u are.0 i are.2 are.4 in
-            let tree : IsParseTree rules kinds u s i are.2 =
-            subst (λ (x : Symbol). IsParseTree rules kinds u x i are.2) symbol are.4 in
-            let forest : AreParseTrees rules kinds us rest are.2 j =
-            subst (λ (x : List Symbol). AreParseTrees rules kinds us x are.2 j) items are.5 in
-            elim (lesser_cases is_lesser (tree_end u) (tree_end t) (ends_of us) (ends_of ts) before) [
-              | inl below ↦
-                  let back : are.2 ≤ j = forest_ordered rules kinds us are.1 are.2 j are.5 in
-                  lesser are.2 (omega (arith, back)) ((u, tree), (us, forest)) (rw (end, own) at below)
-              | inr same ↦
-                  let cut : are.2 ≡ k = sym end ∙ (same.0 ∙ own) in
-                  behind us (subst (λ n. AreParseTrees rules kinds us rest n j) cut forest) same.1
-            ]
+            → NoEndsBefore (from_left is_lesser) rules kinds ends rest k j
+            → NoEndsBefore (from_left is_lesser) rules kinds (end ∷ ends) (s ∷ rest) i j
+        none_before end k ends same lesser behind =
+            rw same (none_before_cut is_lesser rules kinds s rest i k j ends
+            (λ m less first others. lesser m (omega (arith, (derives_all_within rules kinds rest m j others).0)) (first, others) less)
+            behind)
 
     -- a rule of the category with this number derives the span
     abbrev pub DerivesBy : ℕ → ℕ → ℕ → ℕ → Type 0

@@ -1,4 +1,5 @@
 pub mod FirstTreeLemmas
+pub mod EndsLemmas
 pub mod ToldLemmas
 pub mod TellingLemmas
 pub mod ExistenceLemmas

@@ -1,8 +1,9 @@
 //! Laws of first trees. Each body is empty: the contract is the law, and calling the function
 //! cites it.
 ghost use Rattle.spec_trees.specs.Laws.{DerivedOrNot, DerivedSpansHaveFirstTrees};
-ghost use Rattle.spec_trees.specs.Laws.{FirstTreesAreLeast, FirstTreesAreParseTrees};
-ghost use Rattle.spec_trees.specs.Laws.{LeastTreesAreFirst, LeftTellsApart, NumbersAreOrdered};
+ghost use Rattle.spec_trees.specs.Laws.{EndsAreLeastInTurn, FirstTreesAreLeast};
+ghost use Rattle.spec_trees.specs.Laws.{FirstTreesAreParseTrees, LeastTreesAreFirst};
+ghost use Rattle.spec_trees.specs.Laws.{LeftTellsApart, NoEndsBeforeNone, NumbersAreOrdered};
 ghost use Rattle.spec_trees.specs.Laws.{OneFirstTree};
 
 /// A first tree is a parse tree, whatever the order of ends is.
@@ -16,6 +17,13 @@ pub fn one_first_tree()
     ensures any { OneFirstTree }
     ensures left { LeftTellsApart }
     ensures numbers { NumbersAreOrdered }
+{}
+
+/// In an order from the left the ends of a node's items are the least in turn: that of the first
+/// item, and behind it those of the others. So a search may settle one cut at a time.
+pub fn ends_are_least_in_turn()
+    ensures none { NoEndsBeforeNone }
+    ensures some { EndsAreLeastInTurn }
 {}
 
 /// In a grammar whose categories don't reach themselves a symbol has a first tree over each span

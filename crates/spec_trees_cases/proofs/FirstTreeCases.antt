@@ -1,15 +1,16 @@
 -- The first trees: no lesser rule derives the span, and no lesser cut has both its parts.
-use Rattle.std.proofs.Common.{◌∙◌, ◌≡◌, ℕ, zero, suc, ◌+◌, ◌<◌, inl, inr, List, [], ◌∷◌, Option, Some, slice_get, refl, sym, subst, arith}
+use Rattle.std.proofs.Common.{◌∙◌, ◌≡◌, ℕ, zero, suc, ◌+◌, ◌<◌, List, [], ◌∷◌, Option, Some, slice_get, refl, sym, subst, arith}
 use Rattle.std.specs.Prelude.{nat_lt}
 use Rattle.std.proofs.lemmas.Bool.{ltb-true}
 use Rattle.spec_grammar.specs.declared.rule.Symbol.{Symbol}
 use Rattle.spec_grammar.specs.declared.rule.Symbol.TheVariants.{Category, Kind}
 use Rattle.spec_grammar.specs.declared.rule.Rule.{Rule}
-use Rattle.spec_grammar.specs.Trees.{leaf, node, Tree, Forest, no_trees, trees}
+use Rattle.spec_grammar.specs.Trees.{leaf, node, Tree, no_trees, trees}
 use Rattle.spec_grammar.specs.Derivation.{IsParseTree, AreParseTrees, Derives, DerivesAll}
 use Rattle.spec_grammar.proofs.DerivationLemmas.{AreFull, kind_derives, category_derives, none_derive, some_derive, derives_grows}
-use Rattle.spec_trees.specs.FirstTrees.{tree_end, ends_of, lesser_from_left, NoLesserRule, NoEndsBefore}
-use Rattle.spec_trees.proofs.FirstTreeLemmas.{lesser_cases, ends_with_span, first_is_parse_tree, firsts_are_parse_trees}
+use Rattle.spec_trees.specs.FirstTrees.{tree_end, lesser_from_left, NoLesserRule, NoEndsBefore}
+use Rattle.spec_trees.proofs.EndsLemmas.{none_before_none, none_before_cut}
+use Rattle.spec_trees.proofs.FirstTreeLemmas.{first_is_parse_tree, firsts_are_parse_trees}
 use Rattle.spec_trees_cases.specs.FirstTreeCases.{IsFirstFromLeft, IsOtherTree, SmallFirstTrees}
 use Rattle.spec_trees_cases.specs.Examples.{sums, three_kinds, letter_tree, sum_tree, right_sum}
 use Rattle.spec_trees_cases.specs.Examples.{left_sum, pairs, one_kind, empty_sibling, full_sibling}
@@ -19,46 +20,28 @@ use Rattle.spec_trees_cases.specs.ListExamples.{lists, two_kinds, number_tree, l
 use Rattle.spec_trees_cases.specs.ListExamples.{number_before_nil, number_before}
 
 module _ (rules : List Rule) (kinds : List (Option ℕ)) where
-  -- no ends come before none
-  before_none : (items : List Symbol) (i j : ℕ) → NoEndsBefore lesser_from_left rules kinds [] items i j
-  before_none items i j no_trees are before = cc
-  before_none items i j (trees t ts) are before = cc
+  -- one item is the whole
+  one_part : (s : Symbol) (i j : ℕ) → DerivesAll rules kinds (s ∷ []) i j → Derives rules kinds s i j
+  one_part s i j d =
+      let y = (some_derive rules kinds s [] i j).0 d in
+      subst (λ n. Derives rules kinds s i n) (sym ((none_derive rules kinds y.0 j).0 y.2)) y.1
 
-  -- nor before the one end of the span
+  -- none come before the one end of the span
   before_one : (s : Symbol) (i j : ℕ) → NoEndsBefore lesser_from_left rules kinds (j ∷ []) (s ∷ []) i j
-  before_one s i j no_trees are before = cc
-  before_one s i j (trees t ts) are before =
-      let rest : are.1 ≡ [] = cc in
-      let end : tree_end t ≡ are.2 = ends_with_span rules kinds t are.0 i are.2 are.4 in
-      let last : j ≡ are.2 = (none_derive rules kinds are.2 j).0 (ts, subst (λ (x : List Symbol). AreParseTrees rules kinds ts x are.2 j) rest are.5) in
-      elim (lesser_cases nat_lt (tree_end t) j (ends_of ts) [] before) [
-        | inl below ↦ omega (arith, ltb-true (tree_end t) j below, end, last)
-        | inr same ↦ before_none are.1 are.2 j ts are.5 same.1
-      ]
+  before_one s i j =
+      none_before_cut nat_lt rules kinds s [] i j j []
+      (λ m less first others. omega (arith, ltb-true m j less, (none_derive rules kinds m j).0 others))
+      (none_before_none nat_lt rules kinds [] j j)
 
   -- nor before a cut where no lesser one has both its parts
   before_two :
       (s other : Symbol) (i k j : ℕ)
       → ((m : ℕ) → m < k → Derives rules kinds s i m → Derives rules kinds other m j → ⊥)
       → NoEndsBefore lesser_from_left rules kinds (k ∷ j ∷ []) (s ∷ other ∷ []) i j
-  before_two s other i k j none no_trees are before = cc
-  before_two s other i k j none (trees t ts) are before =
-      let symbol : are.0 ≡ s = cc in
-      let rest : are.1 ≡ other ∷ [] = cc in
-      let end : tree_end t ≡ are.2 = ends_with_span rules kinds t are.0 i are.2 are.4 in
-      let first : Derives rules kinds s i are.2 =
-      (t, subst (λ (x : Symbol). IsParseTree rules kinds t x i are.2) symbol are.4) in
-      let behind : AreParseTrees rules kinds ts (other ∷ []) are.2 j =
-      subst (λ (x : List Symbol). AreParseTrees rules kinds ts x are.2 j) rest are.5 in
-      elim (lesser_cases nat_lt (tree_end t) k (ends_of ts) (j ∷ []) before) [
-        | inl below ↦ none are.2 (omega (arith, ltb-true (tree_end t) k below, end)) first (second are.2 ts behind)
-        | inr same ↦ before_one other are.2 j ts behind same.1
-      ]
-    where
-      second : (m : ℕ) (ts : Forest) → AreParseTrees rules kinds ts (other ∷ []) m j → Derives rules kinds other m j
-      second m ts are =
-          let x = (some_derive rules kinds other [] m j).0 (ts, are) in
-          subst (λ n. Derives rules kinds other m n) (sym ((none_derive rules kinds x.0 j).0 x.2)) x.1
+  before_two s other i k j none =
+      none_before_cut nat_lt rules kinds s (other ∷ []) i k j (j ∷ [])
+      (λ m less first others. none m (ltb-true m k less) first (one_part other m j others))
+      (before_one other k j)
 
   -- the parts of two items
   two_parts :
@@ -68,12 +51,6 @@ module _ (rules : List Rule) (kinds : List (Option ℕ)) where
       let x = (some_derive rules kinds s (other ∷ []) i j).0 d in
       let y = (some_derive rules kinds other [] x.0 j).0 x.2 in
       (x.0, x.1, subst (λ n. Derives rules kinds other x.0 n) (sym ((none_derive rules kinds y.0 j).0 y.2)) y.1)
-
-  -- one item is the whole
-  one_part : (s : Symbol) (i j : ℕ) → DerivesAll rules kinds (s ∷ []) i j → Derives rules kinds s i j
-  one_part s i j d =
-      let y = (some_derive rules kinds s [] i j).0 d in
-      subst (λ n. Derives rules kinds s i n) (sym ((none_derive rules kinds y.0 j).0 y.2)) y.1
 
 -- no right side of the sums is empty
 sums_are_full : AreFull sums
@@ -170,7 +147,7 @@ full_is_least (suc (suc r)) rule less is same d = omega (arith, less)
 
 empty_is_first : (i : ℕ) → IsFirstFromLeft pairs one_kind (empty_sibling i) (Category 1) i i
 empty_is_first i =
-    (_, refl, refl, (refl, refl), refl, refl, empty_is_least i, before_none pairs one_kind [] i i)
+    (_, refl, refl, (refl, refl), refl, refl, empty_is_least i, none_before_none nat_lt pairs one_kind [] i i)
 
 full_is_first : IsFirstFromLeft pairs one_kind full_sibling (Category 1) 0 1
 full_is_first = (
@@ -219,7 +196,7 @@ first_is_other = (
 
 -- the gap at a place is first, since no lesser rule is of its category
 gap_is_first : (i : ℕ) → IsFirstFromLeft ties one_kind (gap_tree i) (Category 1) i i
-gap_is_first i = (_, refl, refl, (refl, refl), refl, refl, least, before_none ties one_kind [] i i)
+gap_is_first i = (_, refl, refl, (refl, refl), refl, refl, least, none_before_none nat_lt ties one_kind [] i i)
   where
     least : NoLesserRule ties one_kind 2 1 i i
     least zero rule less is same d = cc
