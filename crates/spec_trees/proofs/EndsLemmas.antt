@@ -5,7 +5,7 @@ use Rattle.spec_grammar.specs.declared.rule.Rule.{Rule}
 use Rattle.spec_grammar.specs.Trees.{no_trees, trees}
 use Rattle.spec_grammar.specs.Derivation.{IsParseTree, AreParseTrees, Derives}
 use Rattle.spec_trees.specs.FirstTrees.{tree_end, ends_of, from_left, NoEndsBefore}
-use Rattle.spec_trees.specs.Laws.{NoLesserCut}
+use Rattle.spec_trees.specs.OrderLaws.{NoLesserCut}
 use Rattle.spec_trees.proofs.FirstTreeLemmas.{lesser_first, lesser_behind, lesser_cases, ends_with_span}
 
 module _ (is_lesser : ℕ → ℕ → Bool) (rules : List Rule) (kinds : List (Option ℕ)) where

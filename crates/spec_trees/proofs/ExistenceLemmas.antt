@@ -16,7 +16,7 @@ use Rattle.spec_grammar.specs.CycleLaws.{StepsLeadBelow}
 use Rattle.spec_grammar.proofs.DerivationLemmas.{derives_within, derives_all_within, category_derives, none_derive, some_derive, tree_ordered, forest_ordered, tree_anywhere}
 use Rattle.spec_grammar.proofs.CycleLemmas.{step_lengthens, chain_is_short}
 use Rattle.spec_trees.specs.FirstTrees.{tree_end, ends_of, from_left, NoLesserRule, NoEndsBefore, IsFirstTree, AreFirstTrees}
-use Rattle.spec_trees.specs.Laws.{IsStrictOrder}
+use Rattle.spec_trees.specs.OrderLaws.{IsStrictOrder}
 use Rattle.spec_trees.proofs.EndsLemmas.{none_before_none, none_before_cut}
 use Rattle.spec_trees.proofs.ToldLemmas.{IsToldOf, told_both, told_below, least, least_below, below_or_not}
 use Rattle.spec_trees.proofs.FirstTreeLemmas.{below_same_above, ends_with_span, first_is_parse_tree}

@@ -8,7 +8,7 @@ use Rattle.spec_grammar.specs.declared.rule.Rule.{Rule}
 use Rattle.spec_grammar.specs.Trees.{Tree, leaf, node, Forest, no_trees, trees}
 use Rattle.spec_grammar.specs.Derivation.{IsParseTree, AreParseTrees}
 use Rattle.spec_trees.specs.FirstTrees.{tree_end, ends_of, EndsOrder, from_left, NoLesserRule, NoEndsBefore, IsFirstTree, AreFirstTrees}
-use Rattle.spec_trees.specs.Laws.{IsStrictOrder, TellsApart}
+use Rattle.spec_trees.specs.OrderLaws.{IsStrictOrder, TellsApart}
 
 -- a number is below another, or the same, or above it
 pub below_same_above : (m n : ℕ) → (m < n) ⊎ ((m ≡ n) ⊎ (n < m))

@@ -8,7 +8,7 @@ use Rattle.spec_grammar.specs.Derivation.{IsParseTree, AreParseTrees}
 use Rattle.spec_grammar.specs.Cycles.{IsAcyclic}
 use Rattle.spec_trees.specs.FirstTrees.{tree_end, ends_of, EndsOrder, from_left, IsFirstTree, AreFirstTrees}
 use Rattle.spec_trees.specs.TreeOrders.{ComesBefore, HasFirstBefore}
-use Rattle.spec_trees.specs.Laws.{IsStrictOrder, TellsApart}
+use Rattle.spec_trees.specs.OrderLaws.{IsStrictOrder, TellsApart}
 use Rattle.spec_trees.proofs.FirstTreeLemmas.{below_same_above, ends_with_span, ends_length, first_is_parse_tree, left_tells_apart}
 use Rattle.spec_trees.proofs.TellingLemmas.{derived_or_not}
 use Rattle.spec_trees.proofs.ExistenceLemmas.{HasFirstTree, derived_has_first}

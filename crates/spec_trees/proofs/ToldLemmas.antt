@@ -1,7 +1,7 @@
 -- Facts of which it can be told whether they are so, and the least number of which one is so.
 use Rattle.std.proofs.Common.{◌≡◌, ℕ, zero, suc, ◌<◌, ◌≤◌, ◌⊎◌, inl, inr, sym, subst, arith, Bool}
 use Rattle.std.specs.Prelude.{IsTrue}
-use Rattle.spec_trees.specs.Laws.{IsStrictOrder}
+use Rattle.spec_trees.specs.OrderLaws.{IsStrictOrder}
 use Rattle.spec_trees.proofs.FirstTreeLemmas.{below_same_above}
 
 -- the fact is so, or it is not

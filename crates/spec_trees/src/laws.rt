@@ -1,10 +1,10 @@
 //! Laws of first trees. Each body is empty: the contract is the law, and calling the function
 //! cites it.
 ghost use Rattle.spec_trees.specs.Laws.{DerivedOrNot, DerivedSpansHaveFirstTrees};
-ghost use Rattle.spec_trees.specs.Laws.{EndsAreLeastInTurn, FirstTreesAreLeast};
-ghost use Rattle.spec_trees.specs.Laws.{FirstTreesAreParseTrees, LeastTreesAreFirst};
-ghost use Rattle.spec_trees.specs.Laws.{LeftTellsApart, NoEndsBeforeNone, NumbersAreOrdered};
-ghost use Rattle.spec_trees.specs.Laws.{OneFirstTree};
+ghost use Rattle.spec_trees.specs.Laws.{FirstTreesAreLeast, FirstTreesAreParseTrees};
+ghost use Rattle.spec_trees.specs.Laws.{LeastTreesAreFirst, OneFirstTree};
+ghost use Rattle.spec_trees.specs.OrderLaws.{EndsAreLeastInTurn, LeftTellsApart, NoEndsBeforeNone};
+ghost use Rattle.spec_trees.specs.OrderLaws.{NumbersAreOrdered};
 
 /// A first tree is a parse tree, whatever the order of ends is.
 pub fn a_first_tree_is_a_parse_tree()
