@@ -1,0 +1,5 @@
+pub mod FirstTrees
+pub mod TreeOrders
+pub mod TreeText
+pub mod OrderLaws
+pub mod Laws

@@ -1,0 +1,2 @@
+pub mod TextCases
+pub mod FirstTreeCases

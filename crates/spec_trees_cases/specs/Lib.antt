@@ -1,0 +1,4 @@
+pub mod Examples
+pub mod ListExamples
+pub mod FirstTreeCases
+pub mod TextCases
