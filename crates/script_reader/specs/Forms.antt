@@ -6,7 +6,8 @@ use Rattle.std.specs.Borrow.{Bor}
 use Rattle.spec_script.specs.declared.question.Constituent.{Constituent as NamedBy}
 use Rattle.spec_script.specs.declared.question.Constituent.TheVariants.{EntryWhole, CategoryWhole}
 use Rattle.spec_script.specs.declared.question.Constituent.TheVariants.{CategorySpan}
-use Rattle.spec_script.specs.Script.{Constituent, constituent_text, IsNameable, Query, has, query_line}
+use Rattle.spec_script.specs.Script.{Constituent, constituent_text, IsNameable, Query, has}
+use Rattle.spec_script.specs.Script.{query_line}
 use Rattle.script_reader.specs.declared.command.Query.{Query as Asked}
 use Rattle.script_reader.specs.declared.command.Query.TheVariants.{Has}
 use Rattle.script_reader.specs.declared.command.Command.{Command}

@@ -5,6 +5,7 @@ use Rattle.std.specs.Prelude.{Bool, true, false, Option, Some}
 use Rattle.cyk_io.specs.declared.fault.IoFault.{IoFault}
 use Rattle.cyk_io.specs.declared.fault.IoFault.TheVariants.{Read, Write, Memory}
 use Rattle.cyk_io.specs.Streams.{Takes}
+use Rattle.spec_text.specs.declared.limits.TheConstants.{MAX_FILE}
 use Rattle.spec_script.specs.Script.{opens, ask, Part, grammar, of_command, text_of}
 use Rattle.spec_script.specs.Script.{IsWithinLimits, Script, with_grammar, question_form}
 use Rattle.spec_script.specs.Script.{IsComplete, GoesOn, HasEndLine}
@@ -23,10 +24,11 @@ pub record TakesPart (from to : ℕ) (old new : Option (List ℕ)) (part : Part)
   pub taken : Takes old new (text_of part)
   pub offset : to ≡ from + length (text_of part)
 
--- what is known of a block: its bytes, where they are at most 65,536, or else how many they are
+-- what is known of a block: its bytes, where it is no longer than a grammar file may be, or else
+-- how many they are
 abbrev pub IsBlock : Block → List ℕ → Type 0
-IsBlock (Kept bytes) block = (bytes.items ≡ block) × (length block ≤ 65536)
-IsBlock (TooLong count) block = (count ≡ length block) × (65536 < count)
+IsBlock (Kept bytes) block = (bytes.items ≡ block) × (length block ≤ MAX_FILE)
+IsBlock (TooLong count) block = (count ≡ length block) × (MAX_FILE < count)
 
 -- a grammar was taken, of whose block this is known
 abbrev pub TakesGrammar : ℕ → ℕ → Option (List ℕ) → Option (List ℕ) → Block → Type 0

@@ -6,6 +6,8 @@ mod command;
 mod forms;
 mod reading;
 mod stop;
+#[cfg(test)]
+mod tests;
 
 pub use command::{Block, Command, Query};
 pub use reading::{read_command, read_grammar, read_header};

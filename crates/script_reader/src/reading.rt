@@ -1,10 +1,12 @@
 //! Reading a script from a source, one part at a time: its line, and the block that the line tells.
 ghost use Rattle.std.specs.Prelude.{◌≡◌, ◌+◌, ◌^◌, ◌<◌, ◌≤◌, ◌++◌, ◌∷◌, ◌↔◌, [], ℕ, List};
-ghost use Rattle.std.specs.Prelude.{IsTrue, IfOk, IfErr, OnOk, IsErrOf, MatchOption, true, false, codes};
+ghost use Rattle.std.specs.Prelude.{IsTrue, IfOk, IfErr, OnOk, IsErrOf, MatchOption, true, false};
+ghost use Rattle.std.specs.Prelude.{codes};
 ghost use Rattle.cyk_io.specs.Causes.{HasCause};
 ghost use Rattle.cyk_io.specs.Streams.{IsAtEnd, coming};
 ghost use Rattle.cyk_io.specs.declared.fault.IoFault.TheVariants.{Read};
-ghost use Rattle.spec_script.specs.Script.{Script, nothing, header_alone, header, opens, of_command};
+ghost use Rattle.spec_script.specs.Script.{Script, nothing, header_alone, header, of_command};
+ghost use Rattle.spec_script.specs.Script.{opens};
 ghost use Rattle.script_reader.specs.declared.stop.Stop.TheVariants.{Fault};
 ghost use Rattle.script_reader.specs.Reading.{TakesPart, TakesGrammar, TakesCommand, Stops};
 ghost use Rattle.script_reader.specs.Reading.{StopsBehind, TellsOpen};

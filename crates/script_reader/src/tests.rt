@@ -1,0 +1,54 @@
+//! Parts are read where there is memory, and a break has the offset of its part.
+
+use crate::{Block, Command, Query, Stop, read_command, read_grammar, read_header};
+use cyk_io::{Ahead, CleanSource, Line};
+use spec_script::Constituent;
+use spec_text::MAX_LINE;
+use std::alloc::Global;
+use std::test::Fail;
+
+const GRAMMAR: &[u8] = b"script 1\ngrammar 3\nabc\n";
+
+/// Reads a script through its line `end`, or to where it stops.
+fn read_all(alloc: Global, source: &mut CleanSource) -> Result<(), Stop> {
+    let mut ahead = Ahead::new();
+    let mut line: Line<MAX_LINE> = Line::new();
+    read_header(source, &mut ahead, &mut line)?;
+    read_grammar(alloc, source, &mut ahead, &mut line)?;
+    let mut is_open = false;
+    loop {
+        match read_command(alloc, source, &mut ahead, &mut line, is_open)? {
+            Command::Open(_) => is_open = true,
+            Command::Ask(_) => {}
+            Command::End => return Ok(()),
+        }
+    }
+}
+
+#[test]
+fn a_break_has_the_offset_of_its_part(rt: HostRuntime) -> Result<(), Fail> {
+    let cases = [
+        (b"open 2\nab\nhas\nhas E 0 2\nend\n".as_slice(), Ok(())),
+        (b"open 2\nab\n".as_slice(), Err(Stop::Breaks(33))),
+        (b"has\n".as_slice(), Err(Stop::Breaks(23))),
+        (b"end\n".as_slice(), Err(Stop::Breaks(23))),
+        (b"open 02\nab\n".as_slice(), Err(Stop::Breaks(23))),
+        (b"open 2\nabc\n".as_slice(), Err(Stop::Breaks(23))),
+        (b"open 2\na\xff\n".as_slice(), Err(Stop::Breaks(23))),
+        (
+            b"open 2\nab\nopen 2\nab\n".as_slice(),
+            Err(Stop::Breaks(33)),
+        ),
+        (b"open 2\nab\nhas E 0\n".as_slice(), Err(Stop::Breaks(33))),
+        (b"open 2\nab\nhas E\nend".as_slice(), Err(Stop::Breaks(39))),
+    ];
+    for (commands, wanted) in cases {
+        let mut script = Vec::from_slice(rt.alloc(), GRAMMAR)?;
+        script.extend_from_slice(commands)?;
+        let mut source = CleanSource::new(script);
+        let answer = read_all(rt.alloc(), &mut source);
+        let commands = str::from_utf8(commands).unwrap_or("no text");
+        assert_eq!(rt; answer, wanted, "{commands}");
+    }
+    Ok(())
+}
