@@ -1,5 +1,5 @@
 -- Accepting a grammar or refusing it.
-use Rattle.std.proofs.Common.{◌≡◌, ℕ, ◌⊎◌, inl, inr, List, length, Option, Some, Ok, Err, ◌<◌, map, refl}
+use Rattle.std.proofs.Common.{◌≡◌, ℕ, ◌⊎◌, inl, inr, List, length, Some, Ok, Err, ◌<◌, map, refl}
 use Rattle.std.proofs.Common.{◌≤◌, arith, sym, ◌∙◌, ap, subst}
 use Rattle.std.proofs.lemmas.Bool.{cases_lt}
 use Rattle.std.proofs.lemmas.Option.{same_Some, none-some}

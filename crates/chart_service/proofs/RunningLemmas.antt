@@ -1,6 +1,6 @@
 -- How a session begins, goes on and ends: what was told so far is the replies to the script so far.
-use Rattle.std.proofs.Common.{◌≡◌, ℕ, ◌+◌, ◌<◌, ◌≤◌, ◌^◌, List, [], ◌∷◌, ◌++◌, length, codes, Bool, true, false}
-use Rattle.std.proofs.Common.{Option, Some, Result, IfOk, String, string_bytes, IsTrue, is_some, refl, sym, ◌∙◌, ap, subst}
+use Rattle.std.proofs.Common.{◌≡◌, ℕ, ◌+◌, List, [], ◌∷◌, ◌++◌, length, codes, Bool, true, false}
+use Rattle.std.proofs.Common.{Option, Some, Result, IfOk, String, string_bytes, IsTrue, refl, sym, ◌∙◌, ap, subst}
 use Rattle.std.proofs.Common.{append_assoc, append-nil, arith}
 use Rattle.std.specs.declared.alloc.Global.{Global}
 use Rattle.std.specs.declared.alloc.AllocError.{AllocError}
@@ -8,15 +8,15 @@ use Rattle.cyk_io.specs.Streams.{GrowsByPrefix}
 use Rattle.cyk_io.specs.declared.fault.IoFault.TheVariants.{Read, Write, Memory}
 use Rattle.spec_grammar.specs.Grammars.{Grammar}
 use Rattle.spec_script.specs.Script.{Command, opens, ask, Part, header, grammar, of_command, Script}
-use Rattle.spec_script.specs.Script.{nothing, header_alone, with_grammar, as_parts, parts_of, text_of}
+use Rattle.spec_script.specs.Script.{nothing, header_alone, with_grammar, parts_of, text_of}
 use Rattle.spec_script.specs.Script.{question_form, AreQuestions, AreInOrder, AreComplete, IsInOrder}
-use Rattle.spec_script.specs.Script.{IsComplete, BeginsWithParts, BeginsWithScript, HasEndLine}
-use Rattle.spec_script.specs.Script.{Ending, ended, broken, EndsAs, IsScript}
+use Rattle.spec_script.specs.Script.{BeginsWithParts, BeginsWithScript, HasEndLine}
+use Rattle.spec_script.specs.Script.{ended, broken, IsScript}
 use Rattle.spec_script.proofs.BeginningLemmas.{begins_more, parts_more}
 use Rattle.spec_session.specs.GrammarReplies.{IsAccepted, IsRefused, grammar_reply}
-use Rattle.spec_session.specs.Steps.{State, no_texts, Step, IsStep}
+use Rattle.spec_session.specs.Steps.{State, no_texts, Step}
 use Rattle.spec_session.specs.Runs.{IsRun, commands_of, replies_of, state_after}
-use Rattle.spec_session.specs.Sessions.{serve_mode, AreAllReplies, IsSession, refused, whole, last_line}
+use Rattle.spec_session.specs.Sessions.{serve_mode, AreAllReplies, refused, whole}
 use Rattle.spec_session.proofs.SessionsLemmas.{replies_come_first}
 use Rattle.spec_session.proofs.FrontLemmas.{questions_more}
 use Rattle.script_reader.specs.declared.command.Command.{Command as ReadCommand}
@@ -32,9 +32,9 @@ use Rattle.chart_service.specs.Serving.{IsPrefixOfSession}
 use Rattle.chart_service.specs.Replies.{bytes_of, Passes, Says}
 use Rattle.chart_service.specs.Languages.{IsFaultOf, IsRefusal}
 use Rattle.chart_service.specs.Sessions.{IsIn, is_open, CanReply, IsCommand, RepliesTo}
-use Rattle.chart_service.specs.Progress.{IsTold, Running, IsCutShort, LacksLast, HasEnded, EndsEarly}
+use Rattle.chart_service.specs.Progress.{IsTold, Running, IsCutShort, HasEnded, EndsEarly}
 use Rattle.chart_service.specs.Progress.{HasAccepted}
-use Rattle.chart_service.proofs.ToldLemmas.{told_on, whole_is_prefix, written_is_prefix, cut_is_prefix}
+use Rattle.chart_service.proofs.ToldLemmas.{told_on, written_is_prefix, cut_is_prefix}
 use Rattle.chart_service.proofs.ToldLemmas.{line_is_prefix}
 use Rattle.chart_service.proofs.LanguageLemmas.{refusal_is}
 use Rattle.chart_service.proofs.RunLemmas.{run_more, commands_more, lines_more, after_more}

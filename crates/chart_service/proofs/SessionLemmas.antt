@@ -1,5 +1,5 @@
 -- The reply of a session to a text and to a question, and the state that it is in then.
-use Rattle.std.proofs.Common.{◌≡◌, ℕ, ◌+◌, List, [], ◌∷◌, ◌++◌, length, Option, Some, IsTrue, is_some, MatchOption}
+use Rattle.std.proofs.Common.{◌≡◌, ℕ, ◌+◌, List, [], ◌∷◌, length, Option, Some, IsTrue, is_some, MatchOption}
 use Rattle.std.proofs.Common.{Result, Ok, Err, IfOk, String, string_bytes, refl, sym, ◌∙◌, ap, subst, arith, length-append}
 use Rattle.std.specs.declared.alloc.Global.{Global}
 use Rattle.spec_grammar.specs.Grammars.{Grammar}
@@ -8,7 +8,7 @@ use Rattle.spec_lexing.specs.Tokens.{AreTokensOf}
 use Rattle.spec_script.specs.Script.{Command, Query, opens, ask}
 use Rattle.spec_session.specs.Answers.{IsAnswer}
 use Rattle.spec_session.specs.Steps.{State, with_text, IsCurrent, IsReply, version_reply}
-use Rattle.chart_service.specs.Sessions.{IsOpened, IsVersionOf, KeepsCurrent, IsIn, is_open, RepliesTo}
+use Rattle.chart_service.specs.Sessions.{IsOpened, IsVersionOf, IsIn, is_open, RepliesTo}
 use Rattle.chart_service.specs.declared.session.Session.{Session}
 use Rattle.chart_service.specs.declared.session.Version.{Version}
 

@@ -1,6 +1,6 @@
 -- Serves the proofs alone: what a session keeps, in the state that its commands left, and what its
 -- reply to the next one is.
-use Rattle.std.specs.Prelude.{◌≡◌, ℕ, ◌+◌, ◌<◌, ◌≤◌, ◌^◌, List, length, Bool, IsTrue, is_some}
+use Rattle.std.specs.Prelude.{◌≡◌, ℕ, ◌≤◌, List, length, Bool, IsTrue, is_some}
 use Rattle.std.specs.Prelude.{MatchOption, IsAscii}
 use Rattle.spec_lexing.specs.declared.token.Token.{Token}
 use Rattle.spec_lexing.specs.Tokens.{AreTokensOf, kinds_of}

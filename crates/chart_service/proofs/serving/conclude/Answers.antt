@@ -1,5 +1,5 @@
 -- The last line ends the session, or a fault has.
-use Rattle.std.proofs.Common.{ℕ, ◌≡◌, List, Option, inr, refl, sym, subst}
+use Rattle.std.proofs.Common.{◌≡◌, inr, refl, sym, subst}
 use Rattle.spec_script.specs.Script.{ended, broken}
 use Rattle.spec_session.specs.Sessions.{last_line}
 use Rattle.chart_service.specs.declared.status.Status.TheVariants.{Ended, BadGrammar, BadScript}

@@ -1,5 +1,5 @@
 -- One command of a session: a reply is said, the session ends, or it stops here.
-use Rattle.std.proofs.Common.{◌≡◌, ℕ, List, Option, true, refl, subst}
+use Rattle.std.proofs.Common.{ℕ, List, Option, subst}
 use Rattle.cyk_io.specs.Streams.{coming}
 use Rattle.spec_script.specs.Script.{with_grammar}
 use Rattle.spec_session.specs.Runs.{commands_of, state_after}
