@@ -19,7 +19,7 @@ use Rattle.spec_lbnf.specs.Expansion.{word_items, list_of, terminator_rules, sep
 use Rattle.spec_grammar.specs.Grammars.{item_count}
 use Rattle.spec_lbnf.specs.Checks.{HasFewRules}
 use Rattle.lbnf_grammar.specs.Numbering.{AreFew}
-use Rattle.lbnf_grammar.proofs.DistinctLemmas.{names_distinct, with_names_length}
+use Rattle.lbnf_grammar.proofs.DistinctLemmas.{names_distinct, with_new_names_length}
 
 -- a definition has a size of one or more
 some_size : (def : Def) → 0 < def_size def
@@ -254,7 +254,7 @@ few_items categories words (rule ∷ rules) =
 
 -- the list without repetitions is no longer than the list
 few_distinct : (names : List (List ℕ)) → length (distinct names) ≤ length names
-few_distinct names = rw (← names_distinct names) (omega (arith, with_names_length [] names))
+few_distinct names = rw (← names_distinct names) (omega (arith, with_new_names_length [] names))
 
 -- those of definitions of the size that is read, which give few rules, can be numbered
 pub are_few : (defs : List Def) → size_of defs ≤ 32768 → HasFewRules defs → AreFew defs
