@@ -1,0 +1,5 @@
+pub mod Automata
+pub mod Patterns
+pub mod Steps
+pub mod Sets
+pub mod States
