@@ -9,3 +9,4 @@ pub mod PigeonLemmas
 pub mod StateLemmas
 pub mod CountingLemmas
 pub mod WalkLemmas
+pub mod PlaceLemmas

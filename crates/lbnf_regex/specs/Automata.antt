@@ -1,7 +1,8 @@
 -- What a caller sees of an automaton: for each state and each byte the state that follows, if there
 -- is one. The start is state 0.
-use Rattle.std.specs.Prelude.{◌≡◌, ◌≢◌, ℕ, ◌↔◌, List, [], ◌∷◌, Option, Some, None, slice_index_or}
-use Rattle.spec_automata.specs.ByteExpressions.{ByteExpression}
+use Rattle.std.specs.Prelude.{◌≡◌, ◌≢◌, ℕ, ◌<◌, ◌↔◌, List, [], ◌∷◌, Option, Some, None}
+use Rattle.std.specs.Prelude.{MatchOption, slice_get, slice_index_or}
+use Rattle.spec_automata.specs.ByteExpressions.{ByteExpression, MatchesBytes}
 use Rattle.spec_automata.specs.Positions.{HasPosition}
 use Rattle.spec_automata.specs.States.{AreBytes}
 
@@ -20,3 +21,22 @@ abbrev pub IsExact : ByteExpression → List (List (Option ℕ)) → Type 0
 IsExact x rows =
     (bytes : List ℕ) → bytes ≢ [] → AreBytes bytes →
     (walk rows (Some 0) bytes ≡ None) ↔ (HasPosition x bytes → ⊥)
+
+-- the expression at this place of the list matches the bytes
+abbrev pub MatchesInPlace : List ByteExpression → List ℕ → ℕ → Type 0
+MatchesInPlace xs bytes place =
+    (x : ByteExpression) × (slice_get xs place ≡ Some x) × MatchesBytes x bytes
+
+-- the least place whose expression matches the bytes, and None where none does
+abbrev pub IsLeastMatching : List ByteExpression → List ℕ → Option ℕ → Type 0
+IsLeastMatching xs bytes place =
+    MatchOption place ((other : ℕ) → MatchesInPlace xs bytes other → ⊥)
+    (λ least. MatchesInPlace xs bytes least
+    × ((other : ℕ) → other < least → MatchesInPlace xs bytes other → ⊥))
+
+-- where the bytes lead from the start to a state, the state's place is the least that matches them
+abbrev pub AreAccepted : List ByteExpression → List (List (Option ℕ)) → List (Option ℕ) → Type 0
+AreAccepted xs rows places =
+    (bytes : List ℕ) (state : ℕ) → bytes ≢ [] → AreBytes bytes →
+    walk rows (Some 0) bytes ≡ Some state →
+    IsLeastMatching xs bytes (slice_index_or places state None)

@@ -1,9 +1,11 @@
 -- Serves the proofs alone. States as sets of positions, and the rows of an automaton.
 use Rattle.std.specs.Prelude.{◌≡◌, ◌≢◌, ℕ, ◌<◌, ◌≤◌, ◌⊎◌, List, [], ◌∷◌, ◌++◌, length, Option, Some, None}
-use Rattle.std.specs.Prelude.{slice_index_or}
+use Rattle.std.specs.Prelude.{◌+◌, zero, suc, Contains, MatchOption, slice_index_or}
 use Rattle.spec_automata.specs.ByteExpressions.{ByteExpression}
+use Rattle.spec_automata.specs.Positions.{position_count}
 use Rattle.spec_automata.specs.States.{AreBytes}
 use Rattle.lbnf_regex.specs.declared.next_byte.NextByte.{NextByte}
+use Rattle.lbnf_regex.specs.Steps.{HasLast}
 use Rattle.lbnf_regex.specs.Sets.{IsSetOf, IsSetThat, IsNext, LeadsFrom}
 
 -- the state is the set of some text that is not empty, and has positions
@@ -82,3 +84,24 @@ GetsEntry expected byte old new (Some number) =
 abbrev pub HasNoRoomFrom : List NextByte → ℕ → List (List ℕ) → ℕ → Type 0
 HasNoRoomFrom expected byte states most =
     (set : List ℕ) × IsSetThat (LeadsFrom expected byte) set × (set ≢ []) × HasNoRoom states set most
+
+-- a match of the expression at this place of the list can end at a marked position
+abbrev pub EndsInPlace : List ByteExpression → ℕ → (ℕ → Type 0) → ℕ → Type 0
+EndsInPlace [] first Marked place = ⊥
+EndsInPlace (x ∷ xs) first Marked zero = HasLast x first Marked
+EndsInPlace (x ∷ xs) first Marked (suc place) =
+    EndsInPlace xs (first + position_count x) Marked place
+
+-- the least place where a match can end at a marked position, and None where none can
+abbrev pub IsLeastEnding : List ByteExpression → (ℕ → Type 0) → Option ℕ → Type 0
+IsLeastEnding xs Marked place =
+    MatchOption place ((other : ℕ) → EndsInPlace xs 0 Marked other → ⊥)
+    (λ least. EndsInPlace xs 0 Marked least
+    × ((other : ℕ) → other < least → EndsInPlace xs 0 Marked other → ⊥))
+
+-- the places of the states, so many
+pub record ArePlaces (xs : List ByteExpression) (states : List (List ℕ)) (places : List (Option ℕ))
+    : Type 0 where
+  pub size : length places ≡ length states
+  pub least : (i : ℕ) → i < length states
+      → IsLeastEnding xs (Contains (state_at states i)) (slice_index_or places i None)

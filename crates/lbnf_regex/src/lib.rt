@@ -1,6 +1,7 @@
 //! An automaton that recognises all kinds of a lexer at once.
 #![tactic(auto)]
 
+mod accepting;
 mod comment;
 mod expecting;
 mod lex_fault;
@@ -11,4 +12,4 @@ mod states;
 
 pub use lex_fault::LexFault;
 pub use pattern::Pattern;
-pub use states::rows;
+pub use states::{Table, make_table};

@@ -2,7 +2,6 @@
 ghost use Rattle.std.specs.Prelude.{◌≡◌, ◌+◌, ◌<◌, ◌≤◌, ◌^◌, Err, length, IfOk, IfSome, IfNone};
 ghost use Rattle.spec_automata.specs.Positions.{position_count};
 ghost use Rattle.spec_automata.specs.States.{HasManySets};
-ghost use Rattle.lbnf_regex.specs.Automata.{IsExact};
 ghost use Rattle.lbnf_regex.specs.Patterns.{bytes_of_pattern};
 ghost use Rattle.lbnf_regex.specs.Sets.{AreSmall};
 ghost use Rattle.lbnf_regex.specs.States.{AreStates, GetsEntry, GetsNumber, Grows, HasNoRoom};
@@ -105,18 +104,20 @@ fn row(
     Ok(row)
 }
 
-/// For each state and each byte the state that follows, if there is one. There are at most so many
-/// states, the start included.
-pub fn rows(
-    alloc: Global,
-    pattern: &Pattern,
-    most: usize,
-) -> Result<Items<Items<Option<u16>>>, LexFault>
+/// The states as sets of positions, and for each state and each byte the state that follows.
+#[derive(Debug, Drop)]
+pub struct Table {
+    pub states: Items<Items<u32>>,
+    pub rows: Items<Items<Option<u16>>>,
+}
+
+/// The states that texts lead to, at most so many with the start, and their rows.
+pub fn make_table(alloc: Global, pattern: &Pattern, most: usize) -> Result<Table, LexFault>
     requires size { position_count (bytes_of_pattern pattern.now) < 2 ^ 32 }
     requires some { 0 < most }
     requires room { most < 2 ^ 16 }
-    ensures exact { IfOk result (IsExact (bytes_of_pattern pattern.now)) }
-    ensures few { IfOk result (λ rows. HasManySets (bytes_of_pattern pattern.now) most → ⊥) }
+    ensures table { IfOk result (λ made.
+        IsTable (bytes_of_pattern pattern.now) most made.states made.rows) }
     ensures full { result ≡ Err TooManyStates
         → HasManySets (bytes_of_pattern pattern.now) most }
 {
@@ -127,5 +128,5 @@ pub fn rows(
         let row = row(alloc, pattern, &mut states, rows.len(), most)?;
         rows.push(row)?;
     }
-    Ok(rows)
+    Ok(Table { states, rows })
 }

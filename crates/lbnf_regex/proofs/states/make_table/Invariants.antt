@@ -1,7 +1,7 @@
 use Rattle.std.proofs.Common.{◌≤◌, ◌-◌, length}
 use Rattle.lbnf_regex.specs.Patterns.{bytes_of_pattern}
 use Rattle.lbnf_regex.specs.States.{AreStates, AreRows}
-use Rattle.lbnf_regex.proofs.states.rows.Given as goal
+use Rattle.lbnf_regex.proofs.states.make_table.Given as goal
 
 -- the rows of the states so far are right
 abbrev pub invariant-states : goal.invariant-states

@@ -4,9 +4,7 @@ use Rattle.std.proofs.lemmas.List.{length_push}
 use Rattle.lbnf_regex.specs.Patterns.{bytes_of_pattern}
 use Rattle.lbnf_regex.specs.States.{state_at, IsRow, AreRows}
 use Rattle.lbnf_regex.proofs.StateLemmas.{grows_len, grows_at, rows_grow, rows_push}
-use Rattle.lbnf_regex.proofs.CountingLemmas.{few_sets}
-use Rattle.lbnf_regex.proofs.WalkLemmas.{exact}
-use Rattle.lbnf_regex.proofs.states.rows.Goals as goal
+use Rattle.lbnf_regex.proofs.states.make_table.Goals as goal
 
 pub states-preserved : goal.states-preserved
 states-preserved c =
@@ -34,26 +32,13 @@ states-preserved c =
           (rows_grow old new g x n rows (omega (arith, lt)) c.states.invariant.rows_are) row));
     }
 
-pub returns-clause-few : goal.returns-clause-few
-returns-clause-few c =
+pub returns-clause-table : goal.returns-clause-table
+returns-clause-table c =
     let x = bytes_of_pattern c.args.pattern.now in
     let same : length c.states.rows ≡ length c.states.states =
     omega (arith, c.states-test.false, c.len.ensures, c.len-in-states.ensures, c.states.invariant.within) in
-    few_sets x c.args.most c.states.states c.states.rows
-    (record {
+    record {
       are_states = c.states.invariant.are;
       are_rows = subst (λ (n : ℕ). AreRows x c.states.states n c.states.rows) same c.states.invariant.rows_are;
       few = c.states.invariant.few;
-    })
-
-pub returns-clause-exact : goal.returns-clause-exact
-returns-clause-exact c =
-    let x = bytes_of_pattern c.args.pattern.now in
-    let same : length c.states.rows ≡ length c.states.states =
-    omega (arith, c.states-test.false, c.len.ensures, c.len-in-states.ensures, c.states.invariant.within) in
-    exact x c.args.most c.states.states c.states.rows
-    (record {
-      are_states = c.states.invariant.are;
-      are_rows = subst (λ (n : ℕ). AreRows x c.states.states n c.states.rows) same c.states.invariant.rows_are;
-      few = c.states.invariant.few;
-    })
+    }
