@@ -10,3 +10,4 @@ pub mod StateLemmas
 pub mod CountingLemmas
 pub mod WalkLemmas
 pub mod PlaceLemmas
+pub mod ByteSetLemmas

@@ -2,7 +2,8 @@
 use Rattle.std.proofs.Common.{◌≡◌, ℕ, List, map, sym, ap, ◌∙◌}
 use Rattle.spec_automata.specs.ByteExpressions.{ByteExpression, byte_in, star, plus, until}
 use Rattle.spec_automata.specs.Encoding.{one_of_these}
-use Rattle.lbnf_regex.specs.Patterns.{all_in_turn, form_of, bytes_of_pattern}
+use Rattle.spec_automata.specs.Encoding.{these_in_turn}
+use Rattle.lbnf_regex.specs.Patterns.{form_of, bytes_of_pattern}
 use Rattle.lbnf_regex.specs.declared.pattern.Pattern.{Pattern, Pattern-F, fold-roll-Pattern}
 use Rattle.lbnf_regex.specs.declared.pattern.Pattern.TheVariants.{Bytes, Seq, Alt, Star, Plus, Until, rolls-Bytes, rolls-Seq, rolls-Alt, rolls-Star, rolls-Plus, rolls-Until}
 
@@ -10,7 +11,7 @@ pub pattern-Bytes : (set : List ℕ) → bytes_of_pattern (Bytes set) ≡ byte_i
 pattern-Bytes set =
     ap bytes_of_pattern (sym (rolls-Bytes set)) ∙ fold-roll-Pattern ByteExpression form_of (Pattern-F.Bytes set)
 
-pub pattern-Seq : (parts : List Pattern) → bytes_of_pattern (Seq parts) ≡ all_in_turn (map bytes_of_pattern parts)
+pub pattern-Seq : (parts : List Pattern) → bytes_of_pattern (Seq parts) ≡ these_in_turn (map bytes_of_pattern parts)
 pattern-Seq parts =
     ap bytes_of_pattern (sym (rolls-Seq parts)) ∙ fold-roll-Pattern ByteExpression form_of (Pattern-F.Seq parts)
 

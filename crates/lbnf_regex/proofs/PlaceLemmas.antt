@@ -1,19 +1,15 @@
 -- The kinds one behind the other, and which of them match a text.
-use Rattle.std.proofs.Common.{◌≡◌, ◌≢◌, ℕ, zero, suc, ◌+◌, ◌-◌, ◌<◌, ◌≤◌, ◌↔◌, ◌⊎◌, List, [], ◌∷◌, ◌++◌, length, map, drop, get_or, Option, Some, None, MatchOption, slice_get, slice_index_or, refl, sym, ◌∙◌, ap, inl, inr, arith, subst}
+use Rattle.std.proofs.Common.{◌≡◌, ◌≢◌, ℕ, zero, suc, ◌+◌, ◌<◌, ◌≤◌, ◌^◌, ◌↔◌, List, [], ◌∷◌, length, map, drop, get_or, Option, Some, None, MatchOption, slice_index_or, refl, sym, ◌∙◌, inl, inr, arith, subst}
 use Rattle.std.specs.List.{Contains}
-use Rattle.std.proofs.lemmas.Bool.{cases_lt}
-use Rattle.std.proofs.lemmas.List.{length_push, get_or_append_left, get_or_push}
 use Rattle.std.proofs.lemmas.Option.{same_Some}
-use Rattle.spec_automata.specs.ByteExpressions.{ByteExpression, either, MatchesBytes}
+use Rattle.spec_automata.specs.ByteExpressions.{ByteExpression, MatchesBytes}
 use Rattle.spec_automata.specs.Encoding.{one_of_these}
 use Rattle.spec_automata.specs.Positions.{position_count, EndsAt}
-use Rattle.spec_automata.specs.States.{AreBytes}
 use Rattle.lbnf_regex.specs.declared.pattern.Pattern.{Pattern}
-use Rattle.lbnf_regex.specs.Automata.{walk, MatchesInPlace, IsLeastMatching, AreAccepted}
+use Rattle.lbnf_regex.specs.Automata.{IsWhole, machine_of, MatchesInPlace, AreAccepted}
 use Rattle.lbnf_regex.specs.Patterns.{bytes_of_pattern}
-use Rattle.lbnf_regex.specs.Steps.{IsLast, HasLast}
-use Rattle.lbnf_regex.specs.Sets.{IsSetOf}
-use Rattle.lbnf_regex.specs.States.{EndsInPlace, IsLeastEnding, ArePlaces, IsTable, IsReached, state_at}
+use Rattle.lbnf_regex.specs.Steps.{HasLast}
+use Rattle.lbnf_regex.specs.States.{EndsInPlace, ArePlaces, IsTable, IsEntry, state_at}
 use Rattle.lbnf_regex.proofs.PositionLemmas.{ends_within, last_within, last_to, last_from}
 use Rattle.lbnf_regex.proofs.CountingLemmas.{StandsFor}
 use Rattle.lbnf_regex.proofs.WalkLemmas.{LeadsOnTo, leads_all}
@@ -113,20 +109,24 @@ are_accepted xs most states rows places table are bytes state some are_bytes lea
     (place_matches xs 0 (Contains (state_at states state)) bytes some (λ q low high. stands.1 q))
     (are.least state on.0)
 
--- the places of the states so far, and of one more
-pub places_push : (xs : List ByteExpression) (states : List (List ℕ)) (places : List (Option ℕ)) (i : ℕ)
-    (place : Option ℕ) → length places ≡ i →
-    ((k : ℕ) → k < i → IsLeastEnding xs (Contains (state_at states k)) (slice_index_or places k None)) →
-    IsLeastEnding xs (Contains (state_at states i)) place →
-    (k : ℕ) → k < i + 1 → IsLeastEnding xs (Contains (state_at states k)) (slice_index_or (places ++ place ∷ []) k None)
-places_push xs states places i place size least is k lt = elim (below_or_last k i lt) [
-  | inl below ↦
-      subst (IsLeastEnding xs (Contains (state_at states k)))
-      (sym (get_or_append_left places (place ∷ []) None k (omega (arith, below, size)))) (least k below)
-  | inr last ↦
-      subst (IsLeastEnding xs (Contains (state_at states k))) (sym (get_or_push places place None k (size ∙ sym last)))
-      (subst (λ (z : ℕ). IsLeastEnding xs (Contains (state_at states z)) place) (sym last) is)
-]
+-- a table with places is a whole automaton
+pub is_whole : (xs : List ByteExpression) (x : ByteExpression) (most : ℕ) (states : List (List ℕ))
+    (rows : List (List (Option ℕ))) (places : List (Option ℕ)) → most < 2 ^ 16 → IsTable x most states rows →
+    ArePlaces xs states places → IsWhole (machine_of rows places)
+is_whole xs x most states rows places room table are = (
+  omega (arith, table.are_states.some, table.are_rows.size),
+  omega (arith, table.few, table.are_rows.size, room),
+  are.size ∙ sym table.are_rows.size,
+  λ i lt. (table.are_rows.rows_are i (omega (arith, lt, table.are_rows.size))).size,
+  λ i b j lt lt_b e.
+      let row = table.are_rows.rows_are i (omega (arith, lt, table.are_rows.size)) in
+      let within = entry_within x states (state_at states i) b (slice_index_or (slice_index_or rows i []) b None) j
+      (row.entries b lt_b) e in
+      omega (arith, within, table.are_rows.size),
+)
   where
-    below_or_last : (k i : ℕ) → k < i + 1 → (k < i) ⊎ (k ≡ i)
-    below_or_last k i h = grind arith
+    entry_within : (x : ByteExpression) (states : List (List ℕ)) (s : List ℕ) (b : ℕ) (e : Option ℕ) (j : ℕ) →
+        IsEntry x states s b e → e ≡ Some j → j < length states
+    entry_within x states s b None j is e = cc
+    entry_within x states s b (Some k) j is e =
+        let same : k ≡ j = same_Some k j e in omega (arith, same, is.1)

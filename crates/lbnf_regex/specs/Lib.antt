@@ -3,3 +3,4 @@ pub mod Patterns
 pub mod Steps
 pub mod Sets
 pub mod States
+pub mod ByteSets

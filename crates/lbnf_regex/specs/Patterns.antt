@@ -1,22 +1,16 @@
 -- What a pattern stands for: an expression over bytes.
-use Rattle.std.specs.Prelude.{List, [], ◌∷◌}
-use Rattle.spec_automata.specs.ByteExpressions.{ByteExpression, empty, byte_in, in_turn, star, plus}
+use Rattle.spec_automata.specs.ByteExpressions.{ByteExpression, empty, byte_in, star, plus}
 use Rattle.spec_automata.specs.ByteExpressions.{until}
-use Rattle.spec_automata.specs.Encoding.{one_of_these}
+use Rattle.spec_automata.specs.Encoding.{one_of_these, these_in_turn}
 use Rattle.lbnf_regex.specs.declared.pattern.Pattern.{Pattern}
 use Rattle.lbnf_regex.specs.declared.pattern.Pattern.TheOpen.{Pattern-F}
 use Rattle.lbnf_regex.specs.declared.pattern.Pattern.TheFolds.{fold-Pattern}
-
--- all of these in turn
-abbrev pub all_in_turn : List ByteExpression → ByteExpression
-all_in_turn [] = empty
-all_in_turn (part ∷ parts) = in_turn part (all_in_turn parts)
 
 -- one form, with the expression of each part in its place
 abbrev pub form_of : Pattern-F ByteExpression → ByteExpression
 form_of Pattern-F.Empty = empty
 form_of (Pattern-F.Bytes set) = byte_in set
-form_of (Pattern-F.Seq parts) = all_in_turn parts
+form_of (Pattern-F.Seq parts) = these_in_turn parts
 form_of (Pattern-F.Alt parts) = one_of_these parts
 form_of (Pattern-F.Star part) = star part
 form_of (Pattern-F.Plus part) = plus part

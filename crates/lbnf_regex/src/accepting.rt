@@ -28,7 +28,7 @@ fn least_place(kinds: &[Pattern], marks: &[u32]) -> Option<usize>
 }
 
 /// For each state the place of the first kind that it accepts, if there is one.
-pub fn places(
+pub(crate) fn places(
     alloc: Global,
     kinds: &[Pattern],
     states: &[Items<u32>],

@@ -14,7 +14,7 @@ fn ends_with_front(closing: &[u8], size: usize, byte: u8, longer: usize) -> bool
 }
 
 /// How much of the closing text has been read behind so much of it and one byte more.
-pub fn border(closing: &[u8], size: usize, byte: u8) -> usize
+pub(crate) fn border(closing: &[u8], size: usize, byte: u8) -> usize
     requires { size < length closing.now }
     ensures { IsBorder closing.now (take size closing.now ++ byte ∷ []) result }
 {

@@ -14,7 +14,7 @@ use sqlite_items::Items;
 use std::alloc::{AllocError, Global};
 
 /// How many positions the pattern has. None where the number does not fit.
-pub fn size_if_fits(pattern: &Pattern) -> Option<u32>
+pub(crate) fn size_if_fits(pattern: &Pattern) -> Option<u32>
     ensures { IfSome result (λ size. size ≡ position_count (bytes_of_pattern pattern.now)) }
 {
     match pattern {
@@ -44,7 +44,7 @@ pub fn size_if_fits(pattern: &Pattern) -> Option<u32>
 }
 
 /// How many positions the pattern has.
-pub fn size(pattern: &Pattern) -> u32
+pub(crate) fn size(pattern: &Pattern) -> u32
     requires { position_count (bytes_of_pattern pattern.now) < 2 ^ 32 }
     ensures { result ≡ position_count (bytes_of_pattern pattern.now) }
 {
@@ -72,7 +72,7 @@ pub fn size(pattern: &Pattern) -> u32
 }
 
 /// Whether the pattern matches the empty text.
-pub fn is_nullable(pattern: &Pattern) -> bool
+pub(crate) fn is_nullable(pattern: &Pattern) -> bool
     ensures { result ≡ can_be_empty (bytes_of_pattern pattern.now) }
 {
     match pattern {
@@ -115,7 +115,7 @@ fn ends_behind(own: bool, before: bool, nullable: bool) -> bool
 
 /// Whether a match can end at a marked position. The pattern's positions are numbered from the first
 /// on.
-pub fn can_end(pattern: &Pattern, first: u32, marks: &[u32]) -> bool
+pub(crate) fn can_end(pattern: &Pattern, first: u32, marks: &[u32]) -> bool
     requires { first + position_count (bytes_of_pattern pattern.now) < 2 ^ 32 }
     ensures { IsTrue result ↔ HasLast (bytes_of_pattern pattern.now) first (Contains marks.now) }
 {
@@ -256,7 +256,7 @@ fn expect_closing(
 }
 
 /// Adds each way in which the pattern expects the next byte.
-pub fn expect(
+pub(crate) fn expect(
     alloc: Global,
     pattern: &Pattern,
     first: u32,

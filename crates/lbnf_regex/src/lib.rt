@@ -2,14 +2,18 @@
 #![tactic(auto)]
 
 mod accepting;
+mod build;
+mod byte_set;
 mod comment;
 mod expecting;
 mod lex_fault;
+mod machine;
 mod next_byte;
 mod next_set;
 mod pattern;
 mod states;
 
+pub use build::automaton_of;
 pub use lex_fault::LexFault;
+pub use machine::Automaton;
 pub use pattern::Pattern;
-pub use states::{Table, make_table};

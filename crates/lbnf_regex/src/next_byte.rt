@@ -3,7 +3,7 @@ use sqlite_items::Items;
 
 /// One way to read the next byte.
 #[derive(Debug, Drop)]
-pub enum NextByte {
+pub(crate) enum NextByte {
     /// As one of the set, which leads to its position.
     InSet {
         position: u32,

@@ -15,7 +15,7 @@ use sqlite_items::Items;
 use std::alloc::{AllocError, Global};
 
 /// Each way in which the pattern expects a byte in the state; the start is the empty set.
-pub fn expected(
+pub(crate) fn expected(
     alloc: Global,
     pattern: &Pattern,
     state: &[u32],
@@ -84,7 +84,11 @@ fn in_order(positions: Vec<u32>) -> Result<Vec<u32>, AllocError>
 }
 
 /// The positions that the byte leads to, read in one of these ways.
-pub fn next_set(alloc: Global, expected: &[NextByte], byte: u8) -> Result<Items<u32>, AllocError>
+pub(crate) fn next_set(
+    alloc: Global,
+    expected: &[NextByte],
+    byte: u8,
+) -> Result<Items<u32>, AllocError>
     requires { AreSmall expected.now }
     ensures { IfOk result (IsSetThat (LeadsFrom expected.now byte)) }
 {

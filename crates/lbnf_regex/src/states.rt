@@ -106,13 +106,13 @@ fn row(
 
 /// The states as sets of positions, and for each state and each byte the state that follows.
 #[derive(Debug, Drop)]
-pub struct Table {
+pub(crate) struct Table {
     pub states: Items<Items<u32>>,
     pub rows: Items<Items<Option<u16>>>,
 }
 
 /// The states that texts lead to, at most so many with the start, and their rows.
-pub fn make_table(alloc: Global, pattern: &Pattern, most: usize) -> Result<Table, LexFault>
+pub(crate) fn make_table(alloc: Global, pattern: &Pattern, most: usize) -> Result<Table, LexFault>
     requires size { position_count (bytes_of_pattern pattern.now) < 2 ^ 32 }
     requires some { 0 < most }
     requires room { most < 2 ^ 16 }

@@ -6,7 +6,7 @@ use Rattle.std.specs.Str.{IsUtf8, chars}
 use Rattle.std.specs.Char.{IsScalar, encode_utf8}
 use Rattle.std.proofs.lemmas.Bool.{both_ways, and_parts, and_from, and_right, leb-true, le-leb, lt-leb, not-true, not_from_false, cases_lt, cases_Bool}
 use Rattle.std.proofs.lemmas.Bool.Decides.{Decides-eqb, nat_tests}
-use Rattle.std.proofs.lemmas.List.{drop_at}
+use Rattle.std.proofs.lemmas.List.{append-nil, drop_at}
 use Rattle.std.proofs.lemmas.List.Elements.{All-nil, All-cons, All-head, All-tail, All-same, All-drop}
 use Rattle.std.proofs.lemmas.Map.Made.{is_member-Decides}
 use Rattle.std.proofs.lemmas.Str.{encode_ascii, IsUtf8-past_char, scalars-chars}
@@ -21,7 +21,7 @@ use Rattle.spec_lexing.specs.Expressions.{scalar as one_scalar}
 use Rattle.spec_lexing.specs.Kinds.{white, line_comment, block_comment, symbol, IsOnLine, EndsFirst, MatchesDef}
 use Rattle.spec_lexing.specs.Matching.{Repeats, none, more, Matches, is_of_class}
 use Rattle.spec_automata.specs.ByteExpressions.{ByteExpression, empty, nothing, byte_in, in_turn, either, star, plus, until, MatchesBytes}
-use Rattle.spec_automata.specs.Encoding.{is_ascii, bytes_that, one_of_these, literal, any_scalar, bytes_of_class, wide_scalars, bytes_of_scalars, has_character, without, bytes_of, bytes_of_def, IsAsciiClass, IsSound, IsSoundDef}
+use Rattle.spec_automata.specs.Encoding.{is_ascii, bytes_that, one_of_these, these_in_turn, literal, any_scalar, bytes_of_class, wide_scalars, bytes_of_scalars, has_character, without, bytes_of, bytes_of_def, IsAsciiClass, IsSound, IsSoundDef}
 use Rattle.spec_automata.specs.States.{AreBytes}
 use Rattle.spec_automata.specs.Laws.{BytesMatchTheSame, KindsMatchTheSame}
 use Rattle.spec_automata.proofs.ByteSetLemmas.{none_in, first_or_behind, has_first, has_behind, in_filter, in_bytes_that}
@@ -142,7 +142,7 @@ plain_class Digit = tt
 plain_class Letter = tt
 plain_class Upper = tt
 plain_class Lower = tt
-plain_class AnyChar = (tt, ((tt, tt), ((tt, (tt, tt)), ((tt, (tt, (tt, tt))), tt))))
+plain_class AnyChar = (tt, ((tt, (tt, tt)), ((tt, (tt, (tt, tt))), ((tt, (tt, (tt, (tt, tt)))), tt))))
 
 plain_without : (test : ℕ → Bool) (x : ByteExpression) → IsPlain x → IsPlain (without test x)
 plain_without test empty plain = tt
@@ -166,7 +166,7 @@ plain_bytes (Expression.either x y) = (plain_bytes x, plain_bytes y)
 plain_bytes (minus x y) = plain_without (has_character y) (bytes_of x) (plain_bytes x)
 plain_bytes (Expression.star x) = plain_bytes x
 plain_bytes (Expression.plus x) = plain_bytes x
-plain_bytes (optional x) = (tt, plain_bytes x)
+plain_bytes (optional x) = (tt, (plain_bytes x, tt))
 
 -- a scalar that an ASCII class does not match has bytes that are kept, and the other way round
 kept_scalar : (y : Expression) → IsAsciiClass y → (c : ℕ) → IsScalar c → (bytes : List ℕ) → bytes ≡ encode_utf8 c →
@@ -226,8 +226,9 @@ reads (Expression.plus x) sound bytes rest m text =
     m.1 rest m.4 a.0 in
     (b.0, (m.0, m.1, m.2, a.1, b.1))
 reads (optional x) sound bytes rest (inl m) text = (subst IsUtf8 (ap (λ (q : List ℕ). q ++ rest) m) text, inl m)
-reads (optional x) sound bytes rest (inr m) text =
+reads (optional x) sound bytes rest (inr (inl m)) text =
     let a = reads x sound bytes rest m text in (a.0, inr a.1)
+reads (optional x) sound bytes rest (inr (inr m)) text = absurd m
 
 -- what an expression matches, its bytes match
 pub spells : (x : Expression) → IsSound x → (bytes : List ℕ) → Matches x bytes → MatchesBytes (bytes_of x) bytes
@@ -256,7 +257,7 @@ spells (Expression.plus x) sound bytes m = (
   spells_repeats (Matches x) (MatchesBytes (bytes_of x)) (λ part h. spells x sound part h) m.1 m.4,
 )
 spells (optional x) sound bytes (inl m) = inl m
-spells (optional x) sound bytes (inr m) = inr (spells x sound bytes m)
+spells (optional x) sound bytes (inr m) = inr (inl (spells x sound bytes m))
 
 pub bytes_match : BytesMatchTheSame
 bytes_match x sound bytes rest text = (λ m. (reads x sound bytes rest m text).1, spells x sound bytes)
@@ -294,12 +295,22 @@ rest_are_bytes bytes front rest e are =
 -- an opening text, and a rest that is read and spelled
 opened : (opening : List ℕ) (x : ByteExpression) (Rest : List ℕ → Type 0) (bytes : List ℕ) →
     ((rest : List ℕ) → bytes ≡ opening ++ rest → MatchesBytes x rest ↔ Rest rest) →
-    MatchesBytes (in_turn (literal opening) x) bytes ↔ ((rest : List ℕ) × (bytes ≡ opening ++ rest) × Rest rest)
+    MatchesBytes (these_in_turn (literal opening ∷ x ∷ [])) bytes
+    ↔ ((rest : List ℕ) × (bytes ≡ opening ++ rest) × Rest rest)
 opened opening x Rest bytes each = (
   λ m.
-      let e : bytes ≡ opening ++ m.1 = m.2 ∙ ap (λ (q : List ℕ). q ++ m.1) (literal_reads opening m.0 m.3) in
-      (m.1, e, (each m.1 e).0 m.4),
-  λ h. (opening, h.0, h.1, literal_spells opening, (each h.0 h.1).1 h.2),
+      let k = m.4 in
+      let all : m.1 ≡ k.0 = k.2 ∙ ap (λ (q : List ℕ). k.0 ++ q) k.4 ∙ append-nil k.0 in
+      let e : bytes ≡ opening ++ k.0 =
+      m.2 ∙ ap (λ (q : List ℕ). q ++ m.1) (literal_reads opening m.0 m.3) ∙ ap (λ (q : List ℕ). opening ++ q) all in
+      (k.0, e, (each k.0 e).0 k.3),
+  λ h. (
+    opening,
+    h.0,
+    h.1,
+    literal_spells opening,
+    (h.0, [], sym (append-nil h.0), (each h.0 h.1).1 h.2, refl),
+  ),
 )
 
 white_is_byte : (byte : ℕ) → is_white byte ≡ true → byte < 256

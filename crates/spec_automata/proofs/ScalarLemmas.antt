@@ -7,7 +7,7 @@ use Rattle.std.specs.Str.{IsUtf8, continuation_len}
 use Rattle.std.specs.Char.{IsScalar, encode_utf8}
 use lib.Utf8.{scalar, scalars, encodes}
 use Rattle.spec_automata.specs.ByteExpressions.{MatchesBytes}
-use Rattle.spec_automata.specs.Encoding.{byte_between, next_byte, any_scalar, literal}
+use Rattle.spec_automata.specs.Encoding.{byte_between, next_byte, these_in_turn, any_scalar, literal}
 use Rattle.spec_automata.proofs.ByteSetLemmas.{none_in, first_or_behind, has_first, in_between}
 
 encode_two : (c : ℕ) → 0x80 ≤ c → c < 0x800 → encode_utf8 c ≡ (192 + c / 64) ∷ (128 + c % 64) ∷ []
@@ -91,32 +91,36 @@ any_scalar_says w (inl h) =
     (h.0, [], h.1, sym (len_one h.0 (omega (arith, ((in_between 0 127 h.0 (omega arith)).0 h.2).1))))
 any_scalar_says w (inr (inl h)) =
     let a = h.3 in
-    let r = (in_between 194 223 a.0 (omega arith)).0 a.2 in (
-      a.0,
-      h.1,
-      h.2 ∙ ap (λ (z : List ℕ). z ++ h.1) a.1,
-      one_long h.1 h.4 ∙ sym (len_two a.0 (omega (arith, r.0)) (omega (arith, r.1))),
-    )
-any_scalar_says w (inr (inr (inl h))) =
-    let a = h.3 in
-    let r = (in_between 224 239 a.0 (omega arith)).0 a.2 in
+    let r = (in_between 194 223 a.0 (omega arith)).0 a.2 in
     let k = h.4 in (
       a.0,
       h.1,
       h.2 ∙ ap (λ (z : List ℕ). z ++ h.1) a.1,
       omega
-          (arith, ap length k.2, length-append k.0 k.1, one_long k.0 k.3, one_long k.1 k.4, len_three a.0 (omega (arith, r.0)) (omega (arith, r.1))),
+          (arith, ap length k.2, length-append k.0 k.1, one_long k.0 k.3, ap length k.4, len_two a.0 (omega (arith, r.0)) (omega (arith, r.1))),
     )
-any_scalar_says w (inr (inr (inr (inl h)))) =
+any_scalar_says w (inr (inr (inl h))) =
     let a = h.3 in
-    let r = (in_between 240 244 a.0 (omega arith)).0 a.2 in
+    let r = (in_between 224 239 a.0 (omega arith)).0 a.2 in
     let k = h.4 in
     let l = k.4 in (
       a.0,
       h.1,
       h.2 ∙ ap (λ (z : List ℕ). z ++ h.1) a.1,
       omega
-          (arith, ap length k.2, length-append k.0 k.1, one_long k.0 k.3, ap length l.2, length-append l.0 l.1, one_long l.0 l.3, one_long l.1 l.4, len_four a.0 (omega (arith, r.0))),
+          (arith, ap length k.2, length-append k.0 k.1, one_long k.0 k.3, ap length l.2, length-append l.0 l.1, one_long l.0 l.3, ap length l.4, len_three a.0 (omega (arith, r.0)) (omega (arith, r.1))),
+    )
+any_scalar_says w (inr (inr (inr (inl h)))) =
+    let a = h.3 in
+    let r = (in_between 240 244 a.0 (omega arith)).0 a.2 in
+    let k = h.4 in
+    let l = k.4 in
+    let m = l.4 in (
+      a.0,
+      h.1,
+      h.2 ∙ ap (λ (z : List ℕ). z ++ h.1) a.1,
+      omega
+          (arith, ap length k.2, length-append k.0 k.1, one_long k.0 k.3, ap length l.2, length-append l.0 l.1, one_long l.0 l.3, ap length m.2, length-append m.0 m.1, one_long m.0 m.3, ap length m.4, len_four a.0 (omega (arith, r.0))),
     )
 any_scalar_says w (inr (inr (inr (inr h)))) = absurd h
 
@@ -125,6 +129,9 @@ between least greatest b small low high = (b, refl, (in_between least greatest b
 
 next : (q : ℕ) → q < 64 → MatchesBytes next_byte ((128 + q) ∷ [])
 next q lt = between 128 191 (128 + q) (omega arith) (omega arith) (omega (arith, lt))
+
+last_byte : (q : ℕ) → q < 64 → MatchesBytes (these_in_turn (next_byte ∷ [])) ((128 + q) ∷ [])
+last_byte q lt = ((128 + q) ∷ [], [], refl, next q lt, refl)
 
 -- each scalar is let through
 pub any_scalar_spells : (c : ℕ) → IsScalar c → MatchesBytes any_scalar (encode_utf8 c)
@@ -136,7 +143,7 @@ any_scalar_spells c is = elim (size_cases c (scalar_below c is)) [
       (128 + c % 64) ∷ [],
       encode_two c h.0 h.1,
       between 194 223 (192 + c / 64) (omega arith) (omega (arith, h.0)) (omega (arith, h.1)),
-      next (c % 64) (omega arith),
+      last_byte (c % 64) (omega arith),
     ))
     | inr r ↦ elim r [
       | inl h ↦ inr (inr (inl (
@@ -149,7 +156,7 @@ any_scalar_spells c is = elim (size_cases c (scalar_below c is)) [
           (128 + c % 64) ∷ [],
           refl,
           next ((c / 64) % 64) (omega arith),
-          next (c % 64) (omega arith),
+          last_byte (c % 64) (omega arith),
         ),
       )))
       | inr h ↦ inr (inr (inr (inl (
@@ -167,7 +174,7 @@ any_scalar_spells c is = elim (size_cases c (scalar_below c is)) [
             (128 + c % 64) ∷ [],
             refl,
             next ((c / 64) % 64) (omega arith),
-            next (c % 64) (omega arith),
+            last_byte (c % 64) (omega arith),
           ),
         ),
       ))))

@@ -37,10 +37,14 @@ abbrev pub one_of_these : List ByteExpression → ByteExpression
 one_of_these [] = nothing
 one_of_these (part ∷ parts) = either part (one_of_these parts)
 
+-- these expressions in turn
+abbrev pub these_in_turn : List ByteExpression → ByteExpression
+these_in_turn [] = empty
+these_in_turn (part ∷ parts) = in_turn part (these_in_turn parts)
+
 -- these bytes in turn
 abbrev pub literal : List ℕ → ByteExpression
-literal [] = empty
-literal (byte ∷ bytes) = in_turn (byte_in (byte ∷ [])) (literal bytes)
+literal bytes = these_in_turn (map (λ byte. byte_in (byte ∷ [])) bytes)
 
 -- a byte of a scalar behind its first: 80 to BF
 abbrev pub next_byte : ByteExpression
@@ -52,9 +56,9 @@ abbrev pub any_scalar : ByteExpression
 any_scalar =
     one_of_these
     (byte_between 0 127
-    ∷ in_turn (byte_between 194 223) next_byte
-    ∷ in_turn (byte_between 224 239) (in_turn next_byte next_byte)
-    ∷ in_turn (byte_between 240 244) (in_turn next_byte (in_turn next_byte next_byte)) ∷ [])
+    ∷ these_in_turn (byte_between 194 223 ∷ next_byte ∷ [])
+    ∷ these_in_turn (byte_between 224 239 ∷ next_byte ∷ next_byte ∷ [])
+    ∷ these_in_turn (byte_between 240 244 ∷ next_byte ∷ next_byte ∷ next_byte ∷ []) ∷ [])
 
 -- one of the ASCII characters of the class, or any scalar
 abbrev pub bytes_of_class : Class → ByteExpression
@@ -108,7 +112,7 @@ bytes_of (Expression.either left right) = either (bytes_of left) (bytes_of right
 bytes_of (minus left right) = without (has_character right) (bytes_of left)
 bytes_of (Expression.star part) = star (bytes_of part)
 bytes_of (Expression.plus part) = plus (bytes_of part)
-bytes_of (optional part) = either empty (bytes_of part)
+bytes_of (optional part) = one_of_these (empty ∷ bytes_of part ∷ [])
 
 -- the expression over bytes that a kind of a grammar is
 abbrev pub bytes_of_def : KindDef → ByteExpression
@@ -120,8 +124,9 @@ bytes_of_def (TokenDef name expr) = bytes_of (expression_of expr)
 abbrev pub bytes_of_kind : LexKind → ByteExpression
 bytes_of_kind white = byte_in (bytes_that is_white)
 bytes_of_kind (line_comment opening) =
-    in_turn (literal opening) (star (byte_in (bytes_that (λ b. not (nat_eq b 10)))))
-bytes_of_kind (block_comment opening closing) = in_turn (literal opening) (until closing)
+    these_in_turn (literal opening ∷ star (byte_in (bytes_that (λ b. not (nat_eq b 10)))) ∷ [])
+bytes_of_kind (block_comment opening closing) =
+    these_in_turn (literal opening ∷ until closing ∷ [])
 bytes_of_kind (symbol number kind) = bytes_of_def kind
 
 -- all kinds as one expression, the least first

@@ -3,7 +3,8 @@ use Rattle.std.proofs.Common.{◌+◌, IsTrue, drop, map, arith, sym, ◌∙◌}
 use Rattle.std.specs.List.{Contains}
 use Rattle.std.proofs.lemmas.Bool.{false≢true}
 use Rattle.spec_automata.specs.Encoding.{one_of_these}
-use Rattle.lbnf_regex.specs.Patterns.{all_in_turn, bytes_of_pattern}
+use Rattle.spec_automata.specs.Encoding.{these_in_turn}
+use Rattle.lbnf_regex.specs.Patterns.{bytes_of_pattern}
 use Rattle.lbnf_regex.specs.Steps.{HasLast}
 use Rattle.lbnf_regex.proofs.ExpectingLemmas.{parts_more, can_end_more, either_more}
 use Rattle.lbnf_regex.proofs.expecting.+can_end.Goals as goal
@@ -19,7 +20,7 @@ loop-part-preserved t c =
     record {
       room = omega (arith, room, c.size-start.ensures);
       rest =
-          can_end_more (bytes_of_pattern part) (all_in_turn (map bytes_of_pattern (drop (i + 1) parts))) c.loop-part.start
+          can_end_more (bytes_of_pattern part) (these_in_turn (map bytes_of_pattern (drop (i + 1) parts))) c.loop-part.start
           (c.loop-part.start + c.size-start.result) (Contains c.args.marks.now)
           (HasLast (bytes_of_pattern c.args.pattern.now) c.args.first (Contains c.args.marks.now))
           (IsTrue c.can_end-own.result) (IsTrue c.loop-part.ends) (IsTrue c.ends_behind-ends.result)

@@ -5,16 +5,17 @@ use Rattle.std.proofs.lemmas.Result.{on_ok_weaker}
 use Rattle.spec_automata.specs.ByteExpressions.{empty, nothing}
 use Rattle.spec_automata.specs.Encoding.{one_of_these}
 use Rattle.lbnf_regex.specs.declared.pattern.Pattern.{Pattern}
-use Rattle.lbnf_regex.specs.Patterns.{all_in_turn, bytes_of_pattern}
+use Rattle.spec_automata.specs.Encoding.{these_in_turn}
+use Rattle.lbnf_regex.specs.Patterns.{bytes_of_pattern}
 use Rattle.lbnf_regex.proofs.PatternLemmas.{pattern-Bytes, pattern-Seq, pattern-Alt, pattern-Star, pattern-Plus, pattern-Until}
 use Rattle.lbnf_regex.proofs.ExpectingLemmas.{parts_more, parts_end, adds_none, adds_in_turn, adds_either, adds_star, adds_plus}
 use Rattle.lbnf_regex.proofs.expecting.+expect.Goals as goal
 
 pub loop-part-init : goal.loop-part-init
 loop-part-init t c =
-    let is : bytes_of_pattern c.args.pattern.now ≡ all_in_turn (map bytes_of_pattern c.as_slice-part-items.result.now) =
+    let is : bytes_of_pattern c.args.pattern.now ≡ these_in_turn (map bytes_of_pattern c.as_slice-part-items.result.now) =
     ap bytes_of_pattern c.in-Seq.is ∙ pattern-Seq c.in-Seq.parts
-    ∙ ap (λ (z : List Pattern). all_in_turn (map bytes_of_pattern z)) (sym c.as_slice-part-items.ensures) in
+    ∙ ap (λ (z : List Pattern). these_in_turn (map bytes_of_pattern z)) (sym c.as_slice-part-items.ensures) in
     record { room = rw is at c.requires; rest = λ new adds. rw is adds }
 
 pub loop-part-preserved : goal.loop-part-preserved
@@ -29,7 +30,7 @@ loop-part-preserved t c =
       room = omega (arith, room, c.size-start.ensures);
       rest = λ new adds.
           rest new
-          (adds_in_turn (bytes_of_pattern part) (all_in_turn (map bytes_of_pattern (drop (i + 1) parts))) c.loop-part.start
+          (adds_in_turn (bytes_of_pattern part) (these_in_turn (map bytes_of_pattern (drop (i + 1) parts))) c.loop-part.start
           (c.loop-part.start + c.size-start.result) (IsTrue c.loop-part.enters) (Contains c.args.marks.now)
           (omega (arith, c.size-start.ensures)) c.loop-part.into c.expect.new.into new
           (IsTrue c.enters_behind-enters.result) c.enters_behind-enters.ensures c.in_ok-expect-in-Seq.ensures adds);

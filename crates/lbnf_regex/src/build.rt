@@ -1,0 +1,52 @@
+//! The automaton of kinds.
+ghost use Rattle.std.specs.Prelude.{◌≡◌, ◌<◌, ◌^◌, Err, List, map, IfOk};
+ghost use Rattle.spec_automata.specs.Encoding.{one_of_these};
+ghost use Rattle.spec_automata.specs.States.{HasManySets};
+ghost use Rattle.lbnf_regex.specs.Automata.{AreAccepted, IsExact};
+ghost use Rattle.lbnf_regex.specs.Patterns.{bytes_of_pattern};
+ghost use Rattle.lbnf_regex.specs.declared.lex_fault.LexFault.TheVariants.{TooManyStates};
+ghost use Rattle.lbnf_regex.specs.declared.pattern.Pattern.{Pattern};
+ghost use Rattle.lbnf_regex.specs.declared.pattern.Pattern.TheVariants.{Alt};
+
+use crate::accepting::places;
+use crate::expecting::size_if_fits;
+use crate::lex_fault::LexFault;
+use crate::machine::Automaton;
+use crate::pattern::Pattern;
+use crate::states::{Table, make_table};
+use sqlite_items::Items;
+use std::alloc::Global;
+
+fn parts_of(pattern: &Pattern) -> &[Pattern]
+    ensures { (parts : List Pattern) → pattern.now ≡ Alt parts → result.now ≡ parts }
+{
+    match pattern {
+        Pattern::Alt(parts) => parts.as_slice(),
+        _ => &[],
+    }
+}
+
+/// The automaton of these kinds, the least first. Its states, with the start, are at most so many.
+pub fn automaton_of(
+    alloc: Global,
+    kinds: Items<Pattern>,
+    most: usize,
+) -> Result<Automaton, LexFault>
+    requires some { 0 < most }
+    requires room { most < 2 ^ 16 }
+    ensures exact { IfOk result (λ a. IsExact (one_of_these (map bytes_of_pattern kinds)) a.rows) }
+    ensures places { IfOk result (λ a.
+        AreAccepted (map bytes_of_pattern kinds) a.rows a.places) }
+    ensures few { IfOk result (λ a.
+        HasManySets (one_of_these (map bytes_of_pattern kinds)) most → ⊥) }
+    ensures full { result ≡ Err TooManyStates
+        → HasManySets (one_of_these (map bytes_of_pattern kinds)) most }
+{
+    let all = Pattern::Alt(kinds);
+    let Some(_size) = size_if_fits(&all) else {
+        return Err(LexFault::Memory);
+    };
+    let Table { states, rows } = make_table(alloc, &all, most)?;
+    let places = places(alloc, parts_of(&all), states.as_slice())?;
+    Ok(Automaton::of(rows, places))
+}
