@@ -11,3 +11,4 @@ pub mod CountingLemmas
 pub mod WalkLemmas
 pub mod PlaceLemmas
 pub mod ByteSetLemmas
+pub mod EncodingStepLemmas

@@ -1,5 +1,6 @@
 //! Sets of bytes.
-ghost use Rattle.std.specs.Prelude.{◌≡◌, ◌&&◌, ◌++◌, ◌∷◌, [], cond, not, IfOk, OnOk};
+ghost use Rattle.std.specs.Prelude.{◌≡◌, ◌&&◌, ◌++◌, ◌∷◌, [], cond, nat_eq, not, IfOk, OnOk};
+ghost use Rattle.std.specs.Set.{is_member};
 ghost use Rattle.spec_automata.specs.Encoding.{bytes_that, is_ascii};
 ghost use Rattle.spec_lexing.specs.Matching.{is_of_class};
 ghost use Rattle.lbnf_regex.specs.ByteSets.{flag_at, kept_of, passes as byte_passes};
@@ -100,5 +101,30 @@ pub(crate) fn one_byte(alloc: Global, byte: u8, removed: &[bool]) -> Result<Item
 {
     let mut set = Items::new(alloc);
     push_if(&mut set, byte, !is_removed(removed, byte))?;
+    Ok(set)
+}
+
+fn is_kept_scalar(scalars: &[char], byte: u8, removed: &[bool]) -> bool
+    ensures { result ≡ ((is_ascii byte && is_member nat_eq scalars.now byte)
+        && not (is_ascii byte && flag_at removed.now byte)) }
+{
+    let scalar = byte as char;
+    byte <= 127 && scalars.contains(&scalar) && !is_removed(removed, byte)
+}
+
+/// The ASCII characters among the scalars, without those that are removed.
+pub(crate) fn set_of_scalars(
+    alloc: Global,
+    scalars: &[char],
+    removed: &[bool],
+) -> Result<Items<u8>, AllocError>
+    ensures { IfOk result (λ set. set ≡ kept_of removed.now
+        (bytes_that (λ b. is_ascii b && is_member nat_eq scalars.now b))) }
+{
+    let mut set = Items::new(alloc);
+    for byte in 0..256u16 {
+        let holds = is_kept_scalar(scalars, byte as u8, removed);
+        push_if(&mut set, byte as u8, holds)?;
+    }
     Ok(set)
 }

@@ -5,6 +5,7 @@ mod accepting;
 mod build;
 mod byte_set;
 mod comment;
+mod encoding;
 mod expecting;
 mod lex_fault;
 mod machine;

@@ -74,6 +74,7 @@ in_range (suc n) a x = (
 -- the bytes that pass are those below 256 that do
 pub in_bytes_that : (test : ℕ → Bool) (byte : ℕ) →
     Contains (bytes_that test) byte ↔ ((byte < 256) × (test byte ≡ true))
+unfolding bytes_that
 in_bytes_that test byte =
     let passes = in_filter test (range_with_len 0 256) byte in
     let ranges = in_range 256 0 byte in (
@@ -91,3 +92,8 @@ in_between least greatest byte small =
           (leb-true least byte both.0, leb-true byte greatest both.1),
       λ h. passes.1 (omega (arith, h.1, small), and_from _ _ (le-leb least byte h.0) (le-leb byte greatest h.1)),
     )
+
+-- the bytes that pass are a filter of all bytes
+pub bytes_that_is : (test : ℕ → Bool) → bytes_that test ≡ filter test (range_with_len 0 256)
+unfolding bytes_that
+bytes_that_is test = refl

@@ -25,7 +25,7 @@ abbrev pub is_ascii : ℕ → Bool
 is_ascii c = nat_le c 127
 
 -- the bytes that pass
-abbrev pub bytes_that : (ℕ → Bool) → List ℕ
+unfoldable pub bytes_that : (ℕ → Bool) → List ℕ
 bytes_that test = filter test (range_with_len 0 256)
 
 -- one of the bytes from the least to the greatest
