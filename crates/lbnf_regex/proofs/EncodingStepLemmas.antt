@@ -243,3 +243,7 @@ flags_of_both old new has are b = elim (cases_lt b 128) [
     high : (a h o n : Bool) → a ≡ false → (not (a && h) && not (a && o)) ≡ not (a && n)
     high true h o n e = cc
     high false h o n e = refl
+
+-- no flags keep all
+pub kept_all : (set : List ℕ) → kept_of [] set ≡ set
+kept_all set = keep_all (λ b. not (is_ascii b && flag_at [] b)) (λ b. none_flagged b (is_ascii b)) set

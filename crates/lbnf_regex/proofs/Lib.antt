@@ -12,3 +12,4 @@ pub mod WalkLemmas
 pub mod PlaceLemmas
 pub mod ByteSetLemmas
 pub mod EncodingStepLemmas
+pub mod LexiconLemmas

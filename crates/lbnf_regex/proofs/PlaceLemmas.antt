@@ -89,7 +89,7 @@ place_matches (x ∷ xs) n M w some marks (suc k) =
     place_matches xs (n + position_count x) M w some (rest_marks x xs n M w marks) k
 
 -- the least of some places, by another description of them
-least_like : (P Q : ℕ → Type 0) (place : Option ℕ) → ((k : ℕ) → P k ↔ Q k) →
+pub least_like : (P Q : ℕ → Type 0) (place : Option ℕ) → ((k : ℕ) → P k ↔ Q k) →
     MatchOption place ((k : ℕ) → P k → ⊥) (λ least. P least × ((k : ℕ) → k < least → P k → ⊥)) →
     MatchOption place ((k : ℕ) → Q k → ⊥) (λ least. Q least × ((k : ℕ) → k < least → Q k → ⊥))
 least_like P Q None same h = λ k q. h k ((same k).1 q)

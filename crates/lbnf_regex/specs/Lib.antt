@@ -1,4 +1,5 @@
 pub mod Automata
+pub mod Lexicons
 pub mod Patterns
 pub mod Steps
 pub mod Sets

@@ -1,8 +1,9 @@
 //! The automaton of kinds.
 ghost use Rattle.std.specs.Prelude.{◌≡◌, ◌<◌, ◌^◌, Err, List, map, IfOk};
 ghost use Rattle.spec_automata.specs.Encoding.{one_of_these};
-ghost use Rattle.spec_automata.specs.States.{HasManySets};
+ghost use Rattle.spec_automata.specs.States.{HasManySets, HasTooManyStates};
 ghost use Rattle.lbnf_regex.specs.Automata.{AreAccepted, IsExact};
+ghost use Rattle.lbnf_regex.specs.Lexicons.{AcceptsLeast, IsExactFor, lexicon_with};
 ghost use Rattle.lbnf_regex.specs.Patterns.{bytes_of_pattern};
 ghost use Rattle.lbnf_regex.specs.declared.lex_fault.LexFault.TheVariants.{TooManyStates};
 ghost use Rattle.lbnf_regex.specs.declared.pattern.Pattern.{Pattern};
@@ -10,10 +11,13 @@ ghost use Rattle.lbnf_regex.specs.declared.pattern.Pattern.TheVariants.{Alt};
 
 use crate::accepting::places;
 use crate::expecting::size_if_fits;
+use crate::kinds::patterns_of;
 use crate::lex_fault::LexFault;
 use crate::machine::Automaton;
 use crate::pattern::Pattern;
 use crate::states::{Table, make_table};
+use spec_lexing::KindDef;
+use spec_text::{MAX_STATES, Name};
 use sqlite_items::Items;
 use std::alloc::Global;
 
@@ -27,7 +31,7 @@ fn parts_of(pattern: &Pattern) -> &[Pattern]
 }
 
 /// The automaton of these kinds, the least first. Its states, with the start, are at most so many.
-pub fn automaton_of(
+pub(crate) fn automaton_of(
     alloc: Global,
     kinds: Items<Pattern>,
     most: usize,
@@ -49,4 +53,23 @@ pub fn automaton_of(
     let Table { states, rows } = make_table(alloc, &all, most)?;
     let places = places(alloc, parts_of(&all), states.as_slice())?;
     Ok(Automaton::of(rows, places))
+}
+
+/// The automaton that recognises white space, these comments and these kinds at once, numbered by
+/// their places in this order. It has at most MAX_STATES states, the start included.
+pub fn automaton(
+    alloc: Global,
+    lines: &[Name],
+    blocks: &[(Name, Name)],
+    kinds: &[KindDef],
+) -> Result<Automaton, LexFault>
+    ensures exact { IfOk result (IsExactFor (lexicon_with lines.now blocks.now kinds.now)) }
+    ensures least { IfOk result (AcceptsLeast (lexicon_with lines.now blocks.now kinds.now)) }
+    ensures few { IfOk result (λ a.
+        HasTooManyStates (lexicon_with lines.now blocks.now kinds.now) → ⊥) }
+    ensures full { result ≡ Err TooManyStates
+        → HasTooManyStates (lexicon_with lines.now blocks.now kinds.now) }
+{
+    let patterns = patterns_of(alloc, lines, blocks, kinds)?;
+    automaton_of(alloc, patterns, MAX_STATES)
 }

@@ -7,6 +7,7 @@ mod byte_set;
 mod comment;
 mod encoding;
 mod expecting;
+mod kinds;
 mod lex_fault;
 mod machine;
 mod next_byte;
@@ -14,7 +15,6 @@ mod next_set;
 mod pattern;
 mod states;
 
-pub use build::automaton_of;
+pub use build::automaton;
 pub use lex_fault::LexFault;
 pub use machine::Automaton;
-pub use pattern::Pattern;

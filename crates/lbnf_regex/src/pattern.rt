@@ -4,7 +4,7 @@ use sqlite_items::{Boxed, Items};
 
 /// An expression over bytes. `specs/Patterns.antt` says what each form stands for.
 #[derive(Debug, Drop)]
-pub enum Pattern {
+pub(crate) enum Pattern {
     /// The empty text.
     Empty,
     /// One of these bytes.
