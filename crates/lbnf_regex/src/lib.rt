@@ -18,3 +18,6 @@ mod states;
 pub use build::automaton;
 pub use lex_fault::LexFault;
 pub use machine::Automaton;
+
+#[cfg(test)]
+mod tests;
