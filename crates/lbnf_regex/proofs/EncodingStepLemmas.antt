@@ -1,5 +1,5 @@
 -- The patterns of expressions, part by part.
-use Rattle.std.proofs.Common.{◌≡◌, ℕ, zero, suc, ◌+◌, ◌<◌, ◌≤◌, List, [], ◌∷◌, ◌++◌, map, take, replicate, length, get_or, All, Bool, true, false, ◌&&◌, ◌||◌, not, cond, nat_eq, refl, sym, ◌∙◌, ap, inl, inr, arith, subst}
+use Rattle.std.proofs.Common.{◌≡◌, ℕ, zero, suc, ◌<◌, List, [], ◌∷◌, ◌++◌, map, replicate, Bool, true, false, ◌&&◌, ◌||◌, not, cond, nat_eq, refl, sym, ◌∙◌, ap, inl, inr, arith}
 use Rattle.std.specs.Char.{IsScalar, encode_utf8}
 use Rattle.std.specs.List.{filter, list_any}
 use Rattle.std.specs.Set.{is_member}
@@ -8,13 +8,13 @@ use Rattle.std.proofs.lemmas.Bool.{and_parts, cases_eq, cases_lt, eq-eqb, ne_eqb
 use Rattle.std.proofs.lemmas.List.Folds.{list_any-append}
 use Rattle.std.proofs.lemmas.Str.{encode_ascii, encodes-chars, scalars-chars}
 use lib.Utf8.{scalar, scalars, encodes}
-use Rattle.std.proofs.lemmas.List.{take_more, take_all, map-append}
-use Rattle.std.proofs.lemmas.List.Elements.{filter-append, filter_agree}
+use Rattle.std.proofs.lemmas.List.{map-append}
+use Rattle.std.proofs.lemmas.List.Elements.{filter-append}
 use Rattle.spec_lexing.specs.declared.expression.Expr.{Expr, Expr-F, fold-roll-Expr}
 use Rattle.spec_lexing.specs.declared.expression.Expr.TheVariants.{Seq, Alt, Minus, AnyOf, rolls-Seq, rolls-Alt, rolls-Minus, rolls-AnyOf}
 use Rattle.spec_lexing.specs.Expressions.{Expression, any_of, minus, all_in_turn, one_of, form_of, expression_of}
 use Rattle.spec_automata.specs.ByteExpressions.{ByteExpression, empty, nothing, byte_in, in_turn, either, star, plus, until}
-use Rattle.spec_automata.specs.Encoding.{is_ascii, bytes_that, byte_between, one_of_these, these_in_turn, literal, next_byte, any_scalar, wide_scalars, bytes_of_scalars, has_character, without, bytes_of}
+use Rattle.spec_automata.specs.Encoding.{is_ascii, byte_between, one_of_these, these_in_turn, literal, next_byte, any_scalar, wide_scalars, has_character, without, bytes_of}
 use Rattle.spec_automata.proofs.ScalarLemmas.{AllWide, wide_bytes}
 use Rattle.lbnf_regex.specs.ByteSets.{flag_at, kept_of}
 

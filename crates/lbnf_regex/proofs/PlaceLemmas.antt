@@ -1,6 +1,8 @@
 -- The kinds one behind the other, and which of them match a text.
 use Rattle.std.proofs.Common.{◌≡◌, ◌≢◌, ℕ, zero, suc, ◌+◌, ◌<◌, ◌≤◌, ◌^◌, ◌↔◌, List, [], ◌∷◌, length, map, drop, get_or, Option, Some, None, MatchOption, slice_index_or, refl, sym, ◌∙◌, inl, inr, arith, subst}
 use Rattle.std.specs.List.{Contains}
+use Rattle.std.proofs.lemmas.Bool.{cases_lt}
+use Rattle.std.proofs.lemmas.List.{get_or_past}
 use Rattle.std.proofs.lemmas.Option.{same_Some}
 use Rattle.spec_automata.specs.ByteExpressions.{ByteExpression, MatchesBytes}
 use Rattle.spec_automata.specs.Encoding.{one_of_these}
@@ -9,7 +11,7 @@ use Rattle.lbnf_regex.specs.declared.pattern.Pattern.{Pattern}
 use Rattle.lbnf_regex.specs.Automata.{IsWhole, machine_of, MatchesInPlace, AreAccepted}
 use Rattle.lbnf_regex.specs.Patterns.{bytes_of_pattern}
 use Rattle.lbnf_regex.specs.Steps.{HasLast}
-use Rattle.lbnf_regex.specs.States.{EndsInPlace, ArePlaces, IsTable, IsEntry, state_at}
+use Rattle.lbnf_regex.specs.States.{EndsInPlace, IsLeastEnding, ArePlaces, IsTable, IsEntry, state_at}
 use Rattle.lbnf_regex.proofs.PositionLemmas.{ends_within, last_within, last_to, last_from}
 use Rattle.lbnf_regex.proofs.CountingLemmas.{StandsFor}
 use Rattle.lbnf_regex.proofs.WalkLemmas.{LeadsOnTo, leads_all}
@@ -109,11 +111,24 @@ are_accepted xs most states rows places table are bytes state some are_bytes lea
     (place_matches xs 0 (Contains (state_at states state)) bytes some (λ q low high. stands.1 q))
     (are.least state on.0)
 
+-- a place where a match ends is one of the list
+place_within : (xs : List ByteExpression) (n : ℕ) (M : ℕ → Type 0) (k : ℕ) → EndsInPlace xs n M k → k < length xs
+place_within [] n M k h = absurd h
+place_within (x ∷ xs) n M zero h = omega arith
+place_within (x ∷ xs) n M (suc k) h = omega (arith, place_within xs (n + position_count x) M k h)
+
+-- so is a state's
+least_within : (xs : List ByteExpression) (M : ℕ → Type 0) (place : Option ℕ) (k : ℕ) → IsLeastEnding xs M place →
+    place ≡ Some k → k < length xs
+least_within xs M None k least e = cc
+least_within xs M (Some j) k least e =
+    let same : j ≡ k = same_Some j k e in omega (arith, same, place_within xs 0 M j least.0)
+
 -- a table with places is a whole automaton
-pub is_whole : (xs : List ByteExpression) (x : ByteExpression) (most : ℕ) (states : List (List ℕ))
-    (rows : List (List (Option ℕ))) (places : List (Option ℕ)) → most < 2 ^ 16 → IsTable x most states rows →
-    ArePlaces xs states places → IsWhole (machine_of rows places)
-is_whole xs x most states rows places room table are = (
+pub is_whole : (xs : List ByteExpression) (x : ByteExpression) (most comments : ℕ) (states : List (List ℕ))
+    (rows : List (List (Option ℕ))) (places : List (Option ℕ)) → most < 2 ^ 16 → length xs ≤ comments + 1 + 2 ^ 16 →
+    IsTable x most states rows → ArePlaces xs states places → IsWhole (machine_of rows places comments)
+is_whole xs x most comments states rows places room few table are = (
   omega (arith, table.are_states.some, table.are_rows.size),
   omega (arith, table.few, table.are_rows.size, room),
   are.size ∙ sym table.are_rows.size,
@@ -123,6 +138,14 @@ is_whole xs x most states rows places room table are = (
       let within = entry_within x states (state_at states i) b (slice_index_or (slice_index_or rows i []) b None) j
       (row.entries b lt_b) e in
       omega (arith, within, table.are_rows.size),
+  λ i k e. elim (cases_lt i (length states)) [
+    | inl lt ↦
+        let within = least_within xs (Contains (state_at states i)) (slice_index_or places i None) k (are.least i lt) e in
+        omega (arith, within, few)
+    | inr past ↦
+        let none : slice_index_or places i None ≡ None = get_or_past places i None (omega (arith, past, are.size)) in
+        let both : None ≡ Some k = sym none ∙ e in cc
+  ],
 )
   where
     entry_within : (x : ByteExpression) (states : List (List ℕ)) (s : List ℕ) (b : ℕ) (e : Option ℕ) (j : ℕ) →

@@ -4,10 +4,13 @@ use Rattle.std.specs.Prelude.{MatchOption, slice_get, slice_index_or}
 use Rattle.std.specs.Str.{IsUtf8}
 use Rattle.spec_lexing.specs.declared.kind_def.KindDef.{KindDef}
 use Rattle.spec_lexing.specs.Lexicon.{Lexicon}
-use Rattle.spec_lexing.specs.Kinds.{LexKind, MatchesKind, lex_kinds}
+use Rattle.spec_lexing.specs.Kinds.{LexKind, white, line_comment, block_comment, symbol}
+use Rattle.spec_lexing.specs.Kinds.{MatchesKind, lex_kinds}
 use Rattle.spec_automata.specs.Encoding.{bytes_of_kinds, IsSoundKind}
 use Rattle.spec_automata.specs.States.{AreBytes}
-use Rattle.lbnf_regex.specs.Automata.{Machine, walk, IsExact}
+use Rattle.lbnf_regex.specs.Automata.{Machine, kind_at, walk, IsExact}
+use Rattle.lbnf_regex.specs.declared.kind.Kind.{Kind}
+use Rattle.lbnf_regex.specs.declared.kind.Kind.TheVariants.{White, Comment, Symbol}
 
 -- the lexicon of these comments and kinds
 abbrev pub lexicon_with : List (List ℕ) → List (List ℕ × List ℕ) → List KindDef → Lexicon
@@ -42,3 +45,16 @@ AcceptsLeast lexicon a =
     (bytes rest : List ℕ) (state : ℕ) → bytes ≢ [] → AreBytes bytes → IsUtf8 (bytes ++ rest) →
     walk a.rows (Some 0) bytes ≡ Some state →
     IsLeastPlace (lex_kinds lexicon) bytes (slice_index_or a.places state None)
+
+-- what a lexer calls the kind
+abbrev pub kind_of : LexKind → Kind
+kind_of white = White
+kind_of (line_comment opening) = Comment
+kind_of (block_comment opening closing) = Comment
+kind_of (symbol number kind) = Symbol number
+
+-- what the automaton calls the kind at a place is what a lexer calls it
+abbrev pub HasKindsInOrder : Lexicon → Machine → Type 0
+HasKindsInOrder lexicon a =
+    (place : ℕ) (kind : LexKind) → slice_get (lex_kinds lexicon) place ≡ Some kind →
+    kind_at a.comments place ≡ kind_of kind

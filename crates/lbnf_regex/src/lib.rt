@@ -7,6 +7,7 @@ mod byte_set;
 mod comment;
 mod encoding;
 mod expecting;
+mod kind;
 mod kinds;
 mod lex_fault;
 mod machine;
@@ -16,6 +17,7 @@ mod pattern;
 mod states;
 
 pub use build::automaton;
+pub use kind::Kind;
 pub use lex_fault::LexFault;
 pub use machine::Automaton;
 

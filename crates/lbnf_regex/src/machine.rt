@@ -1,7 +1,9 @@
 //! Automata as their callers see them.
-ghost use Rattle.std.specs.Prelude.{◌≡◌, ◌<◌, None, Some, IfSome, length, slice_index_or};
-ghost use Rattle.lbnf_regex.specs.Automata.{IsWhole, machine_of, state_behind};
+ghost use Rattle.std.specs.Prelude.{◌≡◌, ◌+◌, ◌<◌, ◌^◌, None, Some, IfSome, length, slice_index_or};
+ghost use Rattle.std.specs.Option.{option_map};
+ghost use Rattle.lbnf_regex.specs.Automata.{IsWhole, kind_at, machine_of, state_behind};
 
+use crate::kind::Kind;
 use sqlite_items::Items;
 use std::marker::Model;
 
@@ -10,6 +12,7 @@ use std::marker::Model;
 pub struct Automaton {
     rows: Items<Items<Option<u16>>>,
     places: Items<Option<usize>>,
+    comments: usize,
 }
 
 impl Model for Automaton {
@@ -20,17 +23,25 @@ impl Model for Automaton {
 
     ghost coded = { Prim.hlevel codes };
 
-    ghost view = { λ a. machine_of a.rows a.places };
+    ghost view = { λ a. machine_of a.rows a.places a.comments };
 
-    ghost invariant = { λ a. IsWhole (machine_of a.rows a.places) };
+    ghost invariant = { λ a. IsWhole (machine_of a.rows a.places a.comments) };
 }
 
 impl Automaton {
-    pub(crate) fn of(rows: Items<Items<Option<u16>>>, places: Items<Option<usize>>) -> Automaton
-        requires { IsWhole (machine_of rows places) }
-        ensures { result ≡ machine_of rows places }
+    pub(crate) fn of(
+        rows: Items<Items<Option<u16>>>,
+        places: Items<Option<usize>>,
+        comments: usize,
+    ) -> Automaton
+        requires { IsWhole (machine_of rows places comments) }
+        ensures { result ≡ machine_of rows places comments }
     {
-        Automaton { rows, places }
+        Automaton {
+            rows,
+            places,
+            comments,
+        }
     }
 
     /// The state before any byte is read. It takes no memory.
@@ -58,12 +69,30 @@ impl Automaton {
         self.rows.as_slice()[state as usize].as_slice()[byte as usize]
     }
 
-    /// The place of the least kind that matches what leads to the state. None where no kind does. It
-    /// takes no memory.
-    pub fn place(&self, state: u16) -> Option<usize>
+    /// The least kind that matches what leads to the state. None where no kind does, and never Stray.
+    /// It takes no memory.
+    pub fn accepts(&self, state: u16) -> Option<Kind>
         requires { state < length self.now.rows }
-        ensures { result ≡ slice_index_or self.now.places state None }
+        ensures { result ≡ option_map (kind_at self.now.comments)
+            (slice_index_or self.now.places state None) }
     {
-        self.places.as_slice()[state as usize]
+        match self.places.as_slice()[state as usize] {
+            Some(place) => Some(kind_in_order(place, self.comments)),
+            None => None,
+        }
+    }
+}
+
+/// The kind at the place in the order of kinds, of which so many are comments.
+fn kind_in_order(place: usize, comments: usize) -> Kind
+    requires { place < comments + 1 + 2 ^ 16 }
+    ensures { result ≡ kind_at comments place }
+{
+    if place == 0 {
+        Kind::White
+    } else if place <= comments {
+        Kind::Comment
+    } else {
+        Kind::Symbol((place - comments - 1) as u16)
     }
 }

@@ -53,15 +53,15 @@ fn next(automaton: &Automaton, state: Option<u16>, byte: u8) -> Option<u16> {
     }
 }
 
-/// The place of the least kind that matches the text. None where no kind does.
-fn place_of(automaton: &Automaton, text: &[u8]) -> Option<usize> {
+/// The least kind that matches the text. None where no kind does.
+fn kind_of(automaton: &Automaton, text: &[u8]) -> Option<Kind> {
     let mut state = Some(automaton.start());
     for byte in text {
         state = next(automaton, state, *byte);
     }
     let state = state?;
     if state < automaton.state_count() {
-        automaton.place(state)
+        automaton.accepts(state)
     } else {
         None
     }
@@ -75,14 +75,14 @@ fn two_words_share_the_state_of_their_front(rt: HostRuntime) -> Result<(), Fail>
     assert_eq!(rt; automaton.state_count(), 4);
     let cases = [
         ("", None),
-        (" ", Some(0)),
-        ("a", Some(1)),
-        ("ab", Some(2)),
+        (" ", Some(Kind::White)),
+        ("a", Some(Kind::Symbol(0))),
+        ("ab", Some(Kind::Symbol(1))),
         ("b", None),
         ("abb", None),
     ];
     for (text, want) in cases {
-        assert_eq!(rt; place_of(&automaton, text.as_bytes()), want, "at {text}");
+        assert_eq!(rt; kind_of(&automaton, text.as_bytes()), want, "at {text}");
     }
     Ok(())
 }
@@ -113,22 +113,22 @@ fn comments_end_with_their_first_closing_text(rt: HostRuntime) -> Result<(), Fai
     let kinds = vec![in alloc; word(alloc, "--")?]?;
     let automaton = made(alloc, lines.as_slice(), blocks.as_slice(), kinds.as_slice())?;
     let cases = [
-        ("--", Some(1)),
-        ("--a--", Some(1)),
+        ("--", Some(Kind::Comment)),
+        ("--a--", Some(Kind::Comment)),
         ("--a\n", None),
-        ("/**/", Some(2)),
+        ("/**/", Some(Kind::Comment)),
         ("/*/", None),
-        ("/***/", Some(2)),
+        ("/***/", Some(Kind::Comment)),
         ("/**/*/", None),
-        ("<aba", Some(3)),
-        ("<aaba", Some(3)),
+        ("<aba", Some(Kind::Comment)),
+        ("<aaba", Some(Kind::Comment)),
         ("<ababa", None),
-        ("[**/", Some(4)),
-        ("[***/", Some(4)),
+        ("[**/", Some(Kind::Comment)),
+        ("[***/", Some(Kind::Comment)),
         ("[**a*/", None),
     ];
     for (text, want) in cases {
-        assert_eq!(rt; place_of(&automaton, text.as_bytes()), want, "at {text}");
+        assert_eq!(rt; kind_of(&automaton, text.as_bytes()), want, "at {text}");
     }
     Ok(())
 }
@@ -148,7 +148,11 @@ fn any_scalar_has_the_bytes_of_one_scalar(rt: HostRuntime) -> Result<(), Fail> {
         "\u{10ffff}",
     ];
     for text in whole {
-        assert_eq!(rt; place_of(&automaton, text.as_bytes()), Some(1), "at {text}");
+        assert_eq!(rt;
+            kind_of(&automaton, text.as_bytes()),
+            Some(Kind::Symbol(0)),
+            "at {text}"
+        );
     }
     let cut = [
         b"\xc2".as_slice(),
@@ -159,7 +163,7 @@ fn any_scalar_has_the_bytes_of_one_scalar(rt: HostRuntime) -> Result<(), Fail> {
         b"ab",
     ];
     for bytes in cut {
-        assert_eq!(rt; place_of(&automaton, bytes), None, "at {bytes:?}");
+        assert_eq!(rt; kind_of(&automaton, bytes), None, "at {bytes:?}");
     }
     Ok(())
 }
@@ -177,13 +181,13 @@ fn a_difference_takes_characters_away(rt: HostRuntime) -> Result<(), Fail> {
     ]?;
     let automaton = made(alloc, &[], &[], kinds.as_slice())?;
     for (text, want) in [
-        ("a", Some(2)),
-        ("7", Some(2)),
+        ("a", Some(Kind::Symbol(1))),
+        ("7", Some(Kind::Symbol(1))),
         ("\"", None),
         ("\\", None),
-        ("é", Some(2)),
+        ("é", Some(Kind::Symbol(1))),
     ] {
-        assert_eq!(rt; place_of(&automaton, text.as_bytes()), want, "at {text}");
+        assert_eq!(rt; kind_of(&automaton, text.as_bytes()), want, "at {text}");
     }
     Ok(())
 }
@@ -206,18 +210,18 @@ fn the_least_kind_is_that_of_its_place(rt: HostRuntime) -> Result<(), Fail> {
     ]?;
     let automaton = made(alloc, &[], &[], kinds.as_slice())?;
     let cases = [
-        ("if", Some(1)),
-        ("i", Some(2)),
-        ("iff", Some(2)),
-        ("-12", Some(3)),
-        ("7", Some(3)),
+        ("if", Some(Kind::Symbol(0))),
+        ("i", Some(Kind::Symbol(1))),
+        ("iff", Some(Kind::Symbol(1))),
+        ("-12", Some(Kind::Symbol(2))),
+        ("7", Some(Kind::Symbol(2))),
         ("-", None),
-        ("é", Some(5)),
-        ("?", Some(5)),
+        ("é", Some(Kind::Symbol(4))),
+        ("?", Some(Kind::Symbol(4))),
         ("é?", None),
     ];
     for (text, want) in cases {
-        assert_eq!(rt; place_of(&automaton, text.as_bytes()), want, "at {text}");
+        assert_eq!(rt; kind_of(&automaton, text.as_bytes()), want, "at {text}");
     }
     Ok(())
 }

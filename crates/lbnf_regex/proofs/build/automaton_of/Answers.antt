@@ -1,5 +1,6 @@
 -- The table of one of the kinds, with the places of the kinds.
-use Rattle.std.proofs.Common.{◌≡◌, map, refl, ap, subst}
+use Rattle.std.proofs.Common.{◌≡◌, map, refl, arith, ap, subst}
+use Rattle.std.proofs.lemmas.List.{length-map}
 use Rattle.spec_automata.specs.ByteExpressions.{ByteExpression}
 use Rattle.spec_automata.specs.Encoding.{one_of_these}
 use Rattle.lbnf_regex.specs.Automata.{Machine}
@@ -8,7 +9,7 @@ use Rattle.lbnf_regex.specs.States.{IsTable, ArePlaces}
 use Rattle.lbnf_regex.proofs.PatternLemmas.{pattern-Alt}
 use Rattle.lbnf_regex.proofs.CountingLemmas.{few_sets}
 use Rattle.lbnf_regex.proofs.WalkLemmas.{exact}
-use Rattle.lbnf_regex.proofs.PlaceLemmas.{are_accepted}
+use Rattle.lbnf_regex.proofs.PlaceLemmas.{are_accepted, is_whole}
 use Rattle.lbnf_regex.proofs.build.automaton_of.Goals as goal
 
 pub returns-clause-exact : goal.returns-clause-exact
@@ -43,3 +44,15 @@ returns-clause-few c =
     subst (λ (z : ByteExpression). IsTable z c.args.most made.states made.rows) (pattern-Alt c.args.kinds)
     c.in_ok-states.ensures.table in
     few_sets x c.args.most made.states made.rows table
+
+pub of-requires : goal.of-requires
+of-requires c =
+    let xs = map bytes_of_pattern c.args.kinds in
+    let made = c.in_ok-states.field-0 in
+    let table : IsTable (one_of_these xs) c.args.most made.states made.rows =
+    subst (λ (z : ByteExpression). IsTable z c.args.most made.states made.rows) (pattern-Alt c.args.kinds)
+    c.in_ok-states.ensures.table in
+    let are : ArePlaces xs made.states c.in_ok-places.places =
+    rw (c.parts_of.ensures c.args.kinds refl, c.as_slice.ensures) at c.in_ok-places.ensures in
+    is_whole xs (one_of_these xs) c.args.most c.args.comments made.states made.rows c.in_ok-places.places c.requires.room
+    (omega (arith, c.requires.few, length-map c.args.kinds bytes_of_pattern)) table are

@@ -1,5 +1,5 @@
 -- One byte more is tested.
-use Rattle.std.proofs.Common.{◌≡◌, ◌+◌, ◌&&◌, ◌++◌, ◌∷◌, [], cond, nat_eq, not, ℕ, List, ap, refl, sym, arith, ◌∙◌}
+use Rattle.std.proofs.Common.{◌≡◌, ◌&&◌, ◌++◌, ◌∷◌, [], cond, nat_eq, not, ℕ, List, ap, refl, sym, arith, ◌∙◌}
 use Rattle.std.specs.List.{filter, range_with_len}
 use Rattle.std.specs.Set.{is_member}
 use Rattle.spec_automata.specs.Encoding.{is_ascii}

@@ -1,5 +1,5 @@
 -- A sequence is no class, and a name has an ASCII character where it has its byte.
-use Rattle.std.proofs.Common.{◌≡◌, ◌∷◌, ℕ, List, false, map, ap, sym, ◌∙◌}
+use Rattle.std.proofs.Common.{ℕ, List, map, ap, sym, ◌∙◌}
 use Rattle.std.proofs.lemmas.Str.{IsUtf8-had}
 use Rattle.spec_lexing.specs.Expressions.{Expression, expression_of}
 use Rattle.spec_automata.specs.Encoding.{has_character as has_ascii}

@@ -1,5 +1,5 @@
 -- The sets of all bytes in turn.
-use Rattle.std.proofs.Common.{◌≡◌, ◌∷◌, [], ℕ, List, map, ap, sym, ◌∙◌}
+use Rattle.std.proofs.Common.{◌∷◌, [], ℕ, List, map, ap, sym, ◌∙◌}
 use Rattle.std.proofs.lemmas.List.{take_all}
 use Rattle.spec_automata.specs.ByteExpressions.{byte_in}
 use Rattle.spec_automata.specs.Encoding.{these_in_turn}

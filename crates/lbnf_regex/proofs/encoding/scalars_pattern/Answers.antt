@@ -5,7 +5,6 @@ use Rattle.std.specs.Set.{is_member}
 use Rattle.std.proofs.lemmas.List.{take_more, take_all}
 use Rattle.spec_automata.specs.ByteExpressions.{ByteExpression, byte_in, either}
 use Rattle.spec_automata.specs.Encoding.{bytes_that, is_ascii, literal, one_of_these, wide_scalars, without}
-use Rattle.lbnf_regex.specs.declared.pattern.Pattern.{Pattern}
 use Rattle.lbnf_regex.specs.declared.pattern.Pattern.TheVariants.{Bytes}
 use Rattle.lbnf_regex.specs.ByteSets.{flag_at, kept_of}
 use Rattle.lbnf_regex.specs.Patterns.{bytes_of_pattern}

@@ -1,4 +1,4 @@
-use Rattle.std.proofs.Common.{◌≡◌, ◌∷◌, ◌&&◌, not, nat_eq, map, take}
+use Rattle.std.proofs.Common.{◌≡◌, ◌∷◌, ◌&&◌, nat_eq, map, take}
 use Rattle.std.specs.Char.{encode_utf8}
 use Rattle.std.specs.Set.{is_member}
 use Rattle.spec_automata.specs.ByteExpressions.{byte_in}

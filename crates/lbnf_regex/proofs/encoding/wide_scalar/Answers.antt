@@ -1,5 +1,5 @@
 -- So many bytes behind the first.
-use Rattle.std.proofs.Common.{◌≡◌, ◌∷◌, ℕ, map, replicate, ap, sym, arith, ◌∙◌}
+use Rattle.std.proofs.Common.{◌≡◌, ◌∷◌, ℕ, replicate, ap, sym, arith, ◌∙◌}
 use Rattle.spec_automata.specs.Encoding.{byte_between, next_byte, these_in_turn, without}
 use Rattle.lbnf_regex.specs.ByteSets.{flag_at}
 use Rattle.lbnf_regex.proofs.PatternLemmas.{pattern-Seq}

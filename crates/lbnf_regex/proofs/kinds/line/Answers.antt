@@ -1,5 +1,5 @@
 -- The opening word, and any bytes on the line.
-use Rattle.std.proofs.Common.{◌≡◌, ◌∷◌, [], ℕ, List, not, nat_eq, map, ap, ◌∙◌}
+use Rattle.std.proofs.Common.{◌≡◌, ◌∷◌, [], List, not, nat_eq, map, ap, ◌∙◌}
 use Rattle.spec_automata.specs.ByteExpressions.{ByteExpression, byte_in, empty, in_turn, star}
 use Rattle.spec_automata.specs.Encoding.{bytes_that, literal, these_in_turn}
 use Rattle.lbnf_regex.specs.declared.pattern.Pattern.{Pattern}

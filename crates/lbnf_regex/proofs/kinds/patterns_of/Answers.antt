@@ -1,9 +1,8 @@
 -- White space, the comments and the kinds in turn.
-use Rattle.std.proofs.Common.{◌≡◌, ◌∷◌, [], ◌++◌, ℕ, List, map, ap, ◌∙◌}
+use Rattle.std.proofs.Common.{◌≡◌, ◌∷◌, [], ◌++◌, List, map, ap, ◌∙◌}
 use Rattle.spec_lexing.specs.Kinds.{block_comment, line_comment, white}
 use Rattle.spec_automata.specs.ByteExpressions.{ByteExpression}
 use Rattle.spec_automata.specs.Encoding.{bytes_of_def, bytes_of_kind}
-use Rattle.lbnf_regex.specs.declared.pattern.Pattern.{Pattern}
 use Rattle.lbnf_regex.specs.Patterns.{bytes_of_pattern}
 use Rattle.lbnf_regex.proofs.LexiconLemmas.{all_kinds}
 use Rattle.lbnf_regex.proofs.kinds.patterns_of.Goals as goal
