@@ -94,3 +94,26 @@ fn the_last_state_that_fits_is_kept(rt: HostRuntime) -> Result<(), Fail> {
     assert!(rt; refused.is_err(), "1,024 states are too many");
     Ok(())
 }
+
+/// The automaton of one block comment.
+fn commented(alloc: Global, opening: &str, closing: &str) -> Result<Automaton, Fail> {
+    let words = (name(alloc, opening)?, name(alloc, closing)?);
+    let blocks = vec![in alloc; words]?;
+    Ok(made(alloc, &[], blocks.as_slice(), &[])?)
+}
+
+#[test]
+fn a_block_comment_ends_with_its_first_closing_text(rt: HostRuntime) -> Result<(), Fail> {
+    let automaton = commented(rt.alloc(), "/*", "**/")?;
+    let cases = [
+        ("/***/", Some(Kind::Comment)),
+        ("/****/", Some(Kind::Comment)),
+        ("/**/", None),
+        ("/**a*/", None),
+        ("/***/*", None),
+    ];
+    for (text, want) in cases {
+        assert_eq!(rt; kind_of(&automaton, text.as_bytes()), want, "at {text}");
+    }
+    Ok(())
+}
