@@ -15,7 +15,7 @@ pub const MAX_RULES: usize = 1_024;
 /// The most symbols of a grammar: categories, kinds, and items of all rules.
 pub const MAX_SYMBOLS: u32 = 2_048;
 
-/// The most states of an automaton behind its start.
+/// The most states of an automaton, its start included.
 pub const MAX_STATES: usize = 1_023;
 
 /// The most bytes of a script's line, without its LF.

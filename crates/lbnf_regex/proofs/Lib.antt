@@ -1,0 +1,15 @@
+pub mod PatternLemmas
+pub mod RepetitionLemmas
+pub mod ClosingLemmas
+pub mod PositionLemmas
+pub mod StepLemmas
+pub mod ExpectingLemmas
+pub mod SetLemmas
+pub mod PigeonLemmas
+pub mod StateLemmas
+pub mod CountingLemmas
+pub mod WalkLemmas
+pub mod PlaceLemmas
+pub mod ByteSetLemmas
+pub mod EncodingStepLemmas
+pub mod LexiconLemmas

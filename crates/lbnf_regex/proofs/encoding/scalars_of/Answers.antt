@@ -1,0 +1,7 @@
+-- The scalars that the bytes spell.
+use Rattle.std.proofs.Common.{rules}
+use Rattle.std.proofs.lemmas.Str.{chars_from_encodes}
+use Rattle.lbnf_regex.proofs.encoding.scalars_of.Goals as goal
+
+pub returns : goal.returns
+returns c = search (rules, chars_from_encodes)

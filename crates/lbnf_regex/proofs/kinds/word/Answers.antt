@@ -1,0 +1,15 @@
+-- Nothing is removed.
+use Rattle.std.proofs.Common.{◌≡◌, [], ◌∙◌}
+use Rattle.std.proofs.lemmas.Result.{IfOk-weaker}
+use Rattle.spec_automata.specs.Encoding.{literal, without}
+use Rattle.lbnf_regex.specs.declared.pattern.Pattern.{Pattern}
+use Rattle.lbnf_regex.specs.ByteSets.{flag_at}
+use Rattle.lbnf_regex.specs.Patterns.{bytes_of_pattern}
+use Rattle.lbnf_regex.proofs.EncodingStepLemmas.{without_flags}
+use Rattle.lbnf_regex.proofs.kinds.word.Goals as goal
+
+pub returns : goal.returns
+returns c =
+    let x = literal c.args.bytes.now in
+    IfOk-weaker c.literal.result (λ (p : Pattern). bytes_of_pattern p ≡ without (flag_at []) x)
+    (λ (p : Pattern). bytes_of_pattern p ≡ x) (λ p is. is ∙ without_flags x) c.literal.ensures

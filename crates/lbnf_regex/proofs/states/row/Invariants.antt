@@ -1,0 +1,13 @@
+use Rattle.std.proofs.Common.{◌≤◌, length}
+use Rattle.lbnf_regex.specs.Patterns.{bytes_of_pattern}
+use Rattle.lbnf_regex.specs.States.{state_at, Grows, AreStates, IsRow}
+use Rattle.lbnf_regex.proofs.states.row.Given as goal
+
+-- states were added, and the entries of the bytes so far are right
+abbrev pub invariant-loop-byte : goal.invariant-loop-byte
+invariant-loop-byte l = record {
+  grows : Grows l.fn.states l.states;
+  are : AreStates (bytes_of_pattern l.pattern) l.states;
+  few : length l.states ≤ l.most;
+  row : IsRow (bytes_of_pattern l.pattern) l.states (state_at l.fn.states l.i) l.byte l.row;
+}

@@ -1,0 +1,7 @@
+pub mod Automata
+pub mod Lexicons
+pub mod Patterns
+pub mod Steps
+pub mod Sets
+pub mod States
+pub mod ByteSets

@@ -1,0 +1,25 @@
+//! An automaton that recognises all kinds of a lexer at once.
+#![tactic(auto)]
+
+mod accepting;
+mod build;
+mod byte_set;
+mod comment;
+mod encoding;
+mod expecting;
+mod kind;
+mod kinds;
+mod lex_fault;
+mod machine;
+mod next_byte;
+mod next_set;
+mod pattern;
+mod states;
+
+pub use build::automaton;
+pub use kind::Kind;
+pub use lex_fault::LexFault;
+pub use machine::Automaton;
+
+#[cfg(test)]
+mod tests;

@@ -1,0 +1,98 @@
+//! The set of positions that follows a state by a byte.
+ghost use Rattle.std.specs.Prelude.{◌≡◌, ◌<◌, ◌^◌, OnOk, IfOk};
+ghost use Rattle.cell_sets.specs.Cells.{HaveSame, IsRising};
+ghost use Rattle.spec_automata.specs.Positions.{position_count};
+ghost use Rattle.lbnf_regex.specs.Patterns.{bytes_of_pattern};
+ghost use Rattle.lbnf_regex.specs.Sets.{AddsTargets, AreExpected, AreSmall, HaveJust, IsSetThat};
+ghost use Rattle.lbnf_regex.specs.Sets.{LeadsFrom};
+ghost use Rattle.lbnf_regex.specs.Steps.{IsSmall, LeadsJustTo};
+
+use crate::comment::border;
+use crate::expecting::expect;
+use crate::next_byte::NextByte;
+use crate::pattern::Pattern;
+use sqlite_items::Items;
+use std::alloc::{AllocError, Global};
+
+/// Each way in which the pattern expects a byte in the state; the start is the empty set.
+pub(crate) fn expected(
+    alloc: Global,
+    pattern: &Pattern,
+    state: &[u32],
+) -> Result<Items<NextByte>, AllocError>
+    requires { position_count (bytes_of_pattern pattern.now) < 2 ^ 32 }
+    ensures ok { IfOk result (AreExpected (bytes_of_pattern pattern.now) state.now) }
+    ensures small { IfOk result AreSmall }
+{
+    let mut expected = Items::new(alloc);
+    expect(alloc, pattern, 0, state.is_empty(), state, &mut expected)?;
+    Ok(expected)
+}
+
+fn target(next: &NextByte, byte: u8) -> Option<u32>
+    requires { IsSmall next.now }
+    ensures { LeadsJustTo next.now byte result }
+{
+    match next {
+        NextByte::InSet { position, set } => {
+            if set.as_slice().contains(&byte) {
+                Some(*position)
+            } else {
+                None
+            }
+        }
+        NextByte::InComment {
+            first,
+            closing,
+            size,
+        } => {
+            let longer = border(closing.as_slice(), *size, byte);
+            Some(*first + longer as u32)
+        }
+    }
+}
+
+fn add_target(next: &NextByte, byte: u8, positions: &mut Vec<u32>) -> Result<(), AllocError>
+    requires { IsSmall next.now }
+    ensures { OnOk result (AddsTargets next.now byte positions.old.items positions.new.items) }
+{
+    if let Some(position) = target(next, byte) {
+        positions.push(position)?;
+    }
+    Ok(())
+}
+
+fn targets(alloc: Global, expected: &[NextByte], byte: u8) -> Result<Vec<u32>, AllocError>
+    requires { AreSmall expected.now }
+    ensures { IfOk result (λ positions. HaveJust (LeadsFrom expected.now byte) positions.items) }
+{
+    let mut positions = Vec::new(alloc);
+    for next in expected {
+        add_target(next, byte, &mut positions)?;
+    }
+    Ok(positions)
+}
+
+fn in_order(positions: Vec<u32>) -> Result<Vec<u32>, AllocError>
+    ensures rising { IfOk result (λ set. IsRising set.items) }
+    ensures same { IfOk result (λ set. HaveSame positions.items set.items) }
+{
+    let mut set = positions;
+    set.sort()?;
+    set.dedup();
+    Ok(set)
+}
+
+/// The positions that the byte leads to, read in one of these ways.
+pub(crate) fn next_set(
+    alloc: Global,
+    expected: &[NextByte],
+    byte: u8,
+) -> Result<Items<u32>, AllocError>
+    requires { AreSmall expected.now }
+    ensures { IfOk result (IsSetThat (LeadsFrom expected.now byte)) }
+{
+    let positions = targets(alloc, expected, byte)?;
+    let set = in_order(positions)?;
+    Ok(Items::from_vec(set))
+}

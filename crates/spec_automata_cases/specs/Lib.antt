@@ -1,0 +1,3 @@
+pub mod PositionExamples
+pub mod CommentExamples
+pub mod StateExamples
