@@ -201,8 +201,8 @@ fn read_block<S: Source>(
     Ok(Block::Kept(block))
 }
 
-/// Reads the command `grammar` with its block. One of more than 65,536 bytes is passed over, which
-/// takes no memory; any other takes as much as it has bytes.
+/// Reads the part `grammar` with its block. One of more than 65,536 bytes is passed over, which
+/// takes a byte of memory, for its LF; any other takes as much as it has bytes.
 pub fn read_grammar<S: Source>(
     alloc: Global,
     source: &mut S,
