@@ -29,10 +29,10 @@ use Rattle.chart_service.specs.declared.accepting.LanguageFault.{LanguageFault}
 use Rattle.chart_service.specs.declared.ending.EarlyEnd.TheVariants.{Refused, Stopped}
 use Rattle.chart_service.specs.declared.session.Session.{Session}
 use Rattle.chart_service.specs.Serving.{IsPrefixOfSession}
-use Rattle.chart_service.specs.Replies.{bytes_of, Passes, Says}
+use Rattle.chart_service.specs.Replies.{line_bytes, Passes, Says}
 use Rattle.chart_service.specs.Languages.{IsFaultOf, IsRefusal}
 use Rattle.chart_service.specs.Sessions.{IsIn, is_open, CanReply, IsCommand, RepliesTo}
-use Rattle.chart_service.specs.Progress.{IsTold, Running, IsCutShort, HasEnded, EndsEarly}
+use Rattle.chart_service.specs.Progress.{IsToldBehind, Running, IsCutShort, HasEnded, EndsEarly}
 use Rattle.chart_service.specs.Progress.{HasAccepted}
 use Rattle.chart_service.proofs.ToldLemmas.{told_on, written_is_prefix, cut_is_prefix}
 use Rattle.chart_service.proofs.ToldLemmas.{line_is_prefix}
@@ -130,7 +130,7 @@ read_in_order block commands true h from to old new (Ask query) t meaning e =
 read_in_order block commands true h from to old new End t meaning e = absurd e
 
 -- nothing was told yet
-pub nothing_told : (before : List ℕ) (now : Option (List ℕ)) → now ≡ Some before → IsTold before now [] []
+pub nothing_told : (before : List ℕ) (now : Option (List ℕ)) → now ≡ Some before → IsToldBehind before now [] []
 nothing_told before now is = ([], is ∙ ap Some (sym (append-nil before)), refl)
 
 -- before a grammar was accepted, where nothing was told
@@ -278,7 +278,7 @@ module _ {C : Type 0} (input before : List ℕ) (coming : Option (List ℕ)) (at
     is_run = r.is_run;
     tells_open = r.tells_open;
     is_in = r.is_in;
-    is_told = subst (IsTold before new left) (append-nil told)
+    is_told = subst (IsToldBehind before new left) (append-nil told)
         (told_on before now new gathered [] left told r.is_told passes);
   }
 
@@ -412,7 +412,7 @@ module _ {C : Type 0} (input before : List ℕ) (coming : Option (List ℕ)) (at
         is_run = run;
         tells_open = subst (TellsOpen (with_grammar r.block (commands_of steps))) (sym replied.is_open) complete;
         is_in = subst (IsIn later) (sym (after_more no_texts r.steps step)) replied.is_in;
-        is_told = subst (IsTold before new left) lines (told_on before now new gathered line left told r.is_told passes);
+        is_told = subst (IsToldBehind before new left) lines (told_on before now new gathered line left told r.is_told passes);
       }
         where
           complete : AreComplete (commands_of steps)
@@ -435,10 +435,10 @@ module _ {C : Type 0} (input before : List ℕ) (coming : Option (List ℕ)) (at
     pub cut_reply : (later : Session C) → later.language ≡ g
         → (line : Result (String Global) AllocError)
         → IfOk line (λ text. RepliesTo (state_after no_texts r.steps) meaning (string_bytes text) later)
-        → (new : Option (List ℕ)) → GrowsByPrefix now new (gathered ++ bytes_of line)
+        → (new : Option (List ℕ)) → GrowsByPrefix now new (gathered ++ line_bytes line)
         → IsCutShort input before new
     cut_reply later same line replies new cut =
-        cut_is_prefix input before now new gathered (bytes_of line) told r.is_told cut
+        cut_is_prefix input before now new gathered (line_bytes line) told r.is_told cut
         (line_is_prefix input before told (λ bytes. RepliesTo (state_after no_texts r.steps) meaning bytes later)
         told_is_prefix (reply_is_prefix later same) line replies)
 
@@ -460,18 +460,18 @@ module _ {C : Type 0} (input before : List ℕ) (coming : Option (List ℕ)) (at
     is_run = tt;
     tells_open = subst (TellsOpen (with_grammar a.block [])) (sym closed) (a.block, refl);
     is_in = is_in;
-    is_told = subst (IsTold before new left) (sym (append-nil reply))
+    is_told = subst (IsToldBehind before new left) (sym (append-nil reply))
         (told_on before old new gathered reply left []
-        (subst (λ these. IsTold before old these []) (sym none) (nothing_told before old is)) passes);
+        (subst (λ these. IsToldBehind before old these []) (sym none) (nothing_told before old is)) passes);
   }
 
   -- or the reply is cut short
   pub cut_first : (gathered : List ℕ) → gathered ≡ [] → (line : Result (String Global) AllocError)
-      → IfOk line (λ text. string_bytes text ≡ reply) → GrowsByPrefix old new (gathered ++ bytes_of line)
+      → IfOk line (λ text. string_bytes text ≡ reply) → GrowsByPrefix old new (gathered ++ line_bytes line)
       → IsCutShort input before new
   cut_first gathered none line replies cut =
-      cut_is_prefix input before old new gathered (bytes_of line) []
-      (subst (λ these. IsTold before old these []) (sym none) (nothing_told before old is)) cut
+      cut_is_prefix input before old new gathered (line_bytes line) []
+      (subst (λ these. IsToldBehind before old these []) (sym none) (nothing_told before old is)) cut
       (line_is_prefix input before [] (λ bytes. bytes ≡ reply) (λ out status s. (out, refl)) goes line replies)
     where
       script : Script

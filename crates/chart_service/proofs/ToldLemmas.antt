@@ -12,15 +12,15 @@ use Rattle.cyk_io.specs.declared.fault.IoFault.TheVariants.{Read, Write, Memory}
 use Rattle.spec_session.specs.Sessions.{serve_mode, IsSession}
 use Rattle.spec_session.proofs.SessionsLemmas.{one_session}
 use Rattle.chart_service.specs.declared.status.Status.{Status}
-use Rattle.chart_service.specs.Statuses.{number_of, status_at, IsFault}
+use Rattle.chart_service.specs.Statuses.{number_of, status_at, EndsAtFault}
 use Rattle.chart_service.specs.Serving.{IsPrefixOfSession}
-use Rattle.chart_service.specs.Replies.{bytes_of, Passes, Finishes}
-use Rattle.chart_service.specs.Progress.{IsTold, IsCutShort, LacksLast, Ends}
+use Rattle.chart_service.specs.Replies.{line_bytes, Passes, Finishes}
+use Rattle.chart_service.specs.Progress.{IsToldBehind, IsCutShort, LacksLast, Ends}
 
 -- what was told goes on with the bytes that passed
 pub told_on : (before : List ℕ) (old new : Option (List ℕ)) (gathered bytes left told : List ℕ)
-    → IsTold before old gathered told → Passes old new gathered bytes left
-    → IsTold before new left (told ++ bytes)
+    → IsToldBehind before old gathered told → Passes old new gathered bytes left
+    → IsToldBehind before new left (told ++ bytes)
 told_on before old new gathered bytes left told t p = (
   t.0 ++ p.0,
   p.1 (before ++ t.0) t.1 ∙ ap Some (append_assoc before t.0 p.0),
@@ -31,7 +31,7 @@ told_on before old new gathered bytes left told t p = (
 )
 
 -- the status at a fault is a fault's
-pub fault_status : (fault : IoFault) → IsFault (status_at fault)
+pub fault_status : (fault : IoFault) → EndsAtFault (status_at fault)
 fault_status Read = inl refl
 fault_status Write = inr (inl refl)
 fault_status Memory = inr (inr refl)
@@ -64,12 +64,12 @@ module _ (input before : List ℕ) where
 
   -- where what was told is a prefix, so is what was written of it
   pub written_is_prefix : (now : Option (List ℕ)) (gathered told : List ℕ)
-      → IsTold before now gathered told → IsPrefixOfSession input told → IsCutShort input before now
+      → IsToldBehind before now gathered told → IsPrefixOfSession input told → IsCutShort input before now
   written_is_prefix now gathered told t h = (t.0, t.1, prefix_of_prefix told t.0 gathered h t.2)
 
   -- and so is what is written of it and the bytes behind it, where these go on with the prefix
   pub cut_is_prefix : (old new : Option (List ℕ)) (gathered bytes told : List ℕ)
-      → IsTold before old gathered told → GrowsByPrefix old new (gathered ++ bytes)
+      → IsToldBehind before old gathered told → GrowsByPrefix old new (gathered ++ bytes)
       → IsPrefixOfSession input (told ++ bytes) → IsCutShort input before new
   cut_is_prefix old new gathered bytes told t cut h =
       (out, cut.2 (before ++ t.0) t.1 ∙ ap Some (append_assoc before t.0 part), prefix_of_prefix (told ++ bytes) out rest h parts)
@@ -94,7 +94,7 @@ module _ (input before : List ℕ) where
   pub line_is_prefix : (told : List ℕ) (IsOne : List ℕ → Type 0) → IsPrefixOfSession input told
       → ((line : List ℕ) → IsOne line → IsPrefixOfSession input (told ++ line))
       → (line : Result (String Global) AllocError) → IfOk line (λ text. IsOne (string_bytes text))
-      → IsPrefixOfSession input (told ++ bytes_of line)
+      → IsPrefixOfSession input (told ++ line_bytes line)
   line_is_prefix told IsOne h goes (Ok text) is = goes (string_bytes text) is
   line_is_prefix told IsOne h goes (Err error) is = subst (IsPrefixOfSession input) (sym (append-nil told)) h
 
@@ -113,7 +113,7 @@ module _ (input before : List ℕ) where
       out : List ℕ
       out = l.told ++ bytes
 
-      t : IsTold before new [] (l.told ++ bytes)
+      t : IsToldBehind before new [] (l.told ++ bytes)
       t = told_on before old new gathered bytes [] l.told l.is_told
           (gathered ++ bytes, grows, sym (append-nil (gathered ++ bytes)))
 
@@ -133,5 +133,5 @@ module _ (input before : List ℕ) where
       let goes : (other : List ℕ) → IsLast other → IsPrefixOfSession input (l.told ++ other) =
       λ other last. whole_is_prefix (l.told ++ other) n (l.last other last) in
       let h = line_is_prefix l.told IsLast l.is_prefix goes line is in
-      let short = cut_is_prefix old new gathered (bytes_of line) l.told l.is_told cut h in
+      let short = cut_is_prefix old new gathered (line_bytes line) l.told l.is_told cut h in
       (short.0, short.1, inr (fault, short.2))

@@ -13,14 +13,14 @@ use Rattle.chart_service.specs.declared.ending.EarlyEnd.{EarlyEnd}
 use Rattle.chart_service.specs.declared.ending.EarlyEnd.TheVariants.{Refused, Stopped}
 use Rattle.chart_service.specs.declared.session.Session.{Session}
 use Rattle.chart_service.specs.declared.status.Status.{Status}
-use Rattle.chart_service.specs.Statuses.{number_of, IsFault}
+use Rattle.chart_service.specs.Statuses.{number_of, EndsAtFault}
 use Rattle.chart_service.specs.Serving.{IsPrefixOfSession}
 use Rattle.chart_service.specs.Languages.{CanOpen, IsRefusal}
 use Rattle.chart_service.specs.Sessions.{IsIn, is_open}
 
 -- what was told is what was written behind `before`, and then what is gathered
-abbrev pub IsTold : List ℕ → Option (List ℕ) → List ℕ → List ℕ → Type 0
-IsTold before now gathered told =
+abbrev pub IsToldBehind : List ℕ → Option (List ℕ) → List ℕ → List ℕ → Type 0
+IsToldBehind before now gathered told =
     (out : List ℕ) × (now ≡ Some (before ++ out)) × (told ≡ out ++ gathered)
 
 -- the script so far is a grammar that was accepted and the commands of a run, what comes stands
@@ -36,7 +36,7 @@ pub record Running {C : Type 0} (input before : List ℕ) (coming : Option (List
   pub is_run : IsRun session.language no_texts steps
   pub tells_open : TellsOpen (with_grammar block (commands_of steps)) (is_open session)
   pub is_in : IsIn session (state_after no_texts steps)
-  pub is_told : IsTold before now gathered
+  pub is_told : IsToldBehind before now gathered
       (grammar_reply session.language ++ replies_of steps)
 
 -- of the session a prefix was written
@@ -48,7 +48,7 @@ IsCutShort input before now =
 pub record LacksLast (input before : List ℕ) (now : Option (List ℕ)) (gathered : List ℕ)
     (IsLast : List ℕ → Type 0) (status : ℕ) : Type 0 where
   pub told : List ℕ
-  pub is_told : IsTold before now gathered told
+  pub is_told : IsToldBehind before now gathered told
   pub is_prefix : IsPrefixOfSession input told
   pub last : (line : List ℕ) → IsLast line → IsSession serve_mode input (told ++ line) status
 
@@ -70,7 +70,7 @@ abbrev pub Ends : List ℕ → List ℕ → Option (List ℕ) → Status → Typ
 Ends input before now status =
     (out : List ℕ) × (now ≡ Some (before ++ out))
     × (IsSession serve_mode input out (number_of status)
-    ⊎ (IsFault status × IsPrefixOfSession input out))
+    ⊎ (EndsAtFault status × IsPrefixOfSession input out))
 
 -- the session goes on, or the line `end` was read
 abbrev pub GoesOnOrHasEnded : {C : Type 0} → List ℕ → List ℕ → Option (List ℕ) → ℕ

@@ -24,5 +24,5 @@ status_at Write = WriteFault
 status_at Memory = OutOfMemory
 
 -- the status is that of a fault
-abbrev pub IsFault : Status → Type 0
-IsFault status = IsFaultStatus (number_of status)
+abbrev pub EndsAtFault : Status → Type 0
+EndsAtFault status = IsFaultStatus (number_of status)

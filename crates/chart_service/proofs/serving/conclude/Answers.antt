@@ -3,7 +3,7 @@ use Rattle.std.proofs.Common.{◌≡◌, inr, refl, sym, subst}
 use Rattle.spec_script.specs.Script.{ended, broken}
 use Rattle.spec_session.specs.Sessions.{last_line}
 use Rattle.chart_service.specs.declared.status.Status.TheVariants.{Ended, BadGrammar, BadScript}
-use Rattle.chart_service.specs.Statuses.{IsFault}
+use Rattle.chart_service.specs.Statuses.{EndsAtFault}
 use Rattle.chart_service.specs.Languages.{IsRefusal}
 use Rattle.chart_service.specs.Progress.{IsCutShort}
 use Rattle.chart_service.proofs.ToldLemmas.{finished, fault_status}
@@ -39,4 +39,4 @@ returns-in-Err-Stopped-Fault-clause-ok g c input before left written =
     let short : IsCutShort input before (g.K.Sink.written c.run.new.sink) =
     rw (c.in-Err-Stopped-Fault.field-0-is, c.in-Err-Stopped-Fault.field-0-0-is)
     at (c.in-Err-Stopped-Fault.ensures.err input before left written) in
-    (short.0, short.1, inr (subst IsFault (sym c.from.ensures) (fault_status c.in-Err-Stopped-Fault.fault), short.2))
+    (short.0, short.1, inr (subst EndsAtFault (sym c.from.ensures) (fault_status c.in-Err-Stopped-Fault.fault), short.2))
