@@ -6,7 +6,7 @@ use Rattle.std.proofs.Math.Seq.{take-append-add, take-append_seam}
 use Rattle.cyk_io.specs.Streams.{Grows, GrowsByPrefix}
 use Rattle.std.specs.declared.alloc.Global.{Global}
 use Rattle.std.specs.declared.alloc.AllocError.{AllocError}
-use Rattle.chart_service.specs.Replies.{line_bytes, Passes, Says, WritesOut}
+use Rattle.chart_service.specs.Replies.{line_in, Passes, Says, WritesOut}
 
 -- where nothing is written, all is left
 pub all_left : (old : Option (List ℕ)) (gathered bytes left : List ℕ) → left ≡ gathered ++ bytes
@@ -119,10 +119,10 @@ module _ (line : Result (String Global) AllocError) (old mid new : Option (List 
   written_out (Err fault) h = h
 
   pub out_cut : {X E : Type 0} → (r : Result X E) → OnErr r (GrowsByPrefix mid new left)
-      → OnErr r (GrowsByPrefix old new (gathered ++ line_bytes line))
+      → OnErr r (GrowsByPrefix old new (gathered ++ line_in line))
   out_cut (Ok x) h = h
   out_cut (Err fault) cut =
-      let P : Result (String Global) AllocError → Type 0 = λ r. GrowsByPrefix old new (gathered ++ line_bytes r) in
+      let P : Result (String Global) AllocError → Type 0 = λ r. GrowsByPrefix old new (gathered ++ line_in r) in
       subst P (sym says.1) (prefix_passed old mid new gathered (string_bytes says.0) left says.2 cut)
 
 -- the bytes of a line that was said passed

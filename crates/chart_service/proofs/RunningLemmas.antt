@@ -29,7 +29,7 @@ use Rattle.chart_service.specs.declared.accepting.LanguageFault.{LanguageFault}
 use Rattle.chart_service.specs.declared.ending.EarlyEnd.TheVariants.{Refused, Stopped}
 use Rattle.chart_service.specs.declared.session.Session.{Session}
 use Rattle.chart_service.specs.Serving.{IsPrefixOfSession}
-use Rattle.chart_service.specs.Replies.{line_bytes, Passes, Says}
+use Rattle.chart_service.specs.Replies.{line_in, Passes, Says}
 use Rattle.chart_service.specs.Languages.{IsFaultOf, IsRefusal}
 use Rattle.chart_service.specs.Sessions.{IsIn, is_open, CanReply, IsCommand, RepliesTo}
 use Rattle.chart_service.specs.Progress.{IsToldBehind, Running, IsCutShort, HasEnded, EndsEarly}
@@ -435,10 +435,10 @@ module _ {C : Type 0} (input before : List ℕ) (coming : Option (List ℕ)) (at
     pub cut_reply : (later : Session C) → later.language ≡ g
         → (line : Result (String Global) AllocError)
         → IfOk line (λ text. RepliesTo (state_after no_texts r.steps) meaning (string_bytes text) later)
-        → (new : Option (List ℕ)) → GrowsByPrefix now new (gathered ++ line_bytes line)
+        → (new : Option (List ℕ)) → GrowsByPrefix now new (gathered ++ line_in line)
         → IsCutShort input before new
     cut_reply later same line replies new cut =
-        cut_is_prefix input before now new gathered (line_bytes line) told r.is_told cut
+        cut_is_prefix input before now new gathered (line_in line) told r.is_told cut
         (line_is_prefix input before told (λ bytes. RepliesTo (state_after no_texts r.steps) meaning bytes later)
         told_is_prefix (reply_is_prefix later same) line replies)
 
@@ -467,10 +467,10 @@ module _ {C : Type 0} (input before : List ℕ) (coming : Option (List ℕ)) (at
 
   -- or the reply is cut short
   pub cut_first : (gathered : List ℕ) → gathered ≡ [] → (line : Result (String Global) AllocError)
-      → IfOk line (λ text. string_bytes text ≡ reply) → GrowsByPrefix old new (gathered ++ line_bytes line)
+      → IfOk line (λ text. string_bytes text ≡ reply) → GrowsByPrefix old new (gathered ++ line_in line)
       → IsCutShort input before new
   cut_first gathered none line replies cut =
-      cut_is_prefix input before old new gathered (line_bytes line) []
+      cut_is_prefix input before old new gathered (line_in line) []
       (subst (λ these. IsToldBehind before old these []) (sym none) (nothing_told before old is)) cut
       (line_is_prefix input before [] (λ bytes. bytes ≡ reply) (λ out status s. (out, refl)) goes line replies)
     where

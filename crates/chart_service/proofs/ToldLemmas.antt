@@ -14,7 +14,7 @@ use Rattle.spec_session.proofs.SessionsLemmas.{one_session}
 use Rattle.chart_service.specs.declared.status.Status.{Status}
 use Rattle.chart_service.specs.Statuses.{number_of, status_at, EndsAtFault}
 use Rattle.chart_service.specs.Serving.{IsPrefixOfSession}
-use Rattle.chart_service.specs.Replies.{line_bytes, Passes, Finishes}
+use Rattle.chart_service.specs.Replies.{line_in, Passes, Finishes}
 use Rattle.chart_service.specs.Progress.{IsToldBehind, IsCutShort, LacksLast, Ends}
 
 -- what was told goes on with the bytes that passed
@@ -94,7 +94,7 @@ module _ (input before : List ℕ) where
   pub line_is_prefix : (told : List ℕ) (IsOne : List ℕ → Type 0) → IsPrefixOfSession input told
       → ((line : List ℕ) → IsOne line → IsPrefixOfSession input (told ++ line))
       → (line : Result (String Global) AllocError) → IfOk line (λ text. IsOne (string_bytes text))
-      → IsPrefixOfSession input (told ++ line_bytes line)
+      → IsPrefixOfSession input (told ++ line_in line)
   line_is_prefix told IsOne h goes (Ok text) is = goes (string_bytes text) is
   line_is_prefix told IsOne h goes (Err error) is = subst (IsPrefixOfSession input) (sym (append-nil told)) h
 
@@ -133,5 +133,5 @@ module _ (input before : List ℕ) where
       let goes : (other : List ℕ) → IsLast other → IsPrefixOfSession input (l.told ++ other) =
       λ other last. whole_is_prefix (l.told ++ other) n (l.last other last) in
       let h = line_is_prefix l.told IsLast l.is_prefix goes line is in
-      let short = cut_is_prefix old new gathered (line_bytes line) l.told l.is_told cut h in
+      let short = cut_is_prefix old new gathered (line_in line) l.told l.is_told cut h in
       (short.0, short.1, inr (fault, short.2))

@@ -9,9 +9,9 @@ use Rattle.chart_service.specs.declared.status.Status.{Status}
 use Rattle.chart_service.specs.Statuses.{EndsAtFault}
 
 -- the bytes of the line; there are none where there was no memory for it
-abbrev pub line_bytes : Result (String Global) AllocError → List ℕ
-line_bytes (Ok text) = string_bytes text
-line_bytes (Err error) = []
+abbrev pub line_in : Result (String Global) AllocError → List ℕ
+line_in (Ok text) = string_bytes text
+line_in (Err error) = []
 
 -- of the gathered bytes and those that come behind them some are written first, and the rest is
 -- left
@@ -37,4 +37,4 @@ abbrev pub Finishes : Result (String Global) AllocError → Option (List ℕ) �
     → List ℕ → Status → Status → Type 0
 Finishes line old new gathered wanted status =
     (WritesOut line old new gathered × (status ≡ wanted))
-    ⊎ (GrowsByPrefix old new (gathered ++ line_bytes line) × EndsAtFault status)
+    ⊎ (GrowsByPrefix old new (gathered ++ line_in line) × EndsAtFault status)

@@ -2,7 +2,7 @@
 ghost use Rattle.std.specs.Prelude.{◌≡◌, ℕ, ◌++◌, [], IsTrue, IsFalse, IsErrOf, IfErr, OnOk, OnErr};
 ghost use Rattle.cyk_io.specs.Causes.{HasCause};
 ghost use Rattle.cyk_io.specs.Streams.{Grows, GrowsByPrefix};
-ghost use Rattle.chart_service.specs.Replies.{line_bytes, Passes, Says, WritesOut, Finishes};
+ghost use Rattle.chart_service.specs.Replies.{line_in, Passes, Says, WritesOut, Finishes};
 
 use crate::status::Status;
 use arrayvec::ArrayVec;
@@ -113,7 +113,7 @@ impl Replies {
         ensures ok { OnOk result
             (Says line (K.written sink.old) (K.written sink.new) self.old self.new) }
         ensures err { OnErr result
-            (GrowsByPrefix (K.written sink.old) (K.written sink.new) (self.old ++ line_bytes line)) }
+            (GrowsByPrefix (K.written sink.old) (K.written sink.new) (self.old ++ line_in line)) }
         ensures cause { HasCause (K.faults sink.old) (K.faults sink.new)
             (IsErrOf result IoFault.Write) }
         ensures read { IsErrOf result IoFault.Read → ⊥ }
@@ -136,7 +136,7 @@ impl Replies {
         ensures ok { OnOk result
             (WritesOut line (K.written sink.old) (K.written sink.new) self.old) }
         ensures err { OnErr result
-            (GrowsByPrefix (K.written sink.old) (K.written sink.new) (self.old ++ line_bytes line)) }
+            (GrowsByPrefix (K.written sink.old) (K.written sink.new) (self.old ++ line_in line)) }
         ensures cause { HasCause (K.faults sink.old) (K.faults sink.new)
             (IsErrOf result IoFault.Write) }
         ensures read { IsErrOf result IoFault.Read → ⊥ }
