@@ -154,7 +154,8 @@ impl Replies {
     ) -> Status
         requires read { wanted ≡ Status.ReadFault → ⊥ }
         requires write { wanted ≡ Status.WriteFault → ⊥ }
-        ensures ok { Finishes line (K.written sink.old) (K.written sink.new) self.old wanted result }
+        ensures ok { Finishes line (K.written sink.old) (K.written sink.new)
+            self.old wanted result }
         ensures cause { HasCause (K.faults sink.old) (K.faults sink.new)
             (result ≡ Status.WriteFault) }
         ensures read { result ≡ Status.ReadFault → ⊥ }

@@ -1,6 +1,6 @@
 //! Serving a script: each reply is written before the source is read again.
-ghost use Rattle.std.specs.Prelude.{◌≡◌, ◌+◌, ◌^◌, ◌<◌, ◌≤◌, ◌↔◌, ℕ, List, [], Some, IsTrue, IsErrOf};
-ghost use Rattle.std.specs.Prelude.{IfOk, IfErr, OnOk, string_bytes};
+ghost use Rattle.std.specs.Prelude.{◌≡◌, ◌+◌, ◌^◌, ◌<◌, ◌≤◌, ◌↔◌, ℕ, List, [], Some, IsTrue};
+ghost use Rattle.std.specs.Prelude.{IfOk, IfErr, IsErrOf, OnOk, string_bytes};
 ghost use Rattle.spec_text.specs.declared.limits.TheConstants.{MAX_SYMBOLS};
 ghost use Rattle.spec_script.specs.Script.{ended, broken};
 ghost use Rattle.spec_session.specs.Sessions.{last_line};
