@@ -4,6 +4,9 @@ use Rattle.shape_tree.specs.Openings.{AreOpenedParts}
 use Rattle.shape_tree.proofs.OpeningLemmas.{opened_parts}
 use Rattle.shape_tree.proofs.splitting.+split.Goals as goal
 
+-- The kept trees of a side that is cut are those that the call on it speaks of;
+-- those of the other side go with it, and a leaf stands in both parts.
+
 pub returns-then-at-before-clause-parts : goal.returns-then-at-before-clause-parts
 returns-then-at-before-clause-parts g t c given whole =
     let both = opened_parts g.T.Kept.has_parts given _ _ _ c.in_ok-tree.ensures.parts
