@@ -5,3 +5,4 @@ pub mod Heights
 pub mod Digits
 pub mod Edits
 pub mod Openings
+pub mod Turning

@@ -36,10 +36,7 @@ pub fn split<T: Kept>(
         → AreParts T.has_parts given p.0 × AreParts T.has_parts given p.1) }
 {
     match open(whole)? {
-        Opened::Leaf(tree) => {
-            let other = tree.share()?;
-            Ok((Shape::Kept(tree), Shape::Kept(other)))
-        }
+        Opened::Leaf(tree) => Ok((Shape::Kept(tree.share()?), Shape::Kept(tree))),
         Opened::Node(node) => {
             let before = node.left.len();
             if at <= before {

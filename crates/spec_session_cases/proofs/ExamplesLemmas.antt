@@ -11,7 +11,7 @@ use Rattle.spec_lbnf.specs.declared.fault.TextFault.TheVariants.{Syntax}
 use Rattle.spec_lbnf.specs.declared.fault.GrammarFault.TheVariants.{BadCoercion}
 use Rattle.spec_lbnf.specs.Faults.{Spells, IsFirstFault}
 use Rattle.spec_lbnf.specs.Checks.{IsFirst, HasAt, IsIllLabelled, IsBadCoercion, IsUnfit}
-use Rattle.lbnf_readers.specs.Scanning.{scan_of, behind_closing, behind_space, identifier_at, number_token_at, literal_from, string_at, character_at, sign_token_at, token_at, tokens_from}
+use Rattle.lbnf_readers.specs.Scanning.{scan_of, behind_closing, behind_space, identifier_at, number_token_at, literal_from, string_at, character_at, sign_token_at, file_token_at, tokens_from}
 use Rattle.lbnf_readers.specs.FileReading.{next_on, take_token, sign_at, name_at, text_at, number_at, closes_at, bracketed_at, category_at, nil_at, one_at, colon_label_at, paren_label_at, sign_label_at, label_at, item_at, items_at, side_at, rule_at, macro_at, list_macro_at, coercions_at, more_entries_at, entries_at, to_end, def_by, def_at}
 use Rattle.lbnf_readers.specs.FileDefinitions.{piece_def, defs_at}
 use Rattle.lbnf_readers.proofs.ScanLemmas.{scanned}
@@ -130,7 +130,7 @@ module _ (block more word : List ℕ) (digit : ℕ) (short : length block < 10) 
 
 -- a bracket is a fault of syntax
 faulty_block : IsFirstFault (codes ")") (Syntax 0)
-unfolding encode_utf8 chars is_utf8 behind_closing behind_space identifier_at number_token_at literal_from string_at character_at sign_token_at token_at tokens_from next_on take_token sign_at name_at text_at number_at closes_at bracketed_at category_at nil_at one_at colon_label_at paren_label_at sign_label_at label_at item_at items_at side_at rule_at macro_at list_macro_at coercions_at more_entries_at entries_at to_end def_by def_at piece_def defs_at
+unfolding encode_utf8 chars is_utf8 behind_closing behind_space identifier_at number_token_at literal_from string_at character_at sign_token_at file_token_at tokens_from next_on take_token sign_at name_at text_at number_at closes_at bracketed_at category_at nil_at one_at colon_label_at paren_label_at sign_label_at label_at item_at items_at side_at rule_at macro_at list_macro_at coercions_at more_entries_at entries_at to_end def_by def_at piece_def defs_at
 faulty_block =
     let bytes : List ℕ = codes ")" in
     fault_is bytes (scan_of bytes).0 (scan_of bytes).1 (scanned bytes) (Syntax 0) (record { few = omega arith; utf8 = IsUtf8-from_is_utf8 bytes refl }) refl
@@ -143,7 +143,7 @@ abbrev wild_rule : Def
 wild_rule = Rule (record { label = Wild; cat = record { name = codes "S"; depth = 0 }; items = [] })
 
 wild_block : Spells (codes "_.S::=") (wild_rule ∷ [])
-unfolding encode_utf8 chars is_utf8 behind_closing behind_space identifier_at number_token_at literal_from string_at character_at sign_token_at token_at tokens_from next_on take_token sign_at name_at text_at number_at closes_at bracketed_at category_at nil_at one_at colon_label_at paren_label_at sign_label_at label_at item_at items_at side_at rule_at macro_at list_macro_at coercions_at more_entries_at entries_at to_end def_by def_at piece_def defs_at
+unfolding encode_utf8 chars is_utf8 behind_closing behind_space identifier_at number_token_at literal_from string_at character_at sign_token_at file_token_at tokens_from next_on take_token sign_at name_at text_at number_at closes_at bracketed_at category_at nil_at one_at colon_label_at paren_label_at sign_label_at label_at item_at items_at side_at rule_at macro_at list_macro_at coercions_at more_entries_at entries_at to_end def_by def_at piece_def defs_at
 wild_block =
     let bytes : List ℕ = codes "_.S::=" in
     defs_are bytes (scan_of bytes).0 (scan_of bytes).1 (scanned bytes) (wild_rule ∷ []) (record { few = omega arith; utf8 = IsUtf8-from_is_utf8 bytes refl }) refl refl
