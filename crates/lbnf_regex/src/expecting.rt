@@ -1,7 +1,8 @@
 //! What a pattern expects next, where it is entered or has marked positions.
-ghost use Rattle.std.specs.Prelude.{◌≡◌, ◌+◌, ◌-◌, ◌<◌, ◌≤◌, ◌^◌, ◌↔◌, ◌⊎◌, length, true, IsTrue, OnOk};
-ghost use Rattle.std.specs.Prelude.{Contains, IfSome};
+ghost use Rattle.std.specs.Prelude.{◌≡◌, ◌+◌, ◌-◌, ◌<◌, ◌≤◌, ◌^◌, ◌↔◌, ◌⊎◌, length, map, true};
+ghost use Rattle.std.specs.Prelude.{Contains, IfSome, IsTrue, OnOk};
 ghost use Rattle.spec_automata.specs.ByteExpressions.{until};
+ghost use Rattle.spec_automata.specs.Encoding.{one_of_these, these_in_turn};
 ghost use Rattle.spec_automata.specs.Positions.{position_count};
 ghost use Rattle.lbnf_regex.specs.Patterns.{bytes_of_pattern};
 ghost use Rattle.lbnf_regex.specs.Steps.{is_nullable as can_be_empty, HasLast, EntersBehind};
@@ -113,8 +114,8 @@ fn ends_behind(own: bool, before: bool, nullable: bool) -> bool
     own || (nullable && before)
 }
 
-/// Whether a match can end at a marked position. The pattern's positions are numbered from the first
-/// on.
+/// Whether a match can end at a marked position. The pattern's positions are numbered from the
+/// first on.
 pub(crate) fn can_end(pattern: &Pattern, first: u32, marks: &[u32]) -> bool
     requires { first + position_count (bytes_of_pattern pattern.now) < 2 ^ 32 }
     ensures { IsTrue result ↔ HasLast (bytes_of_pattern pattern.now) first (Contains marks.now) }
@@ -255,7 +256,54 @@ fn expect_closing(
     expect_inside(alloc, closing, first, marks, into)
 }
 
+/// Adds each way in which the parts in turn expect the next byte.
+#[cycle(expect)]
+fn expect_in_turn(
+    alloc: Global,
+    parts: &[Pattern],
+    first: u32,
+    entered: bool,
+    marks: &[u32],
+    into: &mut Items<NextByte>,
+) -> Result<(), AllocError>
+    requires { first + position_count (these_in_turn (map bytes_of_pattern parts.now)) < 2 ^ 32 }
+    ensures { OnOk result (AddsExpected (these_in_turn (map bytes_of_pattern parts.now)) first
+        (IsTrue entered) (Contains marks.now) into.old into.new) }
+{
+    let mut start = first;
+    let mut enters = entered;
+    for part in parts {
+        expect(alloc, part, start, enters, marks, into)?;
+        enters = enters_behind(part, start, enters, marks);
+        start += size(part);
+    }
+    Ok(())
+}
+
+/// Adds each way in which one of the parts expects the next byte.
+#[cycle(expect)]
+fn expect_one_of(
+    alloc: Global,
+    parts: &[Pattern],
+    first: u32,
+    entered: bool,
+    marks: &[u32],
+    into: &mut Items<NextByte>,
+) -> Result<(), AllocError>
+    requires { first + position_count (one_of_these (map bytes_of_pattern parts.now)) < 2 ^ 32 }
+    ensures { OnOk result (AddsExpected (one_of_these (map bytes_of_pattern parts.now)) first
+        (IsTrue entered) (Contains marks.now) into.old into.new) }
+{
+    let mut start = first;
+    for part in parts {
+        expect(alloc, part, start, entered, marks, into)?;
+        start += size(part);
+    }
+    Ok(())
+}
+
 /// Adds each way in which the pattern expects the next byte.
+#[cycle(expect)]
 pub(crate) fn expect(
     alloc: Global,
     pattern: &Pattern,
@@ -272,23 +320,9 @@ pub(crate) fn expect(
         Pattern::Empty => Ok(()),
         Pattern::Bytes(set) => expect_set(alloc, set.as_slice(), first, entered, into),
         Pattern::Seq(parts) => {
-            let mut start = first;
-            let mut enters = entered;
-            for part in parts.as_slice() {
-                expect(alloc, part, start, enters, marks, into)?;
-                enters = enters_behind(part, start, enters, marks);
-                start += size(part);
-            }
-            Ok(())
+            expect_in_turn(alloc, parts.as_slice(), first, entered, marks, into)
         }
-        Pattern::Alt(parts) => {
-            let mut start = first;
-            for part in parts.as_slice() {
-                expect(alloc, part, start, entered, marks, into)?;
-                start += size(part);
-            }
-            Ok(())
-        }
+        Pattern::Alt(parts) => expect_one_of(alloc, parts.as_slice(), first, entered, marks, into),
         Pattern::Star(part) => {
             let inner = part.get();
             let enters = enters_again(inner, first, entered, marks);
