@@ -7,6 +7,7 @@ ghost use Rattle.lbnf_regex.specs.States.{ArePlaces, IsLeastEnding};
 
 use crate::expecting::{can_end, size};
 use crate::pattern::Pattern;
+use crate::state_list::States;
 use sqlite_items::Items;
 use std::alloc::{AllocError, Global};
 
@@ -31,14 +32,14 @@ fn least_place(kinds: &[Pattern], marks: &[u32]) -> Option<usize>
 pub(crate) fn places(
     alloc: Global,
     kinds: &[Pattern],
-    states: &[Items<u32>],
+    states: &States,
 ) -> Result<Items<Option<usize>>, AllocError>
     requires { position_count (one_of_these (map bytes_of_pattern kinds.now)) < 2 ^ 32 }
     ensures { IfOk result (ArePlaces (map bytes_of_pattern kinds.now) states.now) }
 {
     let mut places = Items::new(alloc);
     for i in 0..states.len() {
-        places.push(least_place(kinds, states[i].as_slice()))?;
+        places.push(least_place(kinds, states.at(i)))?;
     }
     Ok(places)
 }

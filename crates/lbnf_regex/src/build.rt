@@ -55,7 +55,7 @@ pub(crate) fn automaton_of(
         return Err(LexFault::Memory);
     };
     let Table { states, rows } = make_table(alloc, &all, most)?;
-    let places = places(alloc, parts_of(&all), states.as_slice())?;
+    let places = places(alloc, parts_of(&all), &states)?;
     Ok(Automaton::of(rows, places, comments))
 }
 

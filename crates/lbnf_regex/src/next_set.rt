@@ -88,11 +88,10 @@ pub(crate) fn next_set(
     alloc: Global,
     expected: &[NextByte],
     byte: u8,
-) -> Result<Items<u32>, AllocError>
+) -> Result<Vec<u32>, AllocError>
     requires { AreSmall expected.now }
-    ensures { IfOk result (IsSetThat (LeadsFrom expected.now byte)) }
+    ensures { IfOk result (λ set. IsSetThat (LeadsFrom expected.now byte) set.items) }
 {
     let positions = targets(alloc, expected, byte)?;
-    let set = in_order(positions)?;
-    Ok(Items::from_vec(set))
+    in_order(positions)
 }

@@ -32,7 +32,7 @@ returns-clause-places c =
     let rows_are : c.of.result.rows ≡ made.rows = ap (λ (a : Machine). a.rows) c.of.ensures in
     let places_are : c.of.result.places ≡ c.in_ok-places.places = ap (λ (a : Machine). a.places) c.of.ensures in
     let are : ArePlaces xs made.states c.in_ok-places.places =
-    rw (c.parts_of.ensures c.args.kinds refl, c.as_slice.ensures) at c.in_ok-places.ensures in
+    rw (c.parts_of.ensures c.args.kinds refl) at c.in_ok-places.ensures in
     rw (rows_are, places_are)
     (are_accepted xs c.args.most made.states made.rows c.in_ok-places.places table are)
 
@@ -53,6 +53,6 @@ of-requires c =
     subst (λ (z : ByteExpression). IsTable z c.args.most made.states made.rows) (pattern-Alt c.args.kinds)
     c.in_ok-states.ensures.table in
     let are : ArePlaces xs made.states c.in_ok-places.places =
-    rw (c.parts_of.ensures c.args.kinds refl, c.as_slice.ensures) at c.in_ok-places.ensures in
+    rw (c.parts_of.ensures c.args.kinds refl) at c.in_ok-places.ensures in
     is_whole xs (one_of_these xs) c.args.most c.args.comments made.states made.rows c.in_ok-places.places c.requires.room
     (omega (arith, c.requires.few, length-map c.args.kinds bytes_of_pattern)) table are
