@@ -5,7 +5,7 @@ ghost use Rattle.spec_automata.specs.Positions.{position_count};
 ghost use Rattle.lbnf_regex.specs.Patterns.{bytes_of_pattern};
 ghost use Rattle.lbnf_regex.specs.States.{ArePlaces, IsLeastEnding};
 
-use crate::expecting::{can_end, size};
+use crate::expecting::{can_end_within, size};
 use crate::pattern::Pattern;
 use crate::state_list::States;
 use sqlite_items::Items;
@@ -20,10 +20,11 @@ fn least_place(kinds: &[Pattern], marks: &[u32]) -> Option<usize>
     let mut start = 0;
     for i in 0..kinds.len() {
         let kind = &kinds[i];
-        if can_end(kind, start, marks) {
+        let count = size(kind);
+        if can_end_within(kind, start, count, marks) {
             return Some(i);
         }
-        start += size(kind);
+        start += count;
     }
     None
 }

@@ -5,8 +5,9 @@ ghost use Rattle.spec_automata.specs.ByteExpressions.{until};
 ghost use Rattle.spec_automata.specs.Encoding.{one_of_these, these_in_turn};
 ghost use Rattle.spec_automata.specs.Positions.{position_count};
 ghost use Rattle.lbnf_regex.specs.Patterns.{bytes_of_pattern};
-ghost use Rattle.lbnf_regex.specs.Steps.{is_nullable as can_be_empty, HasLast, EntersBehind};
-ghost use Rattle.lbnf_regex.specs.Steps.{EntersAgain, AddsExpected, AddsIf, AddsInside};
+ghost use Rattle.lbnf_regex.specs.Steps.{is_nullable as can_be_empty, HasLast, HasWithin};
+ghost use Rattle.lbnf_regex.specs.Steps.{EntersAgain, EntersBehind, AddsExpected, AddsIf};
+ghost use Rattle.lbnf_regex.specs.Steps.{AddsInside};
 ghost use Rattle.lbnf_regex.specs.declared.next_byte.NextByte.TheVariants.{InSet, InComment};
 
 use crate::next_byte::NextByte;
@@ -107,6 +108,26 @@ fn has(marks: &[u32], position: u32) -> bool
     marks.contains(&position)
 }
 
+fn is_within(position: u32, first: u32, count: u32) -> bool
+    requires { first + count < 2 ^ 32 }
+    ensures { IsTrue result ↔ ((first ≤ position) × (position < first + count)) }
+{
+    first <= position && position < first + count
+}
+
+/// Whether one of so many positions, from the first on, is marked.
+fn has_within(marks: &[u32], first: u32, count: u32) -> bool
+    requires { first + count < 2 ^ 32 }
+    ensures { IsTrue result ↔ HasWithin first count (Contains marks.now) }
+{
+    for mark in marks {
+        if is_within(*mark, first, count) {
+            return true;
+        }
+    }
+    false
+}
+
 /// Whether a match that could end here still can, behind a part that may be empty.
 fn ends_behind(own: bool, before: bool, nullable: bool) -> bool
     ensures { IsTrue result ↔ (IsTrue own ⊎ ((nullable ≡ true) × IsTrue before)) }
@@ -147,6 +168,16 @@ pub(crate) fn can_end(pattern: &Pattern, first: u32, marks: &[u32]) -> bool
         Pattern::Plus(part) => can_end(part.get(), first, marks),
         Pattern::Until(closing) => has(marks, first + closing.len() as u32),
     }
+}
+
+/// Whether a match can end at a marked position, as `can_end` tells. A pattern without marks, of
+/// this many positions, is passed over.
+pub(crate) fn can_end_within(pattern: &Pattern, first: u32, count: u32, marks: &[u32]) -> bool
+    requires room { first + position_count (bytes_of_pattern pattern.now) < 2 ^ 32 }
+    requires count { count ≡ position_count (bytes_of_pattern pattern.now) }
+    ensures { IsTrue result ↔ HasLast (bytes_of_pattern pattern.now) first (Contains marks.now) }
+{
+    has_within(marks, first, count) && can_end(pattern, first, marks)
 }
 
 /// Whether what stands behind the pattern is entered.
@@ -280,6 +311,14 @@ fn expect_in_turn(
     Ok(())
 }
 
+/// Whether a part of so many positions, from the first on, is entered or has marked positions.
+fn is_alive(first: u32, count: u32, entered: bool, marks: &[u32]) -> bool
+    requires { first + count < 2 ^ 32 }
+    ensures { IsTrue result ↔ (IsTrue entered ⊎ HasWithin first count (Contains marks.now)) }
+{
+    entered || has_within(marks, first, count)
+}
+
 /// Adds each way in which one of the parts expects the next byte.
 #[cycle(expect)]
 fn expect_one_of(
@@ -296,8 +335,11 @@ fn expect_one_of(
 {
     let mut start = first;
     for part in parts {
-        expect(alloc, part, start, entered, marks, into)?;
-        start += size(part);
+        let count = size(part);
+        if is_alive(start, count, entered, marks) {
+            expect(alloc, part, start, entered, marks, into)?;
+        }
+        start += count;
     }
     Ok(())
 }

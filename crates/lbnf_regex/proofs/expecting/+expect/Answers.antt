@@ -1,12 +1,14 @@
 -- A part stands before those that are left.
-use Rattle.std.proofs.Common.{◌+◌, IsTrue, drop, map, ap, arith, ◌∙◌}
+use Rattle.std.proofs.Common.{◌+◌, IsTrue, drop, map, ap, arith, sym, ◌∙◌}
 use Rattle.std.specs.List.{Contains}
+use Rattle.std.proofs.lemmas.Bool.{false≢true}
 use Rattle.std.proofs.lemmas.Result.{on_ok_weaker}
 use Rattle.spec_automata.specs.ByteExpressions.{empty, nothing}
 use Rattle.spec_automata.specs.Encoding.{one_of_these, these_in_turn}
 use Rattle.lbnf_regex.specs.Patterns.{bytes_of_pattern}
+use Rattle.lbnf_regex.specs.Steps.{AddsExpected}
 use Rattle.lbnf_regex.proofs.PatternLemmas.{pattern-Bytes, pattern-Seq, pattern-Alt, pattern-Star, pattern-Plus, pattern-Until}
-use Rattle.lbnf_regex.proofs.ExpectingLemmas.{parts_more, parts_end, adds_none, adds_in_turn, adds_either, adds_star, adds_plus}
+use Rattle.lbnf_regex.proofs.ExpectingLemmas.{parts_more, parts_end, adds_none, adds_dead, adds_in_turn, adds_either, adds_star, adds_plus}
 use Rattle.lbnf_regex.proofs.expecting.+expect.Goals as goal
 
 pub expect_in_turn-loop-part-preserved : goal.expect_in_turn-loop-part-preserved
@@ -39,17 +41,27 @@ expect_one_of-loop-part-preserved t c =
     let parts = c.args.parts.now in
     let i = c.loop-part.part-index in
     let part = c.part-item.result in
+    let x = bytes_of_pattern part in
+    let start = c.loop-part.start in
+    let M = Contains c.args.marks.now in
     let more = parts_more parts i part c.loop-part-test.true c.part-item.is in
     let room = rw more at c.loop-part.invariant.room in
     let rest = rw more at c.loop-part.invariant.rest in
+    let own : AddsExpected x start (IsTrue c.args.entered) M c.loop-part.into c.if-is_alive.into =
+    elim c.if-is_alive.branch [
+      | goal.expect_one_of-then-is_alive+in_ok-expect w ↦ rw w.into-is w.in_ok-expect.ensures
+      | goal.expect_one_of-else-is_alive w ↦
+          rw w.into-is
+          (adds_dead x start c.size-count.result (IsTrue c.args.entered) M c.loop-part.into c.size-count.ensures
+          (λ alive. false≢true (sym w.if-is_alive.false ∙ c.is_alive.ensures.1 alive)))
+    ] in
     record {
-      room = omega (arith, room, c.size-start.ensures);
+      room = omega (arith, room, c.size-count.ensures);
       rest = λ new adds.
           rest new
-          (adds_either (bytes_of_pattern part) (one_of_these (map bytes_of_pattern (drop (i + 1) parts))) c.loop-part.start
-          (c.loop-part.start + c.size-start.result) (IsTrue c.args.entered) (Contains c.args.marks.now)
-          (omega (arith, c.size-start.ensures)) c.loop-part.into c.expect.new.into new
-          c.in_ok-expect.ensures adds);
+          (adds_either x (one_of_these (map bytes_of_pattern (drop (i + 1) parts))) start
+          (start + c.size-count.result) (IsTrue c.args.entered) M
+          (omega (arith, c.size-count.ensures)) c.loop-part.into c.if-is_alive.into new own adds);
     }
 
 pub expect_one_of-returns : goal.expect_one_of-returns
