@@ -186,7 +186,7 @@ fn enters_behind(pattern: &Pattern, first: u32, entered: bool, marks: &[u32]) ->
     ensures { IsTrue result ↔
         EntersBehind (bytes_of_pattern pattern.now) first (IsTrue entered) (Contains marks.now) }
 {
-    (is_nullable(pattern) && entered) || can_end(pattern, first, marks)
+    (entered && is_nullable(pattern)) || can_end(pattern, first, marks)
 }
 
 /// Whether a repeated pattern is entered, from before or again.
