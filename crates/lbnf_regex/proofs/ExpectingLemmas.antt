@@ -2,14 +2,14 @@
 use Rattle.std.proofs.Common.{◌≡◌, ℕ, ◌+◌, ◌-◌, ◌<◌, ◌≤◌, ◌^◌, ◌↔◌, ◌⊎◌, List, [], ◌∷◌, ◌++◌, map, drop, length, get_or, true, sym, ◌∙◌, ap, inl, inr, arith, subst}
 use Rattle.std.specs.List.{Contains}
 use Rattle.std.proofs.lemmas.Bool.{and_parts, and_from}
-use Rattle.std.proofs.lemmas.List.{drop_more, drop_all}
+use Rattle.std.proofs.lemmas.List.{drop_more, drop_all, get_or-map}
 use Rattle.std.proofs.lemmas.List.Elements.{Contains-append_left, Contains-push, Contains-push_cases}
 use Rattle.spec_automata.specs.ByteExpressions.{ByteExpression, empty, nothing, byte_in, in_turn, either, star, plus, until}
 use Rattle.spec_automata.specs.Positions.{position_count}
 use Rattle.lbnf_regex.specs.declared.pattern.Pattern.{Pattern}
 use Rattle.lbnf_regex.specs.declared.next_byte.NextByte.{NextByte}
 use Rattle.lbnf_regex.specs.declared.next_byte.NextByte.TheVariants.{InComment}
-use Rattle.lbnf_regex.specs.Patterns.{bytes_of_pattern}
+use Rattle.lbnf_regex.specs.Patterns.{bytes_of_pattern, sizes_of}
 use Rattle.lbnf_regex.proofs.PositionLemmas.{last_within}
 use Rattle.lbnf_regex.specs.Steps.{is_nullable, HasLast, HasWithin, EntersBehind, EntersAgain, Expects, AddsExpected, AddsIf, AddsInside, IsSmall}
 
@@ -170,6 +170,14 @@ parts_more parts i part lt is =
 
 pub parts_end : (parts : List Pattern) (i : ℕ) → length parts ≤ i → map bytes_of_pattern (drop i parts) ≡ []
 parts_end parts i le = ap (map bytes_of_pattern) (drop_all i parts le)
+
+-- a size is that of the pattern in its place
+pub size_at : (patterns : List Pattern) (sizes : List ℕ) (i : ℕ) (pattern : Pattern) → sizes ≡ sizes_of patterns →
+    i < length patterns → pattern ≡ get_or patterns i pattern → get_or sizes i 0 ≡ position_count (bytes_of_pattern pattern)
+size_at patterns sizes i pattern are lt is =
+    ap (λ (z : List ℕ). get_or z i 0) are
+    ∙ get_or-map (λ (p : Pattern). position_count (bytes_of_pattern p)) patterns i pattern 0 lt
+    ∙ ap (λ (p : Pattern). position_count (bytes_of_pattern p)) (sym is)
 
 -- the last positions of two in turn, or of what stood before them
 pub last_in_turn : (x y : ByteExpression) (n : ℕ) (M : ℕ → Type 0) (B : Type 0) →

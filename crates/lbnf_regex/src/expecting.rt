@@ -1,10 +1,10 @@
 //! What a pattern expects next, where it is entered or has marked positions.
 ghost use Rattle.std.specs.Prelude.{◌≡◌, ◌+◌, ◌-◌, ◌<◌, ◌≤◌, ◌^◌, ◌↔◌, ◌⊎◌, length, map, true};
-ghost use Rattle.std.specs.Prelude.{Contains, IfSome, IsTrue, OnOk};
+ghost use Rattle.std.specs.Prelude.{Contains, IfOk, IfSome, IsTrue, OnOk};
 ghost use Rattle.spec_automata.specs.ByteExpressions.{until};
 ghost use Rattle.spec_automata.specs.Encoding.{one_of_these, these_in_turn};
 ghost use Rattle.spec_automata.specs.Positions.{position_count};
-ghost use Rattle.lbnf_regex.specs.Patterns.{bytes_of_pattern};
+ghost use Rattle.lbnf_regex.specs.Patterns.{bytes_of_pattern, sizes_of};
 ghost use Rattle.lbnf_regex.specs.Steps.{is_nullable as can_be_empty, HasLast, HasWithin};
 ghost use Rattle.lbnf_regex.specs.Steps.{EntersAgain, EntersBehind, AddsExpected, AddsIf};
 ghost use Rattle.lbnf_regex.specs.Steps.{AddsInside};
@@ -46,7 +46,7 @@ pub(crate) fn size_if_fits(pattern: &Pattern) -> Option<u32>
 }
 
 /// How many positions the pattern has.
-pub(crate) fn size(pattern: &Pattern) -> u32
+fn size(pattern: &Pattern) -> u32
     requires { position_count (bytes_of_pattern pattern.now) < 2 ^ 32 }
     ensures { result ≡ position_count (bytes_of_pattern pattern.now) }
 {
@@ -71,6 +71,18 @@ pub(crate) fn size(pattern: &Pattern) -> u32
         Pattern::Plus(part) => size(part.get()),
         Pattern::Until(closing) => closing.len() as u32 + 1,
     }
+}
+
+/// How many positions each of the patterns has.
+pub(crate) fn sizes(alloc: Global, patterns: &[Pattern]) -> Result<Items<u32>, AllocError>
+    requires { position_count (one_of_these (map bytes_of_pattern patterns.now)) < 2 ^ 32 }
+    ensures { IfOk result (λ sizes. sizes ≡ sizes_of patterns.now) }
+{
+    let mut sizes = Items::new(alloc);
+    for pattern in patterns {
+        sizes.push(size(pattern))?;
+    }
+    Ok(sizes)
 }
 
 /// Whether the pattern matches the empty text.
@@ -137,7 +149,7 @@ fn ends_behind(own: bool, before: bool, nullable: bool) -> bool
 
 /// Whether a match can end at a marked position. The pattern's positions are numbered from the
 /// first on.
-pub(crate) fn can_end(pattern: &Pattern, first: u32, marks: &[u32]) -> bool
+fn can_end(pattern: &Pattern, first: u32, marks: &[u32]) -> bool
     requires { first + position_count (bytes_of_pattern pattern.now) < 2 ^ 32 }
     ensures { IsTrue result ↔ HasLast (bytes_of_pattern pattern.now) first (Contains marks.now) }
 {
@@ -346,7 +358,7 @@ fn expect_one_of(
 
 /// Adds each way in which the pattern expects the next byte.
 #[cycle(expect)]
-pub(crate) fn expect(
+fn expect(
     alloc: Global,
     pattern: &Pattern,
     first: u32,
@@ -379,4 +391,31 @@ pub(crate) fn expect(
             expect_closing(alloc, closing.as_slice(), first, entered, marks, into)
         }
     }
+}
+
+/// Adds each way in which one of the patterns, of these sizes, expects the next byte. Their
+/// positions are numbered in turn.
+pub(crate) fn expect_any(
+    alloc: Global,
+    patterns: &[Pattern],
+    sizes: &[u32],
+    entered: bool,
+    marks: &[u32],
+    into: &mut Items<NextByte>,
+) -> Result<(), AllocError>
+    requires room { position_count (one_of_these (map bytes_of_pattern patterns.now)) < 2 ^ 32 }
+    requires sizes { sizes.now ≡ sizes_of patterns.now }
+    ensures { OnOk result (AddsExpected (one_of_these (map bytes_of_pattern patterns.now)) 0
+        (IsTrue entered) (Contains marks.now) into.old into.new) }
+{
+    let mut start = 0;
+    for i in 0..patterns.len() {
+        let pattern = &patterns[i];
+        let count = sizes[i];
+        if is_alive(start, count, entered, marks) {
+            expect(alloc, pattern, start, entered, marks, into)?;
+        }
+        start += count;
+    }
+    Ok(())
 }

@@ -1,11 +1,11 @@
 -- The kinds before this one have no match that ends here.
-use Rattle.std.proofs.Common.{◌≡◌, ℕ, ◌<◌, ◌+◌, ◌-◌, ◌⊎◌, map, arith, subst, sym, inl, inr, ◌∙◌}
+use Rattle.std.proofs.Common.{◌≡◌, ℕ, ◌<◌, ◌+◌, ◌-◌, ◌⊎◌, map, get_or, arith, subst, sym, inl, inr, ◌∙◌}
 use Rattle.std.specs.List.{Contains}
 use Rattle.std.proofs.lemmas.Bool.{false≢true}
 use Rattle.spec_automata.specs.Positions.{position_count}
 use Rattle.lbnf_regex.specs.Patterns.{bytes_of_pattern}
 use Rattle.lbnf_regex.specs.States.{EndsInPlace}
-use Rattle.lbnf_regex.proofs.ExpectingLemmas.{parts_more}
+use Rattle.lbnf_regex.proofs.ExpectingLemmas.{parts_more, size_at}
 use Rattle.lbnf_regex.proofs.PlaceLemmas.{place_here, place_behind, no_place}
 use Rattle.lbnf_regex.proofs.accepting.least_place.Goals as goal
 
@@ -29,15 +29,17 @@ loop-i-preserved c =
     let M : ℕ → Type 0 = Contains c.args.marks.now in
     let P : ℕ → Type 0 = EndsInPlace (map bytes_of_pattern kinds) 0 M in
     let kind = c.index-kinds-i.result in
+    let count : ℕ = get_or c.args.sizes.now c.loop-i.i 0 in
+    let size = size_at kinds c.args.sizes.now c.loop-i.i kind c.requires.sizes c.loop-i-test.true c.index-kinds-i.is in
     let room = rw (parts_more kinds c.loop-i.i kind c.loop-i-test.true c.index-kinds-i.is) at c.loop-i.invariant.room in
     let here =
-    place_here kinds c.loop-i.i kind c.loop-i.start (c.loop-i.start + c.size-count.result) M c.loop-i-test.true
-    c.index-kinds-i.is (omega (arith, c.size-count.ensures)) in
+    place_here kinds c.loop-i.i kind c.loop-i.start (c.loop-i.start + count) M c.loop-i-test.true
+    c.index-kinds-i.is (omega (arith, size)) in
     let behind =
-    place_behind kinds c.loop-i.i kind c.loop-i.start (c.loop-i.start + c.size-count.result) M c.loop-i-test.true
-    c.index-kinds-i.is (omega (arith, c.size-count.ensures)) in
+    place_behind kinds c.loop-i.i kind c.loop-i.start (c.loop-i.start + count) M c.loop-i-test.true
+    c.index-kinds-i.is (omega (arith, size)) in
     record {
-      room = omega (arith, room, c.size-count.ensures);
+      room = omega (arith, room, size);
       before = λ k lt h. elim (below_or_last k c.loop-i.i lt) [
         | inl below ↦ c.loop-i.invariant.before k below h
         | inr e ↦

@@ -1,7 +1,8 @@
 -- Each entry is right, and states that are added change none before it.
-use Rattle.std.proofs.Common.{◌≡◌, ℕ, ◌<◌, List, length, sym, subst, arith, ◌∙◌}
+use Rattle.std.proofs.Common.{map, ◌≡◌, ℕ, ◌<◌, List, length, sym, subst, arith, ◌∙◌}
 use Rattle.std.proofs.lemmas.Result.{err_from_is_err_and}
 use Rattle.lbnf_regex.specs.declared.lex_fault.LexFault.TheVariants.{TooManyStates}
+use Rattle.spec_automata.specs.Encoding.{one_of_these}
 use Rattle.lbnf_regex.specs.Patterns.{bytes_of_pattern}
 use Rattle.lbnf_regex.specs.Sets.{AreExpected}
 use Rattle.lbnf_regex.specs.States.{state_at, IsEntry}
@@ -10,7 +11,7 @@ use Rattle.lbnf_regex.proofs.states.row.Goals as goal
 
 pub returns-in_err-entry-clause-full : goal.returns-in_err-entry-clause-full
 returns-in_err-entry-clause-full c =
-    let x = bytes_of_pattern c.args.pattern.now in
+    let x = one_of_these (map bytes_of_pattern c.args.kinds.now) in
     let i = c.args.i in
     let same : c.at.result.now ≡ state_at c.args.states.now i = c.at.ensures in
     let grows = c.loop-byte.invariant.grows in
@@ -27,7 +28,7 @@ returns-in_err-entry-clause-full c =
 
 pub loop-byte-preserved : goal.loop-byte-preserved
 loop-byte-preserved c =
-    let x = bytes_of_pattern c.args.pattern.now in
+    let x = one_of_these (map bytes_of_pattern c.args.kinds.now) in
     let i = c.args.i in
     let same : c.at.result.now ≡ state_at c.args.states.now i = c.at.ensures in
     let old : List (List ℕ) = c.loop-byte.states in
