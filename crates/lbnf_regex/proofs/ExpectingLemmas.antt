@@ -2,16 +2,16 @@
 use Rattle.std.proofs.Common.{◌≡◌, ℕ, ◌+◌, ◌-◌, ◌<◌, ◌≤◌, ◌^◌, ◌↔◌, ◌⊎◌, List, [], ◌∷◌, ◌++◌, map, drop, length, get_or, true, sym, ◌∙◌, ap, inl, inr, arith, subst}
 use Rattle.std.specs.List.{Contains}
 use Rattle.std.proofs.lemmas.Bool.{and_parts, and_from}
-use Rattle.std.proofs.lemmas.List.{drop_more, drop_all}
+use Rattle.std.proofs.lemmas.List.{drop_more, drop_all, get_or-map}
 use Rattle.std.proofs.lemmas.List.Elements.{Contains-append_left, Contains-push, Contains-push_cases}
 use Rattle.spec_automata.specs.ByteExpressions.{ByteExpression, empty, nothing, byte_in, in_turn, either, star, plus, until}
 use Rattle.spec_automata.specs.Positions.{position_count}
 use Rattle.lbnf_regex.specs.declared.pattern.Pattern.{Pattern}
 use Rattle.lbnf_regex.specs.declared.next_byte.NextByte.{NextByte}
 use Rattle.lbnf_regex.specs.declared.next_byte.NextByte.TheVariants.{InComment}
-use Rattle.lbnf_regex.specs.Patterns.{bytes_of_pattern}
+use Rattle.lbnf_regex.specs.Patterns.{bytes_of_pattern, sizes_of}
 use Rattle.lbnf_regex.proofs.PositionLemmas.{last_within}
-use Rattle.lbnf_regex.specs.Steps.{is_nullable, HasLast, EntersBehind, EntersAgain, Expects, AddsExpected, AddsIf, AddsInside, IsSmall}
+use Rattle.lbnf_regex.specs.Steps.{is_nullable, HasLast, HasWithin, EntersBehind, EntersAgain, Expects, AddsExpected, AddsIf, AddsInside, IsSmall}
 
 -- what is expected depends on whether the expression is entered, and not how
 pub expects_same : (x : ByteExpression) (n : ℕ) (E F : Type 0) (M : ℕ → Type 0) (next : NextByte) → (E → F) →
@@ -35,11 +35,55 @@ expects_same (plus x) n E F M next f h =
 expects_same (until closing) n E F M next f (inl h) = inl (f h.0, h.1, h.2)
 expects_same (until closing) n E F M next f (inr h) = inr h
 
+-- nothing is expected by what is not entered and has no marked position
+pub expects_none : (x : ByteExpression) (n : ℕ) (E : Type 0) (M : ℕ → Type 0) → (E → ⊥) →
+    (HasWithin n (position_count x) M → ⊥) → (next : NextByte) → Expects x n E M next → ⊥
+expects_none empty n E M never none next h = absurd h
+expects_none nothing n E M never none next h = absurd h
+expects_none (byte_in s) n E M never none next h = never h.0
+expects_none (in_turn x y) n E M never none next (inl h) =
+    expects_none x n E M never (λ k. none (k.0, k.1, k.2, omega (arith, k.3))) next h
+expects_none (in_turn x y) n E M never none next (inr h) =
+    expects_none y (n + position_count x) (EntersBehind x n E M) M
+    (λ e. elim e [
+      | inl k ↦ never k.1
+      | inr k ↦ let at = last_within x n k.0 k.2 in none (k.0, k.1, at.0, omega (arith, at.1))
+    ]) (λ k. none (k.0, k.1, omega (arith, k.2), omega (arith, k.3))) next h
+expects_none (either x y) n E M never none next (inl h) =
+    expects_none x n E M never (λ k. none (k.0, k.1, k.2, omega (arith, k.3))) next h
+expects_none (either x y) n E M never none next (inr h) =
+    expects_none y (n + position_count x) E M never (λ k. none (k.0, k.1, omega (arith, k.2), omega (arith, k.3))) next h
+expects_none (star x) n E M never none next h =
+    expects_none x n (EntersAgain x n E M) M (λ e. elim e [
+      | inl k ↦ never k
+      | inr k ↦ let at = last_within x n k.0 k.2 in none (k.0, k.1, at.0, at.1)
+    ]) none next h
+expects_none (plus x) n E M never none next h =
+    expects_none x n (EntersAgain x n E M) M (λ e. elim e [
+      | inl k ↦ never k
+      | inr k ↦ let at = last_within x n k.0 k.2 in none (k.0, k.1, at.0, at.1)
+    ]) none next h
+expects_none (until closing) n E M never none next (inl h) = never h.0
+expects_none (until closing) n E M never none next (inr h) =
+    none (n + h.0, h.1, omega arith, omega (arith, h.2))
+
+-- a match that can end at a marked position has one among its positions
+pub last_marked : (x : ByteExpression) (n : ℕ) (M : ℕ → Type 0) → HasLast x n M → HasWithin n (position_count x) M
+last_marked x n M h = let at = last_within x n h.0 h.2 in (h.0, h.1, at.0, at.1)
+
 -- nothing is added where nothing is expected
 pub adds_none : (x : ByteExpression) (n : ℕ) (E : Type 0) (M : ℕ → Type 0) (old : List NextByte) →
     ((next : NextByte) → Expects x n E M next → ⊥) → AddsExpected x n E M old old
 adds_none x n E M old never next =
     (λ h. inl h, λ h. elim h [ inl k ↦ k | inr k ↦ absurd (never next k) ])
+
+-- nothing is added by what is not entered and has no marked position
+pub adds_dead : (x : ByteExpression) (n count : ℕ) (E : Type 0) (M : ℕ → Type 0) (old : List NextByte) →
+    count ≡ position_count x → ((E ⊎ HasWithin n count M) → ⊥) → AddsExpected x n E M old old
+adds_dead x n count E M old same dead =
+    adds_none x n E M old
+    (expects_none x n E M (λ e. dead (inl e))
+    (λ k. dead (inr (subst (λ (z : ℕ). HasWithin n z M) (sym same) k))))
 
 -- two additions behind each other are one
 adds_both : (S T U : NextByte → Type 0) (old middle new : List NextByte) →
@@ -126,6 +170,14 @@ parts_more parts i part lt is =
 
 pub parts_end : (parts : List Pattern) (i : ℕ) → length parts ≤ i → map bytes_of_pattern (drop i parts) ≡ []
 parts_end parts i le = ap (map bytes_of_pattern) (drop_all i parts le)
+
+-- a size is that of the pattern in its place
+pub size_at : (patterns : List Pattern) (sizes : List ℕ) (i : ℕ) (pattern : Pattern) → sizes ≡ sizes_of patterns →
+    i < length patterns → pattern ≡ get_or patterns i pattern → get_or sizes i 0 ≡ position_count (bytes_of_pattern pattern)
+size_at patterns sizes i pattern are lt is =
+    ap (λ (z : List ℕ). get_or z i 0) are
+    ∙ get_or-map (λ (p : Pattern). position_count (bytes_of_pattern p)) patterns i pattern 0 lt
+    ∙ ap (λ (p : Pattern). position_count (bytes_of_pattern p)) (sym is)
 
 -- the last positions of two in turn, or of what stood before them
 pub last_in_turn : (x y : ByteExpression) (n : ℕ) (M : ℕ → Type 0) (B : Type 0) →

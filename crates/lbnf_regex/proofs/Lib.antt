@@ -13,3 +13,4 @@ pub mod PlaceLemmas
 pub mod ByteSetLemmas
 pub mod EncodingStepLemmas
 pub mod LexiconLemmas
+pub mod StateListLemmas

@@ -1,5 +1,5 @@
 -- Sets of positions: what a byte leads to, and sets that are one.
-use Rattle.std.proofs.Common.{◌≡◌, ℕ, ◌+◌, ◌<◌, ◌^◌, ◌↔◌, List, [], ◌∷◌, ◌++◌, length, take, Some, None, Bool, IsTrue, nat_eq, sym, ◌∙◌, ap, inl, inr, arith, subst}
+use Rattle.std.proofs.Common.{◌≡◌, ℕ, ◌+◌, ◌<◌, ◌^◌, ◌↔◌, List, [], ◌∷◌, ◌++◌, length, take, Some, None, Result, Ok, Err, IfOk, Bool, IsTrue, nat_eq, sym, ◌∙◌, ap, inl, inr, arith, subst}
 use Rattle.std.specs.List.{Contains}
 use Rattle.std.proofs.lemmas.Bool.{eqb-true, eq-eqb}
 use Rattle.std.proofs.lemmas.List.{nil_from_length}
@@ -14,6 +14,12 @@ use Rattle.lbnf_regex.specs.Steps.{AddsExpected, LeadsTo, LeadsJustTo, Steps}
 use Rattle.lbnf_regex.specs.Sets.{HaveJust, IsSetThat, IsNext, AreExpected, AreSmall, LeadsFrom, AddsTargets}
 use Rattle.lbnf_regex.proofs.ClosingLemmas.{one_border}
 use Rattle.lbnf_regex.proofs.ExpectingLemmas.{expects_same, expects_small}
+
+-- what two clauses say of a value
+pub both_ok : {T E : Type 0} (r : Result T E) {P Q R : T → Type 0} → ((x : T) → P x → Q x → R x) →
+    IfOk r P → IfOk r Q → IfOk r R
+both_ok (Ok x) follows p q = follows x p q
+both_ok (Err y) follows p q = tt
 
 -- sets of the same numbers are one
 pub same_sets : (Is : ℕ → Type 0) (set other : List ℕ) → IsSetThat Is set → IsSetThat Is other → set ≡ other

@@ -1,4 +1,6 @@
 -- What a pattern stands for: an expression over bytes.
+use Rattle.std.specs.Prelude.{ℕ, List, map}
+use Rattle.spec_automata.specs.Positions.{position_count}
 use Rattle.spec_automata.specs.ByteExpressions.{ByteExpression, empty, byte_in, star, plus}
 use Rattle.spec_automata.specs.ByteExpressions.{until}
 use Rattle.spec_automata.specs.Encoding.{one_of_these, these_in_turn}
@@ -19,3 +21,7 @@ form_of (Pattern-F.Until closing) = until closing
 -- the expression over bytes that the pattern is
 abbrev pub bytes_of_pattern : Pattern → ByteExpression
 bytes_of_pattern = fold-Pattern ByteExpression form_of
+
+-- how many positions each of the patterns has
+abbrev pub sizes_of : List Pattern → List ℕ
+sizes_of patterns = map (λ pattern. position_count (bytes_of_pattern pattern)) patterns

@@ -1,6 +1,6 @@
 -- Serves the proofs alone. Steps from the positions of a text to those of the text with one byte
 -- more, through the expression and not through lists of what follows each position.
-use Rattle.std.specs.Prelude.{◌≡◌, ℕ, ◌+◌, ◌<◌, ◌^◌, ◌⊎◌, ◌↔◌, List, [], ◌∷◌, ◌++◌, length, take, Bool}
+use Rattle.std.specs.Prelude.{◌≡◌, ℕ, ◌+◌, ◌<◌, ◌≤◌, ◌^◌, ◌⊎◌, ◌↔◌, List, [], ◌∷◌, ◌++◌, length, take, Bool}
 use Rattle.std.specs.Prelude.{true, false, ◌&&◌, ◌||◌, nat_eq, Contains, Option, MatchOption}
 use Rattle.spec_automata.specs.ByteExpressions.{ByteExpression, empty, nothing, byte_in, in_turn}
 use Rattle.spec_automata.specs.ByteExpressions.{either, star, plus, until}
@@ -36,6 +36,11 @@ IsLast (until closing) first position = position ≡ first + length closing
 -- a match can end at a marked position
 abbrev pub HasLast : ByteExpression → ℕ → (ℕ → Type 0) → Type 0
 HasLast x first Marked = (position : ℕ) × Marked position × IsLast x first position
+
+-- a position from the first on, one of so many, is marked
+abbrev pub HasWithin : ℕ → ℕ → (ℕ → Type 0) → Type 0
+HasWithin first count Marked =
+    (position : ℕ) × Marked position × (first ≤ position) × (position < first + count)
 
 -- what stands behind the expression is entered
 abbrev pub EntersBehind : ByteExpression → ℕ → Type 0 → (ℕ → Type 0) → Type 0

@@ -1,28 +1,31 @@
 //! Which kind a state accepts.
-ghost use Rattle.std.specs.Prelude.{◌<◌, ◌^◌, map, Contains, IfOk};
+ghost use Rattle.std.specs.Prelude.{◌≡◌, ◌<◌, ◌^◌, map, Contains, IfOk};
 ghost use Rattle.spec_automata.specs.Encoding.{one_of_these};
 ghost use Rattle.spec_automata.specs.Positions.{position_count};
-ghost use Rattle.lbnf_regex.specs.Patterns.{bytes_of_pattern};
+ghost use Rattle.lbnf_regex.specs.Patterns.{bytes_of_pattern, sizes_of};
 ghost use Rattle.lbnf_regex.specs.States.{ArePlaces, IsLeastEnding};
 
-use crate::expecting::{can_end, size};
+use crate::expecting::can_end_within;
 use crate::pattern::Pattern;
+use crate::state_list::States;
 use sqlite_items::Items;
 use std::alloc::{AllocError, Global};
 
 /// The place of the first kind of which a match can end at a marked position. The positions of the
-/// kinds are numbered in turn.
-fn least_place(kinds: &[Pattern], marks: &[u32]) -> Option<usize>
-    requires { position_count (one_of_these (map bytes_of_pattern kinds.now)) < 2 ^ 32 }
+/// kinds, whose sizes are given, are numbered in turn.
+fn least_place(kinds: &[Pattern], sizes: &[u32], marks: &[u32]) -> Option<usize>
+    requires room { position_count (one_of_these (map bytes_of_pattern kinds.now)) < 2 ^ 32 }
+    requires sizes { sizes.now ≡ sizes_of kinds.now }
     ensures { IsLeastEnding (map bytes_of_pattern kinds.now) (Contains marks.now) result }
 {
     let mut start = 0;
     for i in 0..kinds.len() {
         let kind = &kinds[i];
-        if can_end(kind, start, marks) {
+        let count = sizes[i];
+        if can_end_within(kind, start, count, marks) {
             return Some(i);
         }
-        start += size(kind);
+        start += count;
     }
     None
 }
@@ -31,14 +34,16 @@ fn least_place(kinds: &[Pattern], marks: &[u32]) -> Option<usize>
 pub(crate) fn places(
     alloc: Global,
     kinds: &[Pattern],
-    states: &[Items<u32>],
+    sizes: &[u32],
+    states: &States,
 ) -> Result<Items<Option<usize>>, AllocError>
-    requires { position_count (one_of_these (map bytes_of_pattern kinds.now)) < 2 ^ 32 }
+    requires room { position_count (one_of_these (map bytes_of_pattern kinds.now)) < 2 ^ 32 }
+    requires sizes { sizes.now ≡ sizes_of kinds.now }
     ensures { IfOk result (ArePlaces (map bytes_of_pattern kinds.now) states.now) }
 {
     let mut places = Items::new(alloc);
     for i in 0..states.len() {
-        places.push(least_place(kinds, states[i].as_slice()))?;
+        places.push(least_place(kinds, sizes, states.at(i)))?;
     }
     Ok(places)
 }

@@ -11,7 +11,7 @@ ghost use Rattle.lbnf_regex.specs.declared.pattern.Pattern.{Pattern};
 ghost use Rattle.lbnf_regex.specs.declared.pattern.Pattern.TheVariants.{Alt};
 
 use crate::accepting::places;
-use crate::expecting::size_if_fits;
+use crate::expecting::{size_if_fits, sizes};
 use crate::kinds::patterns_of;
 use crate::lex_fault::LexFault;
 use crate::machine::Automaton;
@@ -54,8 +54,10 @@ pub(crate) fn automaton_of(
     let Some(_size) = size_if_fits(&all) else {
         return Err(LexFault::Memory);
     };
-    let Table { states, rows } = make_table(alloc, &all, most)?;
-    let places = places(alloc, parts_of(&all), states.as_slice())?;
+    let parts = parts_of(&all);
+    let sizes = sizes(alloc, parts)?;
+    let Table { states, rows } = make_table(alloc, parts, sizes.as_slice(), most)?;
+    let places = places(alloc, parts, sizes.as_slice(), &states)?;
     Ok(Automaton::of(rows, places, comments))
 }
 

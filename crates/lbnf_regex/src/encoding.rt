@@ -1,15 +1,16 @@
 //! The patterns of token expressions, byte by byte. ASCII characters that a difference takes away
 //! are left out of each set.
-ghost use Rattle.std.specs.Prelude.{◌≡◌, ◌++◌, ◌∷◌, [], ℕ, ◌<◌, Bool, ◌||◌, not, chars, cond, map, IfOk, OnOk};
-ghost use Rattle.std.specs.Prelude.{replicate};
+ghost use Rattle.std.specs.Prelude.{◌≡◌, ◌++◌, ◌∷◌, [], ℕ, ◌<◌, Bool, ◌||◌, not, chars, cond};
+ghost use Rattle.std.specs.Prelude.{map, replicate, IfOk, OnOk};
 ghost use Rattle.std.specs.Char.{encode_utf8};
 ghost use Rattle.spec_lexing.specs.Expressions.{expression_of};
 ghost use Rattle.spec_lexing.specs.Matching.{is_of_class};
 ghost use Rattle.spec_automata.specs.ByteExpressions.{byte_in};
 ghost use Rattle.spec_automata.specs.Encoding.{any_scalar as any_scalar_bytes, byte_between};
-ghost use Rattle.spec_automata.specs.Encoding.{bytes_of, bytes_of_class, bytes_of_scalars, bytes_that};
-ghost use Rattle.spec_automata.specs.Encoding.{has_character as has_ascii, is_ascii, next_byte};
-ghost use Rattle.spec_automata.specs.Encoding.{literal as literal_bytes, these_in_turn, without};
+ghost use Rattle.spec_automata.specs.Encoding.{bytes_of, bytes_of_class, bytes_of_scalars};
+ghost use Rattle.spec_automata.specs.Encoding.{bytes_that, has_character as has_ascii, is_ascii};
+ghost use Rattle.spec_automata.specs.Encoding.{literal as literal_bytes, next_byte};
+ghost use Rattle.spec_automata.specs.Encoding.{these_in_turn, without};
 ghost use Rattle.lbnf_regex.specs.ByteSets.{flag_at, kept_of};
 ghost use Rattle.lbnf_regex.specs.Patterns.{bytes_of_pattern};
 
@@ -179,7 +180,25 @@ fn flags_with(alloc: Global, removed: &[bool], class: &Expr) -> Result<Items<boo
     Ok(flags)
 }
 
+/// The patterns of the expressions, without the ASCII characters that are removed.
+#[cycle(pattern_without)]
+fn patterns_without(
+    alloc: Global,
+    exprs: &[Expr],
+    removed: &[bool],
+) -> Result<Items<Pattern>, AllocError>
+    ensures { IfOk result (λ patterns. map bytes_of_pattern patterns
+        ≡ map (λ expr. without (flag_at removed.now) (bytes_of (expression_of expr))) exprs.now) }
+{
+    let mut patterns = Items::new(alloc);
+    for expr in exprs {
+        patterns.push(pattern_without(alloc, expr, removed)?)?;
+    }
+    Ok(patterns)
+}
+
 /// The pattern of the expression, without the ASCII characters that are removed.
+#[cycle(pattern_without)]
 fn pattern_without(alloc: Global, expr: &Expr, removed: &[bool]) -> Result<Pattern, AllocError>
     ensures { IfOk result (λ pattern. bytes_of_pattern pattern
         ≡ without (flag_at removed.now) (bytes_of (expression_of expr.now))) }
@@ -190,20 +209,8 @@ fn pattern_without(alloc: Global, expr: &Expr, removed: &[bool]) -> Result<Patte
         Expr::Scalar(scalar) => scalar_pattern(alloc, *scalar, removed),
         Expr::AnyOf(name) => scalars_pattern(alloc, name, removed),
         Expr::Word(name) => literal(alloc, name.as_slice(), removed),
-        Expr::Seq(parts) => {
-            let mut patterns = Items::new(alloc);
-            for part in parts.as_slice() {
-                patterns.push(pattern_without(alloc, part, removed)?)?;
-            }
-            Ok(Pattern::Seq(patterns))
-        }
-        Expr::Alt(parts) => {
-            let mut patterns = Items::new(alloc);
-            for part in parts.as_slice() {
-                patterns.push(pattern_without(alloc, part, removed)?)?;
-            }
-            Ok(Pattern::Alt(patterns))
-        }
+        Expr::Seq(parts) => Ok(Pattern::Seq(patterns_without(alloc, parts.as_slice(), removed)?)),
+        Expr::Alt(parts) => Ok(Pattern::Alt(patterns_without(alloc, parts.as_slice(), removed)?)),
         Expr::Minus(left, right) => {
             let flags = flags_with(alloc, removed, right.get())?;
             pattern_without(alloc, left.get(), flags.as_slice())

@@ -1,11 +1,13 @@
 //! What a pattern expects next, where it is entered or has marked positions.
-ghost use Rattle.std.specs.Prelude.{◌≡◌, ◌+◌, ◌-◌, ◌<◌, ◌≤◌, ◌^◌, ◌↔◌, ◌⊎◌, length, true, IsTrue, OnOk};
-ghost use Rattle.std.specs.Prelude.{Contains, IfSome};
+ghost use Rattle.std.specs.Prelude.{◌≡◌, ◌+◌, ◌-◌, ◌<◌, ◌≤◌, ◌^◌, ◌↔◌, ◌⊎◌, length, map, true};
+ghost use Rattle.std.specs.Prelude.{Contains, IfOk, IfSome, IsTrue, OnOk};
 ghost use Rattle.spec_automata.specs.ByteExpressions.{until};
+ghost use Rattle.spec_automata.specs.Encoding.{one_of_these, these_in_turn};
 ghost use Rattle.spec_automata.specs.Positions.{position_count};
-ghost use Rattle.lbnf_regex.specs.Patterns.{bytes_of_pattern};
-ghost use Rattle.lbnf_regex.specs.Steps.{is_nullable as can_be_empty, HasLast, EntersBehind};
-ghost use Rattle.lbnf_regex.specs.Steps.{EntersAgain, AddsExpected, AddsIf, AddsInside};
+ghost use Rattle.lbnf_regex.specs.Patterns.{bytes_of_pattern, sizes_of};
+ghost use Rattle.lbnf_regex.specs.Steps.{is_nullable as can_be_empty, HasLast, HasWithin};
+ghost use Rattle.lbnf_regex.specs.Steps.{EntersAgain, EntersBehind, AddsExpected, AddsIf};
+ghost use Rattle.lbnf_regex.specs.Steps.{AddsInside};
 ghost use Rattle.lbnf_regex.specs.declared.next_byte.NextByte.TheVariants.{InSet, InComment};
 
 use crate::next_byte::NextByte;
@@ -44,7 +46,7 @@ pub(crate) fn size_if_fits(pattern: &Pattern) -> Option<u32>
 }
 
 /// How many positions the pattern has.
-pub(crate) fn size(pattern: &Pattern) -> u32
+fn size(pattern: &Pattern) -> u32
     requires { position_count (bytes_of_pattern pattern.now) < 2 ^ 32 }
     ensures { result ≡ position_count (bytes_of_pattern pattern.now) }
 {
@@ -69,6 +71,18 @@ pub(crate) fn size(pattern: &Pattern) -> u32
         Pattern::Plus(part) => size(part.get()),
         Pattern::Until(closing) => closing.len() as u32 + 1,
     }
+}
+
+/// How many positions each of the patterns has.
+pub(crate) fn sizes(alloc: Global, patterns: &[Pattern]) -> Result<Items<u32>, AllocError>
+    requires { position_count (one_of_these (map bytes_of_pattern patterns.now)) < 2 ^ 32 }
+    ensures { IfOk result (λ sizes. sizes ≡ sizes_of patterns.now) }
+{
+    let mut sizes = Items::new(alloc);
+    for pattern in patterns {
+        sizes.push(size(pattern))?;
+    }
+    Ok(sizes)
 }
 
 /// Whether the pattern matches the empty text.
@@ -106,6 +120,26 @@ fn has(marks: &[u32], position: u32) -> bool
     marks.contains(&position)
 }
 
+fn is_within(position: u32, first: u32, count: u32) -> bool
+    requires { first + count < 2 ^ 32 }
+    ensures { IsTrue result ↔ ((first ≤ position) × (position < first + count)) }
+{
+    first <= position && position < first + count
+}
+
+/// Whether one of so many positions, from the first on, is marked.
+fn has_within(marks: &[u32], first: u32, count: u32) -> bool
+    requires { first + count < 2 ^ 32 }
+    ensures { IsTrue result ↔ HasWithin first count (Contains marks.now) }
+{
+    for mark in marks {
+        if is_within(*mark, first, count) {
+            return true;
+        }
+    }
+    false
+}
+
 /// Whether a match that could end here still can, behind a part that may be empty.
 fn ends_behind(own: bool, before: bool, nullable: bool) -> bool
     ensures { IsTrue result ↔ (IsTrue own ⊎ ((nullable ≡ true) × IsTrue before)) }
@@ -113,9 +147,9 @@ fn ends_behind(own: bool, before: bool, nullable: bool) -> bool
     own || (nullable && before)
 }
 
-/// Whether a match can end at a marked position. The pattern's positions are numbered from the first
-/// on.
-pub(crate) fn can_end(pattern: &Pattern, first: u32, marks: &[u32]) -> bool
+/// Whether a match can end at a marked position. The pattern's positions are numbered from the
+/// first on.
+fn can_end(pattern: &Pattern, first: u32, marks: &[u32]) -> bool
     requires { first + position_count (bytes_of_pattern pattern.now) < 2 ^ 32 }
     ensures { IsTrue result ↔ HasLast (bytes_of_pattern pattern.now) first (Contains marks.now) }
 {
@@ -148,13 +182,23 @@ pub(crate) fn can_end(pattern: &Pattern, first: u32, marks: &[u32]) -> bool
     }
 }
 
+/// Whether a match can end at a marked position, as `can_end` tells. A pattern without marks, of
+/// this many positions, is passed over.
+pub(crate) fn can_end_within(pattern: &Pattern, first: u32, count: u32, marks: &[u32]) -> bool
+    requires room { first + position_count (bytes_of_pattern pattern.now) < 2 ^ 32 }
+    requires count { count ≡ position_count (bytes_of_pattern pattern.now) }
+    ensures { IsTrue result ↔ HasLast (bytes_of_pattern pattern.now) first (Contains marks.now) }
+{
+    has_within(marks, first, count) && can_end(pattern, first, marks)
+}
+
 /// Whether what stands behind the pattern is entered.
 fn enters_behind(pattern: &Pattern, first: u32, entered: bool, marks: &[u32]) -> bool
     requires { first + position_count (bytes_of_pattern pattern.now) < 2 ^ 32 }
     ensures { IsTrue result ↔
         EntersBehind (bytes_of_pattern pattern.now) first (IsTrue entered) (Contains marks.now) }
 {
-    (is_nullable(pattern) && entered) || can_end(pattern, first, marks)
+    (entered && is_nullable(pattern)) || can_end(pattern, first, marks)
 }
 
 /// Whether a repeated pattern is entered, from before or again.
@@ -255,8 +299,66 @@ fn expect_closing(
     expect_inside(alloc, closing, first, marks, into)
 }
 
+/// Adds each way in which the parts in turn expect the next byte.
+#[cycle(expect)]
+fn expect_in_turn(
+    alloc: Global,
+    parts: &[Pattern],
+    first: u32,
+    entered: bool,
+    marks: &[u32],
+    into: &mut Items<NextByte>,
+) -> Result<(), AllocError>
+    requires { first + position_count (these_in_turn (map bytes_of_pattern parts.now)) < 2 ^ 32 }
+    ensures { OnOk result (AddsExpected (these_in_turn (map bytes_of_pattern parts.now)) first
+        (IsTrue entered) (Contains marks.now) into.old into.new) }
+{
+    let mut start = first;
+    let mut enters = entered;
+    for part in parts {
+        expect(alloc, part, start, enters, marks, into)?;
+        enters = enters_behind(part, start, enters, marks);
+        start += size(part);
+    }
+    Ok(())
+}
+
+/// Whether a part of so many positions, from the first on, is entered or has marked positions.
+fn is_alive(first: u32, count: u32, entered: bool, marks: &[u32]) -> bool
+    requires { first + count < 2 ^ 32 }
+    ensures { IsTrue result ↔ (IsTrue entered ⊎ HasWithin first count (Contains marks.now)) }
+{
+    entered || has_within(marks, first, count)
+}
+
+/// Adds each way in which one of the parts expects the next byte.
+#[cycle(expect)]
+fn expect_one_of(
+    alloc: Global,
+    parts: &[Pattern],
+    first: u32,
+    entered: bool,
+    marks: &[u32],
+    into: &mut Items<NextByte>,
+) -> Result<(), AllocError>
+    requires { first + position_count (one_of_these (map bytes_of_pattern parts.now)) < 2 ^ 32 }
+    ensures { OnOk result (AddsExpected (one_of_these (map bytes_of_pattern parts.now)) first
+        (IsTrue entered) (Contains marks.now) into.old into.new) }
+{
+    let mut start = first;
+    for part in parts {
+        let count = size(part);
+        if is_alive(start, count, entered, marks) {
+            expect(alloc, part, start, entered, marks, into)?;
+        }
+        start += count;
+    }
+    Ok(())
+}
+
 /// Adds each way in which the pattern expects the next byte.
-pub(crate) fn expect(
+#[cycle(expect)]
+fn expect(
     alloc: Global,
     pattern: &Pattern,
     first: u32,
@@ -272,23 +374,9 @@ pub(crate) fn expect(
         Pattern::Empty => Ok(()),
         Pattern::Bytes(set) => expect_set(alloc, set.as_slice(), first, entered, into),
         Pattern::Seq(parts) => {
-            let mut start = first;
-            let mut enters = entered;
-            for part in parts.as_slice() {
-                expect(alloc, part, start, enters, marks, into)?;
-                enters = enters_behind(part, start, enters, marks);
-                start += size(part);
-            }
-            Ok(())
+            expect_in_turn(alloc, parts.as_slice(), first, entered, marks, into)
         }
-        Pattern::Alt(parts) => {
-            let mut start = first;
-            for part in parts.as_slice() {
-                expect(alloc, part, start, entered, marks, into)?;
-                start += size(part);
-            }
-            Ok(())
-        }
+        Pattern::Alt(parts) => expect_one_of(alloc, parts.as_slice(), first, entered, marks, into),
         Pattern::Star(part) => {
             let inner = part.get();
             let enters = enters_again(inner, first, entered, marks);
@@ -303,4 +391,31 @@ pub(crate) fn expect(
             expect_closing(alloc, closing.as_slice(), first, entered, marks, into)
         }
     }
+}
+
+/// Adds each way in which one of the patterns, of these sizes, expects the next byte. Their
+/// positions are numbered in turn.
+pub(crate) fn expect_any(
+    alloc: Global,
+    patterns: &[Pattern],
+    sizes: &[u32],
+    entered: bool,
+    marks: &[u32],
+    into: &mut Items<NextByte>,
+) -> Result<(), AllocError>
+    requires room { position_count (one_of_these (map bytes_of_pattern patterns.now)) < 2 ^ 32 }
+    requires sizes { sizes.now ≡ sizes_of patterns.now }
+    ensures { OnOk result (AddsExpected (one_of_these (map bytes_of_pattern patterns.now)) 0
+        (IsTrue entered) (Contains marks.now) into.old into.new) }
+{
+    let mut start = 0;
+    for i in 0..patterns.len() {
+        let pattern = &patterns[i];
+        let count = sizes[i];
+        if is_alive(start, count, entered, marks) {
+            expect(alloc, pattern, start, entered, marks, into)?;
+        }
+        start += count;
+    }
+    Ok(())
 }

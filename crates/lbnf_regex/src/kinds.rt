@@ -1,6 +1,7 @@
 //! The patterns of all kinds of a lexicon, the least first.
 ghost use Rattle.std.specs.Prelude.{◌≡◌, ◌++◌, map, IfOk, OnOk};
-ghost use Rattle.spec_lexing.specs.Kinds.{block_comment, lex_kinds, line_comment, white as white_kind};
+ghost use Rattle.spec_lexing.specs.Kinds.{block_comment, lex_kinds, line_comment};
+ghost use Rattle.spec_lexing.specs.Kinds.{white as white_kind};
 ghost use Rattle.spec_automata.specs.Encoding.{bytes_of_def, bytes_of_kind};
 ghost use Rattle.spec_automata.specs.Encoding.{literal as literal_bytes};
 ghost use Rattle.lbnf_regex.specs.Lexicons.{lexicon_with};

@@ -14,6 +14,7 @@ mod machine;
 mod next_byte;
 mod next_set;
 mod pattern;
+mod state_list;
 mod states;
 
 pub use build::automaton;

@@ -69,8 +69,8 @@ impl Automaton {
         self.rows.as_slice()[state as usize].as_slice()[byte as usize]
     }
 
-    /// The least kind that matches what leads to the state. None where no kind does, and never Stray.
-    /// It takes no memory.
+    /// The least kind that matches what leads to the state. None where no kind does, and never
+    /// Stray. It takes no memory.
     pub fn accepts(&self, state: u16) -> Option<Kind>
         requires { state < length self.now.rows }
         ensures { result ≡ option_map (kind_at self.now.comments)

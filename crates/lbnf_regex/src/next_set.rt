@@ -1,31 +1,36 @@
 //! The set of positions that follows a state by a byte.
-ghost use Rattle.std.specs.Prelude.{◌≡◌, ◌<◌, ◌^◌, OnOk, IfOk};
+ghost use Rattle.std.specs.Prelude.{◌≡◌, ◌<◌, ◌^◌, map, OnOk, IfOk};
 ghost use Rattle.cell_sets.specs.Cells.{HaveSame, IsRising};
+ghost use Rattle.spec_automata.specs.Encoding.{one_of_these};
 ghost use Rattle.spec_automata.specs.Positions.{position_count};
-ghost use Rattle.lbnf_regex.specs.Patterns.{bytes_of_pattern};
+ghost use Rattle.lbnf_regex.specs.Patterns.{bytes_of_pattern, sizes_of};
 ghost use Rattle.lbnf_regex.specs.Sets.{AddsTargets, AreExpected, AreSmall, HaveJust, IsSetThat};
 ghost use Rattle.lbnf_regex.specs.Sets.{LeadsFrom};
 ghost use Rattle.lbnf_regex.specs.Steps.{IsSmall, LeadsJustTo};
 
 use crate::comment::border;
-use crate::expecting::expect;
+use crate::expecting::expect_any;
 use crate::next_byte::NextByte;
 use crate::pattern::Pattern;
 use sqlite_items::Items;
 use std::alloc::{AllocError, Global};
 
-/// Each way in which the pattern expects a byte in the state; the start is the empty set.
+/// Each way in which one of the kinds, of these sizes, expects a byte in the state; the start is
+/// the empty set.
 pub(crate) fn expected(
     alloc: Global,
-    pattern: &Pattern,
+    kinds: &[Pattern],
+    sizes: &[u32],
     state: &[u32],
 ) -> Result<Items<NextByte>, AllocError>
-    requires { position_count (bytes_of_pattern pattern.now) < 2 ^ 32 }
-    ensures ok { IfOk result (AreExpected (bytes_of_pattern pattern.now) state.now) }
+    requires room { position_count (one_of_these (map bytes_of_pattern kinds.now)) < 2 ^ 32 }
+    requires sizes { sizes.now ≡ sizes_of kinds.now }
+    ensures ok { IfOk result
+        (AreExpected (one_of_these (map bytes_of_pattern kinds.now)) state.now) }
     ensures small { IfOk result AreSmall }
 {
     let mut expected = Items::new(alloc);
-    expect(alloc, pattern, 0, state.is_empty(), state, &mut expected)?;
+    expect_any(alloc, kinds, sizes, state.is_empty(), state, &mut expected)?;
     Ok(expected)
 }
 
@@ -88,11 +93,10 @@ pub(crate) fn next_set(
     alloc: Global,
     expected: &[NextByte],
     byte: u8,
-) -> Result<Items<u32>, AllocError>
+) -> Result<Vec<u32>, AllocError>
     requires { AreSmall expected.now }
-    ensures { IfOk result (IsSetThat (LeadsFrom expected.now byte)) }
+    ensures { IfOk result (λ set. IsSetThat (LeadsFrom expected.now byte) set.items) }
 {
     let positions = targets(alloc, expected, byte)?;
-    let set = in_order(positions)?;
-    Ok(Items::from_vec(set))
+    in_order(positions)
 }

@@ -1,43 +1,29 @@
 //! The states of an automaton, and the rows of its table.
-ghost use Rattle.std.specs.Prelude.{◌≡◌, ◌+◌, ◌<◌, ◌≤◌, ◌^◌, Err, length, IfOk, IfSome, IfNone};
+ghost use Rattle.std.specs.Prelude.{◌≡◌, ◌<◌, ◌≤◌, ◌^◌, Err, length, map, IfOk};
+ghost use Rattle.spec_automata.specs.Encoding.{one_of_these};
 ghost use Rattle.spec_automata.specs.Positions.{position_count};
 ghost use Rattle.spec_automata.specs.States.{HasManySets};
-ghost use Rattle.lbnf_regex.specs.Patterns.{bytes_of_pattern};
+ghost use Rattle.lbnf_regex.specs.Patterns.{bytes_of_pattern, sizes_of};
 ghost use Rattle.lbnf_regex.specs.Sets.{AreSmall};
 ghost use Rattle.lbnf_regex.specs.States.{AreStates, GetsEntry, GetsNumber, Grows, HasNoRoom};
-ghost use Rattle.lbnf_regex.specs.States.{HasNoRoomFrom, IsNoneOf, IsRow, IsTable, state_at};
+ghost use Rattle.lbnf_regex.specs.States.{HasNoRoomFrom, IsRow, IsTable, state_at};
 ghost use Rattle.lbnf_regex.specs.declared.lex_fault.LexFault.TheVariants.{TooManyStates};
 
 use crate::lex_fault::LexFault;
 use crate::next_byte::NextByte;
 use crate::next_set::{expected, next_set};
 use crate::pattern::Pattern;
+use crate::state_list::States;
 use sqlite_items::Items;
 use std::alloc::Global;
 
-fn place_of(states: &[Items<u32>], set: &[u32]) -> Option<usize>
-    ensures found { IfSome result (λ i. (i < length states.now) × (state_at states.now i ≡ set.now)) }
-    ensures none { IfNone result (IsNoneOf states.now set.now) }
-{
-    for i in 0..states.len() {
-        if states[i].as_slice() == set {
-            return Some(i);
-        }
-    }
-    None
-}
-
 /// The number of the set, which is put behind the states where it is none of them.
-fn number_of(
-    states: &mut Items<Items<u32>>,
-    set: Items<u32>,
-    most: usize,
-) -> Result<usize, LexFault>
-    ensures ok { IfOk result (GetsNumber states.old states.new set) }
+fn number_of(states: &mut States, set: Vec<u32>, most: usize) -> Result<usize, LexFault>
+    ensures ok { IfOk result (GetsNumber states.old states.new set.items) }
     ensures most { IfOk result (λ number. length states.old ≤ most → length states.new ≤ most) }
-    ensures full { result ≡ Err TooManyStates → HasNoRoom states.old set most }
+    ensures full { result ≡ Err TooManyStates → HasNoRoom states.old set.items most }
 {
-    match place_of(states.as_slice(), set.as_slice()) {
+    match states.place_of(set.as_slice()) {
         Some(place) => Ok(place),
         None => {
             let number = states.len();
@@ -54,7 +40,7 @@ fn number_of(
 fn entry(
     alloc: Global,
     expected: &[NextByte],
-    states: &mut Items<Items<u32>>,
+    states: &mut States,
     byte: u8,
     most: usize,
 ) -> Result<Option<u16>, LexFault>
@@ -74,28 +60,31 @@ fn entry(
     Ok(Some(number as u16))
 }
 
-/// Where the bytes lead to from the state of this number.
+/// Where the bytes lead to from the state of this number, for kinds of these sizes.
 fn row(
     alloc: Global,
-    pattern: &Pattern,
-    states: &mut Items<Items<u32>>,
+    kinds: &[Pattern],
+    sizes: &[u32],
+    states: &mut States,
     i: usize,
     most: usize,
 ) -> Result<Items<Option<u16>>, LexFault>
-    requires size { position_count (bytes_of_pattern pattern.now) < 2 ^ 32 }
-    requires states { AreStates (bytes_of_pattern pattern.now) states.old }
+    requires size { position_count (one_of_these (map bytes_of_pattern kinds.now)) < 2 ^ 32 }
+    requires sizes { sizes.now ≡ sizes_of kinds.now }
+    requires states { AreStates (one_of_these (map bytes_of_pattern kinds.now)) states.old }
     requires few { length states.old ≤ most }
     requires room { most < 2 ^ 16 }
     requires within { i < length states.old }
     ensures grows { IfOk result (λ row. Grows states.old states.new) }
-    ensures states { IfOk result (λ row. AreStates (bytes_of_pattern pattern.now) states.new) }
+    ensures states { IfOk result (λ row.
+        AreStates (one_of_these (map bytes_of_pattern kinds.now)) states.new) }
     ensures most { IfOk result (λ row. length states.new ≤ most) }
-    ensures row { IfOk result (IsRow (bytes_of_pattern pattern.now) states.new
+    ensures row { IfOk result (IsRow (one_of_these (map bytes_of_pattern kinds.now)) states.new
         (state_at states.old i) 256) }
     ensures full { result ≡ Err TooManyStates
-        → HasManySets (bytes_of_pattern pattern.now) most }
+        → HasManySets (one_of_these (map bytes_of_pattern kinds.now)) most }
 {
-    let expected = expected(alloc, pattern, states.as_slice()[i].as_slice())?;
+    let expected = expected(alloc, kinds, sizes, states.at(i))?;
     let mut row = Items::new(alloc);
     for byte in 0..256u16 {
         let entry = entry(alloc, expected.as_slice(), states, byte as u8, most)?;
@@ -107,25 +96,32 @@ fn row(
 /// The states as sets of positions, and for each state and each byte the state that follows.
 #[derive(Debug, Drop)]
 pub(crate) struct Table {
-    pub states: Items<Items<u32>>,
+    pub states: States,
     pub rows: Items<Items<Option<u16>>>,
 }
 
-/// The states that texts lead to, at most so many with the start, and their rows.
-pub(crate) fn make_table(alloc: Global, pattern: &Pattern, most: usize) -> Result<Table, LexFault>
-    requires size { position_count (bytes_of_pattern pattern.now) < 2 ^ 32 }
+/// The states that texts lead to, at most so many with the start, and their rows, for kinds of these
+/// sizes.
+pub(crate) fn make_table(
+    alloc: Global,
+    kinds: &[Pattern],
+    sizes: &[u32],
+    most: usize,
+) -> Result<Table, LexFault>
+    requires size { position_count (one_of_these (map bytes_of_pattern kinds.now)) < 2 ^ 32 }
+    requires sizes { sizes.now ≡ sizes_of kinds.now }
     requires some { 0 < most }
     requires room { most < 2 ^ 16 }
     ensures table { IfOk result (λ made.
-        IsTable (bytes_of_pattern pattern.now) most made.states made.rows) }
+        IsTable (one_of_these (map bytes_of_pattern kinds.now)) most made.states made.rows) }
     ensures full { result ≡ Err TooManyStates
-        → HasManySets (bytes_of_pattern pattern.now) most }
+        → HasManySets (one_of_these (map bytes_of_pattern kinds.now)) most }
 {
-    let mut states = Items::new(alloc);
-    states.push(Items::new(alloc))?;
+    let mut states = States::new(alloc);
+    states.push(Vec::new(alloc))?;
     let mut rows = Items::new(alloc);
     'states: while rows.len() < states.len() {
-        let row = row(alloc, pattern, &mut states, rows.len(), most)?;
+        let row = row(alloc, kinds, sizes, &mut states, rows.len(), most)?;
         rows.push(row)?;
     }
     Ok(Table { states, rows })

@@ -1,6 +1,7 @@
 -- With each row the table has one state more, until it has all.
-use Rattle.std.proofs.Common.{◌≡◌, ℕ, ◌+◌, ◌<◌, length, List, [], ◌∷◌, ◌++◌, Option, sym, subst, arith, ◌∙◌, ap}
+use Rattle.std.proofs.Common.{map, ◌≡◌, ℕ, ◌+◌, ◌<◌, length, List, [], ◌∷◌, ◌++◌, Option, sym, subst, arith, ◌∙◌, ap}
 use Rattle.std.proofs.lemmas.List.{length_push}
+use Rattle.spec_automata.specs.Encoding.{one_of_these}
 use Rattle.lbnf_regex.specs.Patterns.{bytes_of_pattern}
 use Rattle.lbnf_regex.specs.States.{state_at, IsRow, AreRows}
 use Rattle.lbnf_regex.proofs.StateLemmas.{grows_len, grows_at, rows_grow, rows_push}
@@ -8,7 +9,7 @@ use Rattle.lbnf_regex.proofs.states.make_table.Goals as goal
 
 pub states-preserved : goal.states-preserved
 states-preserved c =
-    let x = bytes_of_pattern c.args.pattern.now in
+    let x = one_of_these (map bytes_of_pattern c.args.kinds.now) in
     let old : List (List ℕ) = c.states.states in
     let new : List (List ℕ) = c.row.new.states in
     let rows : List (List (Option ℕ)) = c.states.rows in
@@ -34,7 +35,7 @@ states-preserved c =
 
 pub returns-clause-table : goal.returns-clause-table
 returns-clause-table c =
-    let x = bytes_of_pattern c.args.pattern.now in
+    let x = one_of_these (map bytes_of_pattern c.args.kinds.now) in
     let same : length c.states.rows ≡ length c.states.states =
     omega (arith, c.states-test.false, c.len.ensures, c.len-in-states.ensures, c.states.invariant.within) in
     record {

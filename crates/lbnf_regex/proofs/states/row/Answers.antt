@@ -1,8 +1,8 @@
 -- Each entry is right, and states that are added change none before it.
-use Rattle.std.proofs.Common.{◌≡◌, ℕ, ◌<◌, List, [], length, sym, subst, ap, arith, ◌∙◌}
-use Rattle.std.proofs.lemmas.List.{get_or_read}
+use Rattle.std.proofs.Common.{map, ◌≡◌, ℕ, ◌<◌, List, length, sym, subst, arith, ◌∙◌}
 use Rattle.std.proofs.lemmas.Result.{err_from_is_err_and}
 use Rattle.lbnf_regex.specs.declared.lex_fault.LexFault.TheVariants.{TooManyStates}
+use Rattle.spec_automata.specs.Encoding.{one_of_these}
 use Rattle.lbnf_regex.specs.Patterns.{bytes_of_pattern}
 use Rattle.lbnf_regex.specs.Sets.{AreExpected}
 use Rattle.lbnf_regex.specs.States.{state_at, IsEntry}
@@ -11,13 +11,9 @@ use Rattle.lbnf_regex.proofs.states.row.Goals as goal
 
 pub returns-in_err-entry-clause-full : goal.returns-in_err-entry-clause-full
 returns-in_err-entry-clause-full c =
-    let x = bytes_of_pattern c.args.pattern.now in
+    let x = one_of_these (map bytes_of_pattern c.args.kinds.now) in
     let i = c.args.i in
-    let is : c.index-as_slice-i.result ≡ state_at c.as_slice.result.now i =
-    get_or_read c.as_slice.result.now i c.index-as_slice-i.result
-    (omega (arith, c.requires.within, ap length c.as_slice.ensures)) c.index-as_slice-i.is [] in
-    let same : c.as_slice-2.result.now ≡ state_at c.args.states.now i =
-    c.as_slice-2.ensures ∙ is ∙ ap (λ (z : List (List ℕ)). state_at z i) c.as_slice.ensures in
+    let same : c.at.result.now ≡ state_at c.args.states.now i = c.at.ensures in
     let grows = c.loop-byte.invariant.grows in
     let at = grows_at c.args.states.now c.loop-byte.states grows i c.requires.within in
     let are : AreExpected x (state_at c.loop-byte.states i) c.in_ok-expected.expected =
@@ -28,17 +24,13 @@ returns-in_err-entry-clause-full c =
     rw (p.1, p.2)
     (λ full.
     no_room x c.loop-byte.states i c.in_ok-expected.expected c.loop-byte.byte c.loop-byte.invariant.are lt are
-    c.loop-byte-test.true c.args.most (rw c.as_slice-in-loop-byte.ensures at c.in_err-entry.ensures.full (other_err c.in_err-entry.field-0.0 TooManyStates full)))
+    c.loop-byte-test.true c.args.most (rw c.as_slice.ensures at c.in_err-entry.ensures.full (other_err c.in_err-entry.field-0.0 TooManyStates full)))
 
 pub loop-byte-preserved : goal.loop-byte-preserved
 loop-byte-preserved c =
-    let x = bytes_of_pattern c.args.pattern.now in
+    let x = one_of_these (map bytes_of_pattern c.args.kinds.now) in
     let i = c.args.i in
-    let is : c.index-as_slice-i.result ≡ state_at c.as_slice.result.now i =
-    get_or_read c.as_slice.result.now i c.index-as_slice-i.result
-    (omega (arith, c.requires.within, ap length c.as_slice.ensures)) c.index-as_slice-i.is [] in
-    let same : c.as_slice-2.result.now ≡ state_at c.args.states.now i =
-    c.as_slice-2.ensures ∙ is ∙ ap (λ (z : List (List ℕ)). state_at z i) c.as_slice.ensures in
+    let same : c.at.result.now ≡ state_at c.args.states.now i = c.at.ensures in
     let old : List (List ℕ) = c.loop-byte.states in
     let new : List (List ℕ) = c.entry.new.states in
     let b : ℕ = c.loop-byte.byte in
@@ -47,7 +39,7 @@ loop-byte-preserved c =
     let are : AreExpected x (state_at old i) c.in_ok-expected.expected =
     subst (λ (z : List ℕ). AreExpected x z c.in_ok-expected.expected) (same ∙ sym at) c.in_ok-expected.ensures.ok in
     let lt : i < length old = omega (arith, c.requires.within, grows_len c.args.states.now old grows) in
-    let gets = rw c.as_slice-in-loop-byte.ensures at c.in_ok-entry.ensures.ok in
+    let gets = rw c.as_slice.ensures at c.in_ok-entry.ensures.ok in
     let right = entry_is x old i c.in_ok-expected.expected b c.loop-byte.invariant.are lt are c.loop-byte-test.true new
     c.in_ok-entry.entry gets in
     record {

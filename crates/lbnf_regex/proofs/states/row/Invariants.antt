@@ -1,4 +1,5 @@
-use Rattle.std.proofs.Common.{◌≤◌, length}
+use Rattle.std.proofs.Common.{map, ◌≤◌, length}
+use Rattle.spec_automata.specs.Encoding.{one_of_these}
 use Rattle.lbnf_regex.specs.Patterns.{bytes_of_pattern}
 use Rattle.lbnf_regex.specs.States.{state_at, Grows, AreStates, IsRow}
 use Rattle.lbnf_regex.proofs.states.row.Given as goal
@@ -7,7 +8,7 @@ use Rattle.lbnf_regex.proofs.states.row.Given as goal
 abbrev pub invariant-loop-byte : goal.invariant-loop-byte
 invariant-loop-byte l = record {
   grows : Grows l.fn.states l.states;
-  are : AreStates (bytes_of_pattern l.pattern) l.states;
+  are : AreStates (one_of_these (map bytes_of_pattern l.kinds)) l.states;
   few : length l.states ≤ l.most;
-  row : IsRow (bytes_of_pattern l.pattern) l.states (state_at l.fn.states l.i) l.byte l.row;
+  row : IsRow (one_of_these (map bytes_of_pattern l.kinds)) l.states (state_at l.fn.states l.i) l.byte l.row;
 }
