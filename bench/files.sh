@@ -2,9 +2,10 @@
 # Counts the instructions of `lbnfchart serve` on grammar files of 8,192 to 65,536 bytes, by
 # valgrind, in a session that ends behind its grammar, less those of an empty grammar: a file takes
 # one or two milliseconds, which are too few to be timed. Each family of files has one of each size.
-# The last line says whether in each family a byte of the largest file takes at most 1.3 times the
-# instructions of a byte of the smallest. The status is 1 where it is not so, and 2 where the
-# program gives a wrong answer.
+# In three families the closures of the binary form grow with the square of the file: there a member
+# of these is the measure, and in the others a byte. The last line says whether in each family a byte
+# or a member of the largest file takes at most 1.3 times the instructions of one of the smallest.
+# The status is 1 where it is not so, and 2 where the program gives a wrong answer.
 #
 #     bench/files.sh [PROGRAM]
 #
@@ -85,6 +86,18 @@ def empty(size):
     return padded(rules, size), f'rules {count + 1} categories {count + 1} kinds 0'
 
 
+def chain_members(size):
+    """The category number k of a chain reaches itself and those before it."""
+    count = size // 66 + 1
+    return count * (count + 1) // 2
+
+
+def empty_members(size):
+    """The category number k of the rule reaches the k items that a suffix may begin with, and so
+    does the item; about the square of their number."""
+    return min(size // 64, 1000) ** 2
+
+
 def kinds(size):
     """Rules with a word each, all different."""
     count = min(size // 64, 1000)
@@ -112,24 +125,26 @@ def instructions(block, reply):
 
 
 FAMILIES = (
-    ('internal rules, read whole', internal),
-    ('the same, refused at the last byte', refused),
-    ('a chain of nullable categories', chain),
-    ('the same, from its end', rising),
-    ('26 categories, each many of the next', copies),
-    ('all nullable, in one rule', empty),
-    ('1,000 kinds', kinds),
-    ('1,000 categories', categories),
+    ('internal rules, read whole', internal, None),
+    ('the same, refused at the last byte', refused, None),
+    ('a chain of nullable categories', chain, chain_members),
+    ('the same, from its end', rising, chain_members),
+    ('26 categories, each many of the next', copies, None),
+    ('all nullable, in one rule', empty, empty_members),
+    ('1,000 kinds', kinds, None),
+    ('1,000 categories', categories, None),
 )
 
 base = instructions(b'', 'rules 0 categories 0 kinds 0')
 fine = True
-for title, made in FAMILIES:
-    costs = [(instructions(*made(size)) - base) / size for size in SIZES]
+for title, made, members in FAMILIES:
+    unit = 'byte' if members is None else 'member'
+    counts = SIZES if members is None else [members(size) for size in SIZES]
+    costs = [(instructions(*made(size)) - base) / count for size, count in zip(SIZES, counts)]
     ratio = costs[-1] / costs[0]
     fine = fine and ratio <= MOST
     told = ', '.join(f'{size} bytes {cost:.0f}' for size, cost in zip(SIZES, costs))
-    print(f'{title}: instructions a byte at {told}; {ratio:.2f} times', flush=True)
+    print(f'{title}: instructions a {unit} at {told}; {ratio:.2f} times', flush=True)
 print(f'within {MOST} times' if fine else f'NOT within {MOST} times')
 sys.exit(0 if fine else 1)
 PROGRAM
