@@ -2,9 +2,10 @@
 # Counts the instructions of `lbnfchart serve` on grammar files of 8,192 to 65,536 bytes, by
 # valgrind, in a session that ends behind its grammar, less those of an empty grammar: a file takes
 # one or two milliseconds, which are too few to be timed. Each family of files has one of each size.
-# In three families the closures of the binary form grow with the square of the file: there a member
-# of these is the measure, and in the others a byte. The last line says whether in each family a byte
-# or a member of the largest file takes at most 1.3 times the instructions of one of the smallest.
+# Where the closures of the binary form grow with the square of the file, a member of these is the
+# measure, where the searches for a category that reaches itself do, a category that one looks at,
+# and else a byte. The last line says whether in each family such a unit of the largest file takes at
+# most 1.3 times the instructions of one of the smallest.
 # The status is 1 where it is not so, and 2 where the program gives a wrong answer.
 #
 #     bench/files.sh [PROGRAM]
@@ -12,13 +13,7 @@
 # measures another build of the program in place of the one that stands here.
 set -eu
 
-root=$(cd -- "$(dirname -- "${BASH_SOURCE[0]}")/.." && pwd)
-program=${1:-$root/crates/lbnfchart/out/lbnfchart}
-
-# The first run builds the program, where it has to be built. With no word it writes a line.
-if [[ $# -eq 0 ]]; then
-    "$root/bin/lbnfchart" </dev/null >/dev/null || [[ $? -eq 1 ]] || exit 2
-fi
+source "$(dirname -- "${BASH_SOURCE[0]}")/program.bash"
 
 exec python3 - "$program" <<'PROGRAM'
 import re
@@ -113,6 +108,39 @@ def categories(size):
     return padded(rules, size), f'rules {count + 1} categories {count + 1} kinds 10'
 
 
+def tower(size):
+    """A tower of levels, each with an operator: an expression of a level is one of each below."""
+    count = levels(size)
+    rules = [f'coercions Exp {count} ;', f'One. Exp{count} ::= "1" ;']
+    for n in range(count):
+        level = f'Exp{n}' if n else 'Exp'
+        rules.append(f'R{n:03d}. {level} ::= Exp{n + 1} "plus" {level} ;')
+    return padded(rules, size), f'rules {2 * count + 2} categories {count + 1} kinds 4'
+
+
+def levels(size):
+    return min(size // 80, 330)
+
+
+def tower_members(size):
+    """An expression of a level is one of each level below it."""
+    return levels(size) * (levels(size) + 1) // 2
+
+
+def cycle(size):
+    """A chain of categories of which the last one alone reaches itself."""
+    count = size // 70
+    rules = [f'R{n:03d}. {name(n)} ::= {name(n + 1)} ;' for n in range(count)]
+    rules.append(f'End. {name(count)} ::= {name(count)} ;')
+    return padded(rules, size), f'refused cyclic {name(count)}'
+
+
+def cycle_searches(size):
+    """There is a search from each category of the chain, which looks at all behind it."""
+    count = size // 70 + 1
+    return count * (count + 1) // 2
+
+
 def instructions(block, reply):
     given = b'script 1\ngrammar %d\n' % len(block) + block + b'\n'
     done = subprocess.run(COUNTED, input=given, capture_output=True)
@@ -125,22 +153,23 @@ def instructions(block, reply):
 
 
 FAMILIES = (
-    ('internal rules, read whole', internal, None),
-    ('the same, refused at the last byte', refused, None),
-    ('a chain of nullable categories', chain, chain_members),
-    ('the same, from its end', rising, chain_members),
-    ('26 categories, each many of the next', copies, None),
-    ('all nullable, in one rule', empty, empty_members),
-    ('1,000 kinds', kinds, None),
-    ('1,000 categories', categories, None),
+    ('internal rules, read whole', internal, 'byte', None),
+    ('the same, refused at the last byte', refused, 'byte', None),
+    ('a chain of nullable categories', chain, 'member', chain_members),
+    ('the same, from its end', rising, 'member', chain_members),
+    ('26 categories, each many of the next', copies, 'byte', None),
+    ('all nullable, in one rule', empty, 'member', empty_members),
+    ('1,000 kinds', kinds, 'byte', None),
+    ('1,000 categories', categories, 'byte', None),
+    ('a tower of levels', tower, 'member', tower_members),
+    ('a chain into a cycle', cycle, 'category looked at', cycle_searches),
 )
 
 base = instructions(b'', 'rules 0 categories 0 kinds 0')
 fine = True
-for title, made, members in FAMILIES:
-    unit = 'byte' if members is None else 'member'
-    counts = SIZES if members is None else [members(size) for size in SIZES]
-    costs = [(instructions(*made(size)) - base) / count for size, count in zip(SIZES, counts)]
+for title, made, unit, count in FAMILIES:
+    counts = SIZES if count is None else [count(size) for size in SIZES]
+    costs = [(instructions(*made(size)) - base) / units for size, units in zip(SIZES, counts)]
     ratio = costs[-1] / costs[0]
     fine = fine and ratio <= MOST
     told = ', '.join(f'{size} bytes {cost:.0f}' for size, cost in zip(SIZES, costs))

@@ -1,7 +1,7 @@
 #!/usr/bin/env bash
 # Times a million questions to `lbnfchart serve`, from a file into a file, under a grammar of 676
 # categories: once on the category that is numbered first, and once on the last one. Each time is
-# the least of five runs, which take turns. The last two lines say whether the last category takes
+# the least of fifteen runs, which take turns. The last two lines say whether the last category takes
 # at most 1.2 times as long as the first, and whether a million replies or more are written in a
 # second. The status is 1 where one is not so, and 2 where the program gives a wrong answer.
 #
@@ -10,13 +10,7 @@
 # measures another build of the program in place of the one that stands here.
 set -eu
 
-root=$(cd -- "$(dirname -- "${BASH_SOURCE[0]}")/.." && pwd)
-program=${1:-$root/crates/lbnfchart/out/lbnfchart}
-
-# The first run builds the program, where it has to be built. With no word it writes a line.
-if [[ $# -eq 0 ]]; then
-    "$root/bin/lbnfchart" </dev/null >/dev/null || [[ $? -eq 1 ]] || exit 2
-fi
+source "$(dirname -- "${BASH_SOURCE[0]}")/program.bash"
 
 exec python3 - "$program" <<'PROGRAM'
 import pathlib
@@ -28,7 +22,7 @@ import time
 
 PROGRAM = sys.argv[1]
 QUESTIONS = 1_000_000
-RUNS = 5
+RUNS = 15
 MOST_TIMES, LEAST_REPLIES = 1.2, 1_000_000
 
 # Aaa, Aab, and so on up to Azz, each the same one token.
