@@ -1,5 +1,5 @@
 -- States that are added, rows of states, and entries of rows.
-use Rattle.std.proofs.Common.{◌≡◌, ◌≢◌, ℕ, zero, suc, ◌+◌, ◌<◌, ◌≤◌, ◌⊎◌, List, [], ◌∷◌, ◌++◌, length, Option, Some, None, Result, Err, slice_index_or, refl, sym, ◌∙◌, ap, inl, inr, arith, append_assoc, subst, length-append}
+use Rattle.std.proofs.Common.{◌≡◌, ◌≢◌, ℕ, zero, suc, ◌+◌, ◌<◌, ◌≤◌, ◌⊎◌, List, [], ◌∷◌, ◌++◌, length, Option, Some, None, IfSome, Result, Err, slice_index_or, refl, sym, ◌∙◌, ap, inl, inr, arith, append_assoc, subst, length-append}
 use Rattle.std.specs.List.{Contains}
 use Rattle.std.proofs.lemmas.Bool.{cases_lt}
 use Rattle.std.proofs.lemmas.List.{length_push, get_or_append_left, get_or_push, append-nil}
@@ -8,10 +8,9 @@ use Rattle.cell_sets.proofs.CellsLemmas.{has_first}
 use Rattle.spec_automata.specs.ByteExpressions.{ByteExpression}
 use Rattle.spec_automata.specs.Positions.{EndsAt}
 use Rattle.spec_automata.specs.States.{AreBytes, HasManySets}
-use Rattle.lbnf_regex.specs.declared.next_byte.NextByte.{NextByte}
-use Rattle.lbnf_regex.specs.Sets.{IsSetOf, IsNext, AreExpected}
-use Rattle.lbnf_regex.specs.States.{IsReached, state_at, AreStates, IsStateEntry, IsStateRow, AreRows, AddsStates, IsNoneOf, GetsNumber, GetsEntry, HasNoRoomFrom}
-use Rattle.lbnf_regex.proofs.SetLemmas.{same_sets, set_like, next_of}
+use Rattle.lbnf_regex.specs.Sets.{IsSetOf, IsNext}
+use Rattle.lbnf_regex.specs.States.{IsReached, state_at, AreStates, IsStateEntry, IsStateRow, AreRows, AddsStates, IsNoneOf, GetsNumber, GetsEntry, HasNoRoom}
+use Rattle.lbnf_regex.proofs.SetLemmas.{same_sets, set_like}
 use Rattle.lbnf_regex.proofs.CountingLemmas.{StandsFor, start_stands, stands, push_some, next_is}
 
 -- an error is one whatever the answer would have been
@@ -199,33 +198,36 @@ rows_push x states n rows row h is = record {
   ];
 }
 
-module _ (x : ByteExpression) (old : List (List ℕ)) (i : ℕ) (expected : List NextByte) (b : ℕ) (are : AreStates x old)
-    (within : i < length old) (expects : AreExpected x (state_at old i) expected) (byte : b < 256) where
+module _ (x : ByteExpression) (old : List (List ℕ)) (i b : ℕ) (set : List ℕ) (are : AreStates x old)
+    (within : i < length old) (byte : b < 256) (next : IsNext x (state_at old i) b set) where
   -- where there is no room for the set that follows, there are many sets
-  pub no_room : (most : ℕ) → HasNoRoomFrom expected b old most → HasManySets x most
+  pub no_room : (most : ℕ) → (set ≢ []) × HasNoRoom old set most → HasManySets x most
   no_room most h =
-      let next = next_of x (state_at old i) expected b h.0 expects h.1 in
-      many_of x old h.0 most are (reached_next x old are i h.0 b within byte next h.2) (h.3).0 (h.3).1
+      many_of x old set most are (reached_next x old are i set b within byte next h.0) (h.1).0 (h.1).1
 
   -- an entry is right, and the states stay states
-  pub entry_is : (new : List (List ℕ)) (e : Option ℕ) → GetsEntry expected b old new e →
+  pub entry_is : (new : List (List ℕ)) (e : Option ℕ) → GetsEntry set old new e →
       AddsStates old new × AreStates x new × IsStateEntry x new (state_at old i) b e
   entry_is new None gets = (
     subst (AddsStates old) (sym gets.0) (grows_same old),
     subst (AreStates x) (sym gets.0) are,
-    next_of x (state_at old i) expected b [] expects gets.1,
+    subst (IsNext x (state_at old i) b) gets.1 next,
   )
   entry_is new (Some j) gets =
-      let set : List ℕ = gets.0 in
-      let next : IsNext x (state_at old i) b set = next_of x (state_at old i) expected b set expects gets.1 in
-      let reached : IsReached x set = reached_next x old are i set b within byte next gets.2 in
-      let number : GetsNumber old new set j = gets.3 in
+      let reached : IsReached x set = reached_next x old are i set b within byte next gets.0 in
+      let number : GetsNumber old new set j = gets.1 in
       let are_new : AreStates x new = gets_states x old new set j are reached number in (
         gets_grows old new set j number,
         are_new,
         (
-          gets_above x new set j are_new number.is gets.2,
+          gets_above x new set j are_new number.is gets.0,
           number.within,
           subst (IsNext x (state_at old i) b) (sym number.is) next,
         ),
       )
+
+-- no byte leads to the start
+pub entry_above : (x : ByteExpression) (states : List (List ℕ)) (s : List ℕ) (b : ℕ) (e : Option ℕ) →
+    IsStateEntry x states s b e → IfSome e (λ j. 0 < j)
+entry_above x states s b None is = tt
+entry_above x states s b (Some j) is = is.0

@@ -3,6 +3,7 @@ ghost use Rattle.std.specs.Prelude.{◌≡◌, ◌+◌, ◌<◌, ◌^◌, None, 
 ghost use Rattle.std.specs.Option.{option_map};
 ghost use Rattle.lbnf_regex.specs.Automata.{IsWholeMachine, kind_at, machine_of, state_behind};
 
+use crate::entry::Entry;
 use crate::kind::Kind;
 use sqlite_items::Items;
 use std::marker::Model;
@@ -10,7 +11,7 @@ use std::marker::Model;
 /// An automaton that recognises kinds, each by its place in their order. Its start is state 0.
 #[derive(Debug, Drop)]
 pub struct Automaton {
-    rows: Items<Items<Option<u16>>>,
+    rows: Items<Items<Entry>>,
     places: Items<Option<usize>>,
     comments: usize,
 }
@@ -30,7 +31,7 @@ impl Model for Automaton {
 
 impl Automaton {
     pub(crate) fn of(
-        rows: Items<Items<Option<u16>>>,
+        rows: Items<Items<Entry>>,
         places: Items<Option<usize>>,
         comments: usize,
     ) -> Automaton
@@ -66,7 +67,7 @@ impl Automaton {
         ensures next { result ≡ state_behind self.now.rows (Some state) byte }
         ensures within { IfSome result (λ next. next < length self.now.rows) }
     {
-        self.rows.as_slice()[state as usize].as_slice()[byte as usize]
+        self.rows.as_slice()[state as usize].as_slice()[byte as usize].state()
     }
 
     /// The least kind that matches what leads to the state. None where no kind does, and never
