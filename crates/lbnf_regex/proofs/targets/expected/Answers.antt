@@ -3,7 +3,7 @@ use Rattle.std.proofs.Common.{map}
 use Rattle.spec_automata.specs.Encoding.{one_of_these}
 use Rattle.lbnf_regex.specs.Patterns.{bytes_of_pattern}
 use Rattle.lbnf_regex.proofs.SetLemmas.{are_expected, are_small, empty_list}
-use Rattle.lbnf_regex.proofs.next_set.expected.Goals as goal
+use Rattle.lbnf_regex.proofs.targets.expected.Goals as goal
 
 pub returns-clause-ok : goal.returns-clause-ok
 returns-clause-ok c =
