@@ -3,8 +3,10 @@ pub mod FirstLemmas
 pub mod CheckLemmas
 pub mod CycleLemmas
 pub mod NameLemmas
+pub mod TokenNameLemmas
 pub mod SymbolLemmas
 pub mod EntryLemmas
+pub mod SymbolNameLemmas
 pub mod BoundaryLemmas
 pub mod BracketLemmas
 pub mod PieceLemmas

@@ -1,9 +1,8 @@
 -- No fault that the definitions tell is want of memory.
-use Rattle.std.proofs.Common.{◌≡◌, ℕ, List, Bool, true, false, cond, inl, inr, sym, ap}
+use Rattle.std.proofs.Common.{◌≡◌, ℕ, List, Bool, true, false, inl, inr, sym, ap}
 use Rattle.std.proofs.lemmas.Bool.{false≢true}
 use Rattle.spec_lbnf.specs.declared.fault.GrammarFault.{GrammarFault}
-use Rattle.spec_lbnf.specs.declared.fault.GrammarFault.TheVariants.{UnknownCategory}
-use Rattle.spec_lbnf.specs.declared.fault.GrammarFault.TheVariants.{Memory as GrammarMemory, Unbuilt as UnbuiltKind}
+use Rattle.spec_lbnf.specs.declared.fault.GrammarFault.TheVariants.{Memory as GrammarMemory}
 use Rattle.spec_lbnf.specs.declared.fault.TextFault.{TextFault}
 use Rattle.spec_lbnf.specs.declared.fault.TextFault.TheVariants.{Memory as FileMemory}
 use Rattle.spec_lbnf.specs.declared.token.PlacedToken.{PlacedToken}
@@ -41,12 +40,6 @@ no_memory_fault bytes (is_large large is) = false≢true (sym (ap is_file_memory
 no_memory_fault bytes (is_not_utf8 few early is) = false≢true (sym (ap is_file_memory is))
 no_memory_fault bytes (in_tokens small tokens stop scan front is at_front) = no_memory_at bytes tokens stop front at_front
 no_memory_fault bytes (bad_difference tokens defs form offset first is) = false≢true (sym (ap is_file_memory is))
-
--- a category that is not known is no want of memory, of whichever kind it is
-no_memory_unknown : (predefined : Bool) (name : List ℕ) (number : ℕ)
-    → GrammarMemory ≡ cond predefined (UnbuiltKind number) (UnknownCategory name number) → ⊥
-no_memory_unknown true name number is = false≢true (sym (ap is_grammar_memory is))
-no_memory_unknown false name number is = false≢true (sym (ap is_grammar_memory is))
 
 -- no definitions are unfit for want of memory
 pub no_memory_unfitness : NoMemoryUnfitness
