@@ -14,3 +14,6 @@ pub mod LeastLemmas
 pub mod DefSizeLemmas
 pub mod SmallLemmas
 pub mod MemoryLemmas
+pub mod Utf8Lemmas
+pub mod ExpressionLemmas
+pub mod DifferenceLemmas
