@@ -17,4 +17,5 @@ pub mod ExpressionLemmas
 pub mod DefLemmas
 pub mod RowLemmas
 pub mod DefsLemmas
+pub mod DifferenceTests
 pub mod FaultLemmas
