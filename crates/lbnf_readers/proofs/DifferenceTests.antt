@@ -97,11 +97,13 @@ item_there xs ys n x len is = by ys (omega (arith, len, slice_get_within xs n x 
 pub first_at : (defs : List Def) (tokens : List PlacedToken) (number : ℕ) → SpellsDefs defs (bare tokens) → IsFirstBad defs number
     → (offset : ℕ) × IsFirstBadAt tokens defs offset
 first_at defs tokens number spelled first =
-    let there = item_there (differences_of defs) (minus_signs tokens) number first.is_so.0 (minus_for_each defs tokens spelled) first.is_so.1 in
-    (there.0.offset, record {
-      number = number;
-      first = first;
-      sign = there.0;
-      is_sign = there.1;
-      is_offset = refl;
-    })
+    let there = item_there (differences_of defs) (minus_signs tokens) number first.is_so.0 (minus_for_each defs tokens spelled) first.is_so.1 in (
+      there.0.offset,
+      record {
+        number = number;
+        first = first;
+        sign = there.0;
+        is_sign = there.1;
+        is_offset = refl;
+      },
+    )

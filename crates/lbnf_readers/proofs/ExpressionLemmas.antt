@@ -62,30 +62,30 @@ some_expression =
     )
 
 -- how far an expression is read: the front of the tokens is what a state holds, and leads to it
-pub record IsReadTo (all front rest : List PlacedToken) (h : Held) (open : Option OpenAtom) : Type 0 where
+pub record IsReadTo (all front rest : List PlacedToken) (h : Held) (begun : Option OpenAtom) : Type 0 where
   pub whole : all ≡ front ++ rest
-  pub tokens : bare front ≡ held_tokens h ++ open_tokens open
+  pub tokens : bare front ≡ held_tokens h ++ open_tokens begun
   pub limits : IsWithin h
   pub closed : IsClosed (held_tokens h)
-  pub ran : run (bare front) first_state ≡ Some (state_of h open)
+  pub ran : run (bare front) first_state ≡ Some (state_of h begun)
   pub short : HaveShortNames rest
 
 -- a state with a level around is not whole
-open_none : (levels : List Level) (level own : Level) (open : Option OpenAtom) → whole_by (levels ++ level ∷ []) open own ≡ None
-open_none [] level own open = refl
-open_none (x ∷ levels) level own open = refl
+open_none : (levels : List Level) (level own : Level) (begun : Option OpenAtom) → whole_by (levels ++ level ∷ []) begun own ≡ None
+open_none [] level own begun = refl
+open_none (x ∷ levels) level own begun = refl
 
 module _ (all : List PlacedToken) where
   -- where what stands behind the front cannot be read, the reader stops there
-  stops_tells : (front rest : List PlacedToken) (h : Held) (open : Option OpenAtom) → IsReadTo all front rest h open
+  stops_tells : (front rest : List PlacedToken) (h : Held) (begun : Option OpenAtom) → IsReadTo all front rest h begun
       → ((others : List FileToken) (value : Expr) → Follows rest others → SpellsExpr value (bare front ++ others) → ⊥)
       → Tells IsNothing ExpressionOf all (stuck rest)
-  stops_tells front rest h open is blocked = record {
+  stops_tells front rest h begun is blocked = record {
     front = front;
     whole = is.whole;
-    closed = rw is.tokens (front_behind (held_tokens h) (open_tokens open) is.closed (open_front open));
+    closed = rw is.tokens (front_behind (held_tokens h) (open_tokens begun) is.closed (open_front begun));
     goes_on =
-        let more = completes h open is.limits in (
+        let more = completes h begun is.limits in (
           alternatives_expr more.1,
           more.0,
           λ others none. (
@@ -103,22 +103,22 @@ module _ (all : List PlacedToken) where
   }
 
   -- what is not whole at the end of the tokens is no expression
-  end_stuck : (front : List PlacedToken) (h : Held) (open : Option OpenAtom) → IsReadTo all front [] h open
-      → whole_of (state_of h open) ≡ None → Tells IsNothing ExpressionOf all (stuck [])
-  end_stuck front h open is none =
-      stops_tells front [] h open is (λ others value follows spelled.
+  end_stuck : (front : List PlacedToken) (h : Held) (begun : Option OpenAtom) → IsReadTo all front [] h begun
+      → whole_of (state_of h begun) ≡ None → Tells IsNothing ExpressionOf all (stuck [])
+  end_stuck front h begun is none =
+      stops_tells front [] h begun is (λ others value follows spelled.
       let tokens : SpellsExpr value (bare front)
       = subst (SpellsExpr value) (ap (λ ts. bare front ++ ts) follows ∙ append-nil (bare front)) spelled in
       let runs = spelled_runs value (bare front) tokens in
-      let same : state_of h open ≡ runs.0 = same_Some _ _ (sym is.ran ∙ runs.1) in
+      let same : state_of h begun ≡ runs.0 = same_Some _ _ (sym is.ran ∙ runs.1) in
       none-some value (sym none ∙ ap whole_of same ∙ runs.2))
 
   -- a token that cannot stand is in no expression behind the front
-  token_stuck : (front rest : List PlacedToken) (token : PlacedToken) (h : Held) (open : Option OpenAtom)
-      → IsReadTo all front (token ∷ rest) h open → step (state_of h open) token.token ≡ None
+  token_stuck : (front rest : List PlacedToken) (token : PlacedToken) (h : Held) (begun : Option OpenAtom)
+      → IsReadTo all front (token ∷ rest) h begun → step (state_of h begun) token.token ≡ None
       → Tells IsNothing ExpressionOf all (stuck (token ∷ rest))
-  token_stuck front rest token h open is none =
-      stops_tells front (token ∷ rest) h open is (λ others value follows spelled.
+  token_stuck front rest token h begun is none =
+      stops_tells front (token ∷ rest) h begun is (λ others value follows spelled.
       let tokens : SpellsExpr value (bare front ++ token.token ∷ follows.0)
       = subst (λ ts. SpellsExpr value (bare front ++ ts)) follows.1 spelled in
       let runs = spelled_runs value (bare front ++ token.token ∷ follows.0) tokens in
@@ -151,8 +151,8 @@ module _ (all : List PlacedToken) where
       }
 
   -- at the end of the tokens the reader tells
-  end_tells_all : (front : List PlacedToken) (h : Held) (open : Option OpenAtom) → IsReadTo all front [] h open
-      → Tells IsNothing ExpressionOf all (got_whole (whole_of (state_of h open)))
+  end_tells_all : (front : List PlacedToken) (h : Held) (begun : Option OpenAtom) → IsReadTo all front [] h begun
+      → Tells IsNothing ExpressionOf all (got_whole (whole_of (state_of h begun)))
   end_tells_all front (held outside sides left (Some part)) None is =
       subst (λ x. Tells IsNothing ExpressionOf all (got_whole x)) (sym (whole_held sides left part)) (end_got front sides left part is)
   end_tells_all front (held outside sides left None) None is = end_stuck front (held outside sides left None) None is refl
@@ -165,17 +165,17 @@ module _ (all : List PlacedToken) where
       (end_stuck front (held (within around a b c) sides left part) (Some atom) is (open_none (levels_of around) (level_of a b c) (level_of sides left part) (Some atom)))
 
   -- the reader tells, however far it is
-  tells_from : (front rest : List PlacedToken) (h : Held) (open : Option OpenAtom) → IsReadTo all front rest h open
-      → Tells IsNothing ExpressionOf all (expression_from rest (state_of h open))
+  tells_from : (front rest : List PlacedToken) (h : Held) (begun : Option OpenAtom) → IsReadTo all front rest h begun
+      → Tells IsNothing ExpressionOf all (expression_from rest (state_of h begun))
   unfolding expression_from
-  tells_from front [] h open is = end_tells_all front h open is
-  tells_from front (token ∷ rest) h open is = by (step (state_of h open) token.token) refl
+  tells_from front [] h begun is = end_tells_all front h begun is
+  tells_from front (token ∷ rest) h begun is = by (step (state_of h begun) token.token) refl
     where
-      by : (x : Option ExpressionState) → step (state_of h open) token.token ≡ x
+      by : (x : Option ExpressionState) → step (state_of h begun) token.token ≡ x
           → Tells IsNothing ExpressionOf all (behind_step x (expression_from rest) (token ∷ rest))
-      by None none = token_stuck front rest token h open is none
+      by None none = token_stuck front rest token h begun is none
       by (Some state) next =
-          let moved = moves h open token.token state is.limits is.short.0 next in
+          let moved = moves h begun token.token state is.limits is.short.0 next in
           let there : IsReadTo all (front ++ token ∷ []) rest moved.next moved.next_open = record {
             whole = is.whole ∙ sym (append_assoc front (token ∷ []) rest);
             tokens = bare-append front (token ∷ []) ∙ ap (λ ts. ts ++ token.token ∷ []) is.tokens ∙ sym moved.tokens;

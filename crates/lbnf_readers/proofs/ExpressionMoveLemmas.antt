@@ -25,12 +25,12 @@ use Rattle.lbnf_readers.specs.ExpressionReading.{if_below, factor_step, word_ato
 use Rattle.lbnf_readers.proofs.StateLemmas.{Around, outside, within, Held, held, depth_of, push_side, push_part, push_factor, alternatives_of, minus_of, state_of, with_atom, sides_tokens, left_tokens, part_tokens, level_tokens, around_tokens, held_tokens, open_tokens, IsWithin, IsAroundWithin, IsLevelWithin, side_within, part_within, factor_within, part_pushed, factor_pushed, alternatives_level, factors_some, split_last-push, levels_of, levels_count, atom_pushed, bar_pushed, minus_pushed, open_pushed, suffix_pushed, close_pushed}
 
 -- a step from what is held leads to what is held and this token, within the limits
-pub record Moves (h : Held) (open : Option OpenAtom) (token : FileToken) (state : ExpressionState) : Type 0 where
+pub record Moves (h : Held) (begun : Option OpenAtom) (token : FileToken) (state : ExpressionState) : Type 0 where
   pub next : Held
   pub next_open : Option OpenAtom
   pub is_state : state ≡ state_of next next_open
   pub limits : IsWithin next
-  pub tokens : held_tokens next ++ open_tokens next_open ≡ (held_tokens h ++ open_tokens open) ++ token ∷ []
+  pub tokens : held_tokens next ++ open_tokens next_open ≡ (held_tokens h ++ open_tokens begun) ++ token ∷ []
   pub closed : IsClosed (held_tokens h) → IsClosed (held_tokens next)
 
 -- the tokens of what is held with an atom more
@@ -85,28 +85,28 @@ one_token_moves h atom token state is one limits own = record {
     added = atom_added h atom ∙ ap (λ ts. held_tokens h ++ ts) one
 
 -- the last token of an atom of three
-last_token_moves : (h : Held) (open : OpenAtom) (atom : Atom) (token : FileToken) (state : ExpressionState)
-    → state ≡ factor_step (state_of h (Some open)) (atom_expr atom) → atom_tokens atom ≡ open_tokens (Some open) ++ token ∷ []
-    → IsWithin (with_atom h atom) → IsClosed (atom_tokens atom) → Moves h (Some open) token state
-last_token_moves h open atom token state is whole limits own = record {
+last_token_moves : (h : Held) (begun : OpenAtom) (atom : Atom) (token : FileToken) (state : ExpressionState)
+    → state ≡ factor_step (state_of h (Some begun)) (atom_expr atom) → atom_tokens atom ≡ open_tokens (Some begun) ++ token ∷ []
+    → IsWithin (with_atom h atom) → IsClosed (atom_tokens atom) → Moves h (Some begun) token state
+last_token_moves h begun atom token state is whole limits own = record {
   next = with_atom h atom;
   next_open = None;
-  is_state = is ∙ atom_pushed h (Some open) atom;
+  is_state = is ∙ atom_pushed h (Some begun) atom;
   limits = limits;
   tokens = append-nil (held_tokens (with_atom h atom)) ∙ atom_added h atom ∙ ap (λ ts. held_tokens h ++ ts) whole
-      ∙ sym (append_assoc (held_tokens h) (open_tokens (Some open)) (token ∷ []));
+      ∙ sym (append_assoc (held_tokens h) (open_tokens (Some begun)) (token ∷ []));
   closed = λ closed. rw (atom_added h atom) (closed_both (held_tokens h) (atom_tokens atom) closed own);
 }
 
 -- a token that begins an atom of three or goes on with it
-open_moves : (h : Held) (open : Option OpenAtom) (next : OpenAtom) (token : FileToken) (state : ExpressionState)
-    → state ≡ state_of h (Some next) → open_tokens (Some next) ≡ open_tokens open ++ token ∷ [] → IsWithin h → Moves h open token state
-open_moves h open next token state is whole limits = record {
+open_moves : (h : Held) (begun : Option OpenAtom) (next : OpenAtom) (token : FileToken) (state : ExpressionState)
+    → state ≡ state_of h (Some next) → open_tokens (Some next) ≡ open_tokens begun ++ token ∷ [] → IsWithin h → Moves h begun token state
+open_moves h begun next token state is whole limits = record {
   next = h;
   next_open = Some next;
   is_state = is;
   limits = limits;
-  tokens = ap (λ ts. held_tokens h ++ ts) whole ∙ sym (append_assoc (held_tokens h) (open_tokens open) (token ∷ []));
+  tokens = ap (λ ts. held_tokens h ++ ts) whole ∙ sym (append_assoc (held_tokens h) (open_tokens begun) (token ∷ []));
   closed = λ closed. closed;
 }
 
@@ -246,9 +246,15 @@ module _ (around : Around) (sides : Option Alternatives) (left : Option Differen
   bar_moves (Some part) state limits e =
       let own : Alternatives = alternatives_of sides left part in
       sign_moves (held around sides left (Some part)) (held around (Some own) None None) Bar state
-      (same_Some _ _ (sym e ∙ bar_pushed around sides left part))
-      (limits.0, (side_within (depth_of around) sides (push_part left part) limits.1.0
-      (part_within (depth_of around) left part limits.1.1 limits.1.2), tt, tt))
+      (same_Some _ _ (sym e ∙ bar_pushed around sides left part)) (
+        limits.0,
+        (
+          side_within (depth_of around) sides (push_part left part) limits.1.0
+              (part_within (depth_of around) left part limits.1.1 limits.1.2),
+          tt,
+          tt,
+        ),
+      )
       (ap (λ ts. around_tokens around ++ ((ts ++ SignToken Bar ∷ []) ++ [])) (alternatives_level sides left part) ∙ simp (append-nil, append_assoc))
       (λ e. cc e) (λ e. cc e)
 
@@ -350,10 +356,10 @@ plain_moves around sides left part (Character scalar) state limits short e =
 plain_moves around sides left part (SignToken sign) state limits short e = sign_step_moves around sides left part sign state limits e
 
 -- a token within an open atom
-atom_moves : (around : Around) (sides : Option Alternatives) (left : Option Differences) (part : Option Sequence) (open : OpenAtom)
+atom_moves : (around : Around) (sides : Option Alternatives) (left : Option Differences) (part : Option Sequence) (begun : OpenAtom)
     (token : FileToken) (state : ExpressionState) → IsWithin (held around sides left part)
-    → step (state_of (held around sides left part) (Some open)) token ≡ Some state
-    → Moves (held around sides left part) (Some open) token state
+    → step (state_of (held around sides left part) (Some begun)) token ≡ Some state
+    → Moves (held around sides left part) (Some begun) token state
 unfolding step atom_step
 atom_moves around sides left part Bracket (Text name) state limits e =
     open_moves (held around sides left part) (Some Bracket) (OpenSet name) (Text name) state (sym (same_Some _ _ e)) refl limits
@@ -365,13 +371,13 @@ atom_moves around sides left part Brace (Text name) state limits e =
 atom_moves around sides left part (OpenWord name) (SignToken CloseBrace) state limits e =
     last_token_moves (held around sides left part) (OpenWord name) (text_atom name) (SignToken CloseBrace) state (sym (same_Some _ _ e)) refl
     (atom_within around sides left part (text_atom name) limits tt) (text_closed name)
-atom_moves around sides left part open token state limits e = absurd (none-some state e)
+atom_moves around sides left part begun token state limits e = absurd (none-some state e)
 
 -- each step from what is held within the limits moves
-pub moves : (h : Held) (open : Option OpenAtom) (token : FileToken) (state : ExpressionState) → IsWithin h → IsShort token
-    → step (state_of h open) token ≡ Some state → Moves h open token state
+pub moves : (h : Held) (begun : Option OpenAtom) (token : FileToken) (state : ExpressionState) → IsWithin h → IsShort token
+    → step (state_of h begun) token ≡ Some state → Moves h begun token state
 moves (held around sides left part) None token state limits short e = plain_moves around sides left part token state limits short e
-moves (held around sides left part) (Some open) token state limits short e = atom_moves around sides left part open token state limits e
+moves (held around sides left part) (Some begun) token state limits short e = atom_moves around sides left part begun token state limits e
 
 -- with more tokens the front is that of alternatives within the limits
 abbrev pub Completes : List FileToken → Type 0
@@ -418,19 +424,19 @@ complete_held (held around sides left None) limits =
     (complete_part around sides left (one_factor (bare_atom empty_atom)) (limits.0, (limits.1.0, limits.1.1, tt))))
 
 -- an atom that is open is completed
-complete_atom : (around : Around) (sides : Option Alternatives) (left : Option Differences) (part : Option Sequence) (open : OpenAtom)
+complete_atom : (around : Around) (sides : Option Alternatives) (left : Option Differences) (part : Option Sequence) (begun : OpenAtom)
     (atom : Atom) (rest : List FileToken) → IsWithin (held around sides left part) → IsAtomWithin (depth_of around) atom
-    → atom_tokens atom ≡ open_tokens (Some open) ++ rest
-    → Completes (held_tokens (held around sides left part) ++ open_tokens (Some open))
-complete_atom around sides left part open atom rest limits own whole =
+    → atom_tokens atom ≡ open_tokens (Some begun) ++ rest
+    → Completes (held_tokens (held around sides left part) ++ open_tokens (Some begun))
+complete_atom around sides left part begun atom rest limits own whole =
     let h : Held = held around sides left part in
-    let tokens : held_tokens (with_atom h atom) ≡ (held_tokens h ++ open_tokens (Some open)) ++ rest
-    = atom_added h atom ∙ ap (λ ts. held_tokens h ++ ts) whole ∙ sym (append_assoc (held_tokens h) (open_tokens (Some open)) rest) in
-    completes_front (held_tokens h ++ open_tokens (Some open)) rest
+    let tokens : held_tokens (with_atom h atom) ≡ (held_tokens h ++ open_tokens (Some begun)) ++ rest
+    = atom_added h atom ∙ ap (λ ts. held_tokens h ++ ts) whole ∙ sym (append_assoc (held_tokens h) (open_tokens (Some begun)) rest) in
+    completes_front (held_tokens h ++ open_tokens (Some begun)) rest
     (subst Completes tokens (complete_held (with_atom h atom) (atom_within around sides left part atom limits own)))
 
 -- what a state holds can be completed
-pub completes : (h : Held) (open : Option OpenAtom) → IsWithin h → Completes (held_tokens h ++ open_tokens open)
+pub completes : (h : Held) (begun : Option OpenAtom) → IsWithin h → Completes (held_tokens h ++ open_tokens begun)
 completes h None limits = subst Completes (sym (append-nil (held_tokens h))) (complete_held h limits)
 completes (held around sides left part) (Some Bracket) limits =
     complete_atom around sides left part Bracket (set_atom []) (Text [] ∷ SignToken CloseBracket ∷ []) limits tt refl
@@ -442,7 +448,7 @@ completes (held around sides left part) (Some (OpenWord name)) limits =
     complete_atom around sides left part (OpenWord name) (text_atom name) (SignToken CloseBrace ∷ []) limits tt refl
 
 -- the tokens of an open atom are a front
-pub open_front : (open : Option OpenAtom) → IsOpenFront (open_tokens open)
+pub open_front : (begun : Option OpenAtom) → IsOpenFront (open_tokens begun)
 open_front None = closed_front [] nothing_closed
 open_front (Some Bracket) = record { lacks = lacks_without_names (SignToken OpenBracket ∷ []) refl; no_close = λ begins. cc begins.1 }
 open_front (Some (OpenSet name)) = record { lacks = lacks_without_names (SignToken OpenBracket ∷ Text name ∷ []) refl; no_close = λ begins. cc begins.1 }

@@ -84,8 +84,8 @@ levels_of (within around sides left part) = levels_of around ++ level_of sides l
 
 -- the state in code
 abbrev pub state_of : Held → Option OpenAtom → ExpressionState
-state_of (held around sides left part) open =
-    record { outer = levels_of around; level = level_of sides left part; open = open }
+state_of (held around sides left part) begun =
+    record { outer = levels_of around; level = level_of sides left part; atom = begun }
 
 -- the tokens of the parts of a level
 abbrev pub sides_tokens : Option Alternatives → List FileToken
@@ -224,9 +224,9 @@ abbrev pub with_atom : Held → Atom → Held
 with_atom (held around sides left part) atom = held around sides left (Some (push_factor part (bare_atom atom)))
 
 -- the step of an atom
-pub atom_pushed : (h : Held) (open : Option OpenAtom) (atom : Atom) → factor_step (state_of h open) (atom_expr atom) ≡ state_of (with_atom h atom) None
-atom_pushed (held around sides left None) open atom = refl
-atom_pushed (held around sides left (Some part)) open atom = refl
+pub atom_pushed : (h : Held) (begun : Option OpenAtom) (atom : Atom) → factor_step (state_of h begun) (atom_expr atom) ≡ state_of (with_atom h atom) None
+atom_pushed (held around sides left None) begun atom = refl
+atom_pushed (held around sides left (Some part)) begun atom = refl
 
 module _ (around : Around) (sides : Option Alternatives) (left : Option Differences) where
   -- the step of a bar
@@ -237,7 +237,7 @@ module _ (around : Around) (sides : Option Alternatives) (left : Option Differen
   bar_pushed part = rw (factors_some part) (by sides left)
     where
       by : (sides : Option Alternatives) (left : Option Differences)
-          → Some (record { outer = levels_of around; level = record { alternatives = sides_exprs sides ++ side_of (level_of sides left (Some part)) ∷ []; left = None; minus_signs = 0; factors = []; signs = 0 }; open = None })
+          → Some (record { outer = levels_of around; level = record { alternatives = sides_exprs sides ++ side_of (level_of sides left (Some part)) ∷ []; left = None; minus_signs = 0; factors = []; signs = 0 }; atom = None })
           ≡ Some (state_of (held around (Some (alternatives_of sides left part)) None None) None)
       by None None = refl
       by None (Some left) = refl
@@ -252,7 +252,7 @@ module _ (around : Around) (sides : Option Alternatives) (left : Option Differen
   minus_pushed part few = rw (factors_some part, lt-ltb (minus_of left) 8 few) (by left)
     where
       by : (left : Option Differences)
-          → Some (record { outer = levels_of around; level = record { alternatives = sides_exprs sides; left = Some (side_of (level_of sides left (Some part))); minus_signs = minus_of left + 1; factors = []; signs = 0 }; open = None })
+          → Some (record { outer = levels_of around; level = record { alternatives = sides_exprs sides; left = Some (side_of (level_of sides left (Some part))); minus_signs = minus_of left + 1; factors = []; signs = 0 }; atom = None })
           ≡ Some (state_of (held around sides (Some (push_part left part)) None) None)
       by None = refl
       by (Some left) = refl

@@ -159,9 +159,10 @@ proper_spelled : (defs : List Def) (pieces : List (List FileToken)) → AreSpell
     → AllByRecursion IsGood (differences_of defs) → AllByRecursion IsProper defs
 proper_spelled [] pieces is utf8 good = tt
 proper_spelled (d ∷ defs) [] is utf8 good = absurd is
-proper_spelled (d ∷ defs) (piece ∷ pieces) is utf8 good =
-    (proper_def d piece is.0 utf8.0 (all_front IsGood (differences_of_def d) (differences_of defs) good),
-    proper_spelled defs pieces is.1 utf8.1 (all_rest IsGood (differences_of_def d) (differences_of defs) good))
+proper_spelled (d ∷ defs) (piece ∷ pieces) is utf8 good = (
+  proper_def d piece is.0 utf8.0 (all_front IsGood (differences_of_def d) (differences_of defs) good),
+  proper_spelled defs pieces is.1 utf8.1 (all_rest IsGood (differences_of_def d) (differences_of defs) good),
+)
 
 -- what a file spells is proper
 pub proper_defs : ProperDefs

@@ -63,13 +63,15 @@ sound_of (class k) utf8 good = tt
 sound_of (scalar c) utf8 good = utf8
 sound_of (any_of name) utf8 good = utf8
 sound_of (word name) utf8 good = utf8
-sound_of (in_turn first second) utf8 good =
-    (sound_of first utf8.0 (all_front IsGood (differences_in first) (differences_in second) good),
-    sound_of second utf8.1 (all_rest IsGood (differences_in first) (differences_in second) good))
+sound_of (in_turn first second) utf8 good = (
+  sound_of first utf8.0 (all_front IsGood (differences_in first) (differences_in second) good),
+  sound_of second utf8.1 (all_rest IsGood (differences_in first) (differences_in second) good),
+)
 sound_of nothing utf8 good = tt
-sound_of (either left right) utf8 good =
-    (sound_of left utf8.0 (all_front IsGood (differences_in left) (differences_in right) good),
-    sound_of right utf8.1 (all_rest IsGood (differences_in left) (differences_in right) good))
+sound_of (either left right) utf8 good = (
+  sound_of left utf8.0 (all_front IsGood (differences_in left) (differences_in right) good),
+  sound_of right utf8.1 (all_rest IsGood (differences_in left) (differences_in right) good),
+)
 sound_of (minus left right) utf8 good =
     let own : List Difference = (left, right) ∷ differences_in right in
     let behind = all_rest IsGood (differences_in left) own good in
