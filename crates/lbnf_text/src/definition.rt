@@ -106,6 +106,33 @@ impl<'a> Parser<'a> {
         Ok(cats)
     }
 
+    /// Reads the name and the expression of a kind of token.
+    fn token_def(&mut self, alloc: Global) -> Result<Def, Stop> {
+        let name = self.name(alloc)?;
+        let expr = self.expression(alloc)?;
+        Ok(Def::Token { name, expr })
+    }
+
+    /// Reads a kind of token behind the word `position`.
+    fn positioned_token(&mut self, alloc: Global) -> Result<Def, Stop> {
+        let (first, behind) = self.split()?;
+        if !is_word(b"token".as_slice(), &first.token) {
+            return Err(Stop::Stuck);
+        }
+        self.go_to(behind);
+        self.token_def(alloc)
+    }
+
+    /// Reads the words of a comment, one or two.
+    fn comment(&mut self, alloc: Global) -> Result<Def, Stop> {
+        let opening = self.nonempty_text(alloc)?;
+        if self.is_at_end() {
+            return Ok(Def::LineComment(opening));
+        }
+        let closing = self.nonempty_text(alloc)?;
+        Ok(Def::BlockComment(opening, closing))
+    }
+
     /// Sees that no token is left.
     #[tactic(auto, unfolding(lbnf_readers::specs::FileReading::to_end))]
     fn end(&mut self, def: Def) -> Result<Def, Stop>
@@ -116,6 +143,29 @@ impl<'a> Parser<'a> {
         } else {
             Err(Stop::Stuck)
         }
+    }
+
+    /// Reads a kind of token or a comment by its first word, or else a rule; the first token and
+    /// the tokens behind it come next.
+    fn lexical_or_rule(
+        &mut self,
+        alloc: Global,
+        first: &PlacedToken,
+        behind: &'a [PlacedToken],
+    ) -> Result<Def, Stop> {
+        if is_word(b"token".as_slice(), &first.token) {
+            self.go_to(behind);
+            return self.token_def(alloc);
+        }
+        if is_word(b"position".as_slice(), &first.token) {
+            self.go_to(behind);
+            return self.positioned_token(alloc);
+        }
+        if is_word(b"comment".as_slice(), &first.token) {
+            self.go_to(behind);
+            return self.comment(alloc);
+        }
+        Ok(Def::Rule(self.rule(alloc)?))
     }
 
     /// Reads a definition by its first word; this and the tokens behind it come next.
@@ -149,7 +199,7 @@ impl<'a> Parser<'a> {
             self.go_to(behind);
             return Ok(Def::Entry(self.entries(alloc)?));
         }
-        Ok(Def::Rule(self.rule(alloc)?))
+        self.lexical_or_rule(alloc, first, behind)
     }
 
     /// Reads a definition that all of the tokens are.

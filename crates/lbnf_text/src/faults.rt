@@ -58,13 +58,6 @@ fn start_of(front: &[PlacedToken]) -> Start<'_>
     Start::TwoWords(word, other)
 }
 
-/// Whether a definition that begins with the word has a form that is not built.
-fn is_unbuilt(word: &[u8]) -> bool
-    ensures { result ≡ list_any (bytes_eq word.now) unbuilt_words }
-{
-    word == b"token".as_slice() || word == b"position".as_slice() || word == b"comment".as_slice()
-}
-
 /// That the word, which is copied, is not supported.
 fn unsupported(alloc: Global, word: &str, at: u32) -> TextFault
     ensures { IsFault (TextFault.Unsupported word.now at) result }
@@ -78,17 +71,6 @@ fn unsupported(alloc: Global, word: &str, at: u32) -> TextFault
     }
 }
 
-/// The fault of a lower-case word that begins no definition.
-fn word_fault(alloc: Global, number: u32, word: &Name, at: u32) -> TextFault
-    ensures { IsFault (word_fault number word.now at) result }
-{
-    if is_unbuilt(word.as_slice()) {
-        TextFault::Unbuilt { def: number }
-    } else {
-        unsupported(alloc, word.as_str(), at)
-    }
-}
-
 /// The fault of a token that begins no definition.
 fn first_fault(alloc: Global, number: u32, token: &FileToken, at: u32) -> TextFault
     ensures { IsFault (piece_fault number [] token.now at) result }
@@ -99,7 +81,7 @@ fn first_fault(alloc: Global, number: u32, token: &FileToken, at: u32) -> TextFa
     if starts_upper(word.as_slice()) {
         TextFault::Syntax { at }
     } else {
-        word_fault(alloc, number, word, at)
+        unsupported(alloc, word.as_str(), at)
     }
 }
 

@@ -121,6 +121,15 @@ impl<'a> Parser<'a> {
         Ok(text)
     }
 
+    /// Reads a string that is not empty.
+    pub fn nonempty_text(&mut self, alloc: Global) -> Result<Name, Stop> {
+        let (first, behind) = self.split()?;
+        let text = nonempty_value(&first.token).ok_or(Stop::Stuck)?;
+        let text = text.copy(alloc)?;
+        self.rest = behind;
+        Ok(text)
+    }
+
     /// Reads a number.
     #[tactic(auto, unfolding(lbnf_readers::specs::FileReading::number_at, lbnf_readers::specs::FileReading::take_token))]
     pub fn number(&mut self) -> Result<u16, Stop>
@@ -209,6 +218,16 @@ pub fn text_value(token: &FileToken) -> Option<&Name>
         Some(text)
     } else {
         None
+    }
+}
+
+/// The text that the token is, where it is not empty.
+fn nonempty_value(token: &FileToken) -> Option<&Name> {
+    let text = text_value(token)?;
+    if text.as_slice().is_empty() {
+        None
+    } else {
+        Some(text)
     }
 }
 

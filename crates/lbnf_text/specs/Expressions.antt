@@ -1,0 +1,36 @@
+-- What a reader of token expressions answers. Serves the proofs alone.
+use Rattle.std.specs.Prelude.{◌≡◌, ◌≢◌, List, [], ◌∷◌, Option, Some, None, Result, Ok, Err}
+use Rattle.spec_lexing.specs.declared.expression.Expr.{Expr}
+use Rattle.spec_lbnf.specs.TokenExpressions as written
+use Rattle.spec_lbnf.specs.TokenExpressions.{alone_or}
+use Rattle.lbnf_readers.specs.declared.expression_state.Level.{Level}
+use Rattle.lbnf_readers.specs.ExpressionReading.{bar_step, minus_step, suffix_step}
+use Rattle.lbnf_text.specs.declared.levels.Operator.{Operator}
+use Rattle.lbnf_text.specs.declared.levels.Operator.TheVariants.{Bar, Minus, Behind}
+use Rattle.lbnf_text.specs.declared.levels.Suffix.{Suffix}
+use Rattle.lbnf_text.specs.declared.levels.Suffix.TheVariants.{Star, Plus, Question}
+use Rattle.lbnf_text.specs.declared.parser.Stop.{Stop}
+use Rattle.lbnf_text.specs.declared.parser.Stop.TheVariants.{Memory, Stuck}
+
+-- the answer is what the step gives, or that it gives nothing; want of memory is free
+abbrev pub StepsTo : {A : Type 0} → Option A → Result A Stop → Type 0
+StepsTo next (Ok value) = next ≡ Some value
+StepsTo next (Err stop) = stop ≢ Memory → (next ≡ None) × (stop ≡ Stuck)
+
+-- the answer is the one part of the list, or the list, which has none or several
+abbrev pub IsAlone : List Expr → Result Expr (List Expr) → Type 0
+IsAlone parts (Ok only) = parts ≡ only ∷ []
+IsAlone parts (Err others) =
+    (parts ≡ others) × ((together : List Expr → Expr) → alone_or together parts ≡ together parts)
+
+-- the sign behind a factor, as it is written
+abbrev pub suffix_of : Suffix → written.Suffix
+suffix_of Star = written.star
+suffix_of Plus = written.plus
+suffix_of Question = written.question
+
+-- the level behind the operator
+abbrev pub operator_step : Level → Operator → Option Level
+operator_step level Bar = bar_step level
+operator_step level Minus = minus_step level
+operator_step level (Behind suffix) = suffix_step level (suffix_of suffix)
