@@ -1,12 +1,13 @@
 -- What is true of expansion and of its checks, for every list of definitions, and of the size of
 -- what a file spells.
 use Rattle.std.specs.Prelude.{◌≡◌, ℕ, ◌*◌, ◌≤◌, ◌↔◌, List, length, Some, slice_get, Contains}
-use Rattle.std.specs.Prelude.{IfSome}
+use Rattle.std.specs.Prelude.{IfSome, All}
 use Rattle.spec_grammar.specs.Cycles.{IsAcyclic}
 use Rattle.spec_lbnf.specs.declared.definition.Def.{Def}
 use Rattle.spec_lbnf.specs.declared.fault.GrammarFault.{GrammarFault}
 use Rattle.spec_lbnf.specs.declared.fault.GrammarFault.TheVariants.{Memory as GrammarMemory}
 use Rattle.spec_lbnf.specs.declared.fault.TextFault.TheVariants.{Memory as FileMemory}
+use Rattle.spec_lbnf.specs.Differences.{IsProper}
 use Rattle.spec_lbnf.specs.Faults.{Spells, IsFirstFault}
 use Rattle.spec_lbnf.specs.Limits.{size_of, AreFewAndSmall}
 use Rattle.spec_grammar.specs.Grammars.{Grammar, name_number, HasOwnSymbols}
@@ -75,3 +76,7 @@ TwoBytesForEach =
 -- what a file spells is within the limits
 abbrev pub DefsWithinLimits : Type 0
 DefsWithinLimits = (bytes : List ℕ) (defs : List Def) → Spells bytes defs → AreFewAndSmall defs
+
+-- the expressions of what a file spells are sound, and its comments have texts
+abbrev pub ProperDefs : Type 0
+ProperDefs = (bytes : List ℕ) (defs : List Def) → Spells bytes defs → All IsProper defs

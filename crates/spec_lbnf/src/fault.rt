@@ -15,9 +15,9 @@ pub enum TextFault {
     Syntax { at: u32 },
     /// A word of labelled BNF that this profile leaves out, at its first byte.
     Unsupported { word: Name, at: u32 },
-    /// The definition of this number has a form that is not built. Definitions are numbered from 0,
-    /// and empty ones are not counted.
-    Unbuilt { def: u32 },
+    /// The difference whose sign is at this byte, the first in the file, has a left side that is no
+    /// class, or a right side that is no class of ASCII characters. All else in the file is right.
+    BadDifference { at: u32 },
 }
 
 /// Why definitions give no grammar, in the order of the checks. Definitions are numbered from 0.
@@ -41,9 +41,6 @@ pub enum GrammarFault {
     /// The first category, in file order, that no rule has: its text, which is no predefined name,
     /// and the number of the definition that names it.
     UnknownCategory { name: Name, def: u32 },
-    /// The first category without a rule, in file order, has a predefined name: the number of the
-    /// definition that names it. Predefined kinds are not built.
-    Unbuilt { def: u32 },
     /// The category of least number that reaches itself by steps: its text. A category steps to an
     /// item of one of its rules where each other item of that rule derives the empty span.
     Cyclic { name: Name },

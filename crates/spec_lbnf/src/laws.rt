@@ -2,7 +2,7 @@
 ghost use Rattle.spec_lbnf.specs.Laws.{OwnSymbols, OwnEntry, FitOrUnfit, OneUnfitness};
 ghost use Rattle.spec_lbnf.specs.Laws.{NumbersNameBack, NoMemoryFault, NoMemoryUnfitness};
 ghost use Rattle.spec_lbnf.specs.Laws.{AcyclicOrCyclic, OneCyclic, DistinctNames};
-ghost use Rattle.spec_lbnf.specs.Laws.{TwoBytesForEach, DefsWithinLimits};
+ghost use Rattle.spec_lbnf.specs.Laws.{TwoBytesForEach, DefsWithinLimits, ProperDefs};
 
 /// Each rule of the grammar that definitions stand for is of a category of that grammar, and its
 /// items are categories and kinds of it, whether or not each category has a rule.
@@ -56,4 +56,10 @@ pub fn two_bytes_for_each()
 /// word of an item is empty.
 pub fn defs_within_limits()
     ensures { DefsWithinLimits }
+{}
+
+/// What a file spells has sound token expressions, each difference one of a class and a class of
+/// ASCII characters, and no comment with an empty text.
+pub fn proper_defs()
+    ensures { ProperDefs }
 {}
