@@ -1,10 +1,14 @@
 -- What a reader of token expressions answers. Serves the proofs alone.
-use Rattle.std.specs.Prelude.{◌≡◌, ◌≢◌, List, [], ◌∷◌, Option, Some, None, Result, Ok, Err}
+use Rattle.std.specs.Prelude.{◌≡◌, ◌≢◌, List, [], ◌∷◌, cond, Option, Some, None, Result, Ok, Err}
 use Rattle.spec_lexing.specs.declared.expression.Expr.{Expr}
 use Rattle.spec_lbnf.specs.TokenExpressions as written
 use Rattle.spec_lbnf.specs.TokenExpressions.{alone_or}
 use Rattle.lbnf_readers.specs.declared.expression_state.Level.{Level}
-use Rattle.lbnf_readers.specs.ExpressionReading.{bar_step, minus_step, suffix_step}
+use Rattle.spec_lbnf.specs.declared.token.Sign.{Sign}
+use Rattle.spec_lbnf.specs.declared.token.FileToken.{FileToken}
+use Rattle.lbnf_readers.specs.declared.expression_state.ExpressionState.{ExpressionState}
+use Rattle.lbnf_readers.specs.ExpressionReading.{bar_step, minus_step, suffix_step, factor_step}
+use Rattle.lbnf_readers.specs.FileReading.{is_sign}
 use Rattle.lbnf_text.specs.declared.levels.Operator.{Operator}
 use Rattle.lbnf_text.specs.declared.levels.Operator.TheVariants.{Bar, Minus, Behind}
 use Rattle.lbnf_text.specs.declared.levels.Suffix.{Suffix}
@@ -34,3 +38,8 @@ abbrev pub operator_step : Level → Operator → Option Level
 operator_step level Bar = bar_step level
 operator_step level Minus = minus_step level
 operator_step level (Behind suffix) = suffix_step level (suffix_of suffix)
+
+-- the state behind the sign that closes this atom, if the token is that sign
+abbrev pub closed_by : ExpressionState → Sign → Expr → FileToken → Option ExpressionState
+closed_by state closing atom token =
+    cond (is_sign closing token) (Some (factor_step state atom)) None
