@@ -1,5 +1,5 @@
 -- Looking at differences one after another.
-use Rattle.std.proofs.Common.{◌≡◌, ℕ, zero, suc, ◌+◌, ◌-◌, ◌<◌, ◌≤◌, List, [], ◌∷◌, ◌++◌, length, map, All, Result, Ok, Err, Option, Some, None, slice_get, refl, sym, ap, subst, ◌∙◌, arith, inl, inr, length-append, true, false, Bool}
+use Rattle.std.proofs.Common.{◌≡◌, ℕ, zero, suc, ◌+◌, ◌-◌, ◌^◌, ◌<◌, ◌≤◌, List, [], ◌∷◌, ◌++◌, length, map, All, Result, Ok, Err, Option, Some, None, slice_get, refl, sym, ap, subst, ◌∙◌, arith, inl, inr, length-append, true, false, Bool}
 use Rattle.std.specs.List.{flat_map}
 use Rattle.std.proofs.lemmas.Bool.{cases_lt}
 use Rattle.std.proofs.lemmas.Option.{slice_get_within}
@@ -118,3 +118,36 @@ module _ (left right : Expr) (before number : ℕ) where
       → Looks (differences_in (expression_of (Minus left right))) before answer
   minus_right answer looks good more =
       rw (expression-Minus left right) (looks_behind _ _ before number answer looks (looks_past _ _ number answer good more))
+
+-- of all differences some are looked at, each good, and what is found in the rest is found in all
+pub record AreLookedAt (all rest : List Difference) (before number : ℕ) : Type 0 where
+  pub found : (answer : Result ℕ ℕ) → Looks rest number answer → Looks all before answer
+  pub count : number + length rest ≡ before + length all
+
+-- at first none is looked at
+pub none_looked_at : (all : List Difference) (before : ℕ) → AreLookedAt all all before before
+none_looked_at all before = record { found = λ answer looks. looks; count = refl }
+
+-- where none is left, all are good
+pub all_looked_at : (all rest : List Difference) (before number : ℕ) → AreLookedAt all rest before number → rest ≡ []
+    → Looks all before (Ok number)
+all_looked_at all rest before number looked none = looked.found (Ok number) (rw none (looks_nowhere number))
+
+module _ (all rest xs ys : List Difference) (before number : ℕ) (looked : AreLookedAt all rest before number) (split : rest ≡ xs ++ ys) where
+  size : length rest ≡ length xs + length ys
+  size = ap (λ (ds : List Difference). length ds) split ∙ length-append xs ys
+
+  -- the next ones are few
+  pub next_few : before + length all < 2 ^ 32 → number + length xs < 2 ^ 32
+  next_few few = omega (arith, few, size, looked.count)
+
+  -- where the next ones are good, they are looked at
+  pub more_looked_at : (behind : ℕ) → Looks xs number (Ok behind) → AreLookedAt all ys before behind
+  more_looked_at behind looks = record {
+    found = λ answer more. looked.found answer (rw split (looks_behind xs ys number behind answer looks more));
+    count = omega (arith, looks.1, size, looked.count);
+  }
+
+  -- where one of them is bad, it is the first
+  pub looked_at_bad : (bad : ℕ) → Looks xs number (Err bad) → Looks all before (Err bad)
+  looked_at_bad bad looks = looked.found (Err bad) (rw split (looks_in_front xs ys number bad looks))

@@ -4,12 +4,13 @@ ghost use Rattle.std.specs.Prelude.{◌≡◌, option_map, Some, None};
 ghost use Rattle.lbnf_readers.specs.ExpressionReading.{first_state, whole_of, word_atom, at_level};
 ghost use Rattle.lbnf_readers.specs.ExpressionReading.{begin_atom, factor_step, open_step};
 ghost use Rattle.lbnf_readers.specs.ExpressionReading.{close_step, sign_step, plain_step, step};
-ghost use Rattle.lbnf_readers.specs.ExpressionReading.{atom_step, expression_at};
-ghost use Rattle.lbnf_text.specs.Expressions.{StepsTo, operator_step};
+ghost use Rattle.lbnf_readers.specs.ExpressionReading.{atom_step};
+ghost use Rattle.lbnf_readers.specs.FileReading.{text_value, expression_at};
+ghost use Rattle.lbnf_text.specs.Expressions.{StepsTo, operator_step, closed_by};
 ghost use Rattle.lbnf_text.specs.Parsing.{Gives};
 
 use crate::levels::{Operator, Suffix, empty_level, level_expr, operate, with_factor};
-use crate::parser::{Parser, Stop, is_sign, text_value};
+use crate::parser::{Parser, Stop, first_of, is_sign, text_value};
 use lbnf_readers::{ExpressionState, OpenAtom};
 use spec_lbnf::{FileToken, Sign};
 use spec_lexing::{Class, Expr};
@@ -65,7 +66,7 @@ fn factor_step(state: ExpressionState, factor: Expr) -> Result<ExpressionState, 
 }
 
 /// The state behind an operator.
-fn operator(
+fn operated(
     alloc: Global,
     state: ExpressionState,
     operator: Operator,
@@ -163,11 +164,11 @@ fn sign_step(alloc: Global, state: ExpressionState, sign: Sign) -> Result<Expres
         Sign::OpenBrace => Ok(begin_atom(state, OpenAtom::Brace)),
         Sign::OpenParen => open_step(alloc, state),
         Sign::CloseParen => close_step(alloc, state),
-        Sign::Bar => operator(alloc, state, Operator::Bar),
-        Sign::Minus => operator(alloc, state, Operator::Minus),
-        Sign::Star => operator(alloc, state, Operator::Behind(Suffix::Star)),
-        Sign::Plus => operator(alloc, state, Operator::Behind(Suffix::Plus)),
-        Sign::Question => operator(alloc, state, Operator::Behind(Suffix::Question)),
+        Sign::Bar => operated(alloc, state, Operator::Bar),
+        Sign::Minus => operated(alloc, state, Operator::Minus),
+        Sign::Star => operated(alloc, state, Operator::Behind(Suffix::Star)),
+        Sign::Plus => operated(alloc, state, Operator::Behind(Suffix::Plus)),
+        Sign::Question => operated(alloc, state, Operator::Behind(Suffix::Question)),
         Sign::CloseBracket => Err(Stop::Stuck),
         Sign::CloseBrace => Err(Stop::Stuck),
         Sign::Dot => Err(Stop::Stuck),
@@ -201,7 +202,7 @@ fn plain_step(
 }
 
 /// The string that the token is, copied.
-fn string(alloc: Global, token: &FileToken) -> Result<Name, Stop>
+fn copied_text(alloc: Global, token: &FileToken) -> Result<Name, Stop>
     ensures { StepsTo (text_value token.now) result }
 {
     let text = text_value(token).ok_or(Stop::Stuck)?;
@@ -237,11 +238,11 @@ fn atom_step(
 {
     match atom {
         OpenAtom::Bracket => {
-            let text = string(alloc, token)?;
+            let text = copied_text(alloc, token)?;
             Ok(begin_atom(state, OpenAtom::AnyOf(text)))
         }
         OpenAtom::Brace => {
-            let text = string(alloc, token)?;
+            let text = copied_text(alloc, token)?;
             Ok(begin_atom(state, OpenAtom::Word(text)))
         }
         OpenAtom::AnyOf(text) => closed(state, Sign::CloseBracket, Expr::AnyOf(text), token),
@@ -294,8 +295,7 @@ impl<'a> Parser<'a> {
         ensures { Gives (expression_at self.old) result self.new }
     {
         let mut state = first_state(alloc);
-        'tokens: while !self.is_at_end() {
-            let (first, behind) = self.split()?;
+        'tokens: while let Some((first, behind)) = first_of(self.rest()) {
             state = step(alloc, state, &first.token)?;
             self.go_to(behind);
         }
