@@ -16,9 +16,9 @@ use Rattle.spec_lbnf.specs.declared.token.FileToken.{FileToken}
 use Rattle.spec_lbnf.specs.declared.token.FileToken.TheVariants.{Identifier, Text, Character}
 use Rattle.spec_lbnf.specs.declared.token.FileToken.TheVariants.{Sign as SignToken}
 use Rattle.spec_lbnf.specs.Words.{is_empty}
-use Rattle.spec_lbnf.specs.TokenExpressions.{Suffix, star, plus, question, alone_or, suffix_expr}
-use Rattle.spec_lbnf.specs.TokenExpressions.{word_of_class, most_brackets, most_signs}
-use Rattle.spec_lbnf.specs.TokenExpressions.{most_minus_signs}
+use Rattle.spec_lbnf.specs.TokenExpressions.{Suffix, star_sign, plus_sign, question_sign}
+use Rattle.spec_lbnf.specs.TokenExpressions.{alone_or, suffix_expr, word_of_class}
+use Rattle.spec_lbnf.specs.TokenExpressions.{most_brackets, most_signs, most_minus_signs}
 use Rattle.lbnf_readers.specs.declared.expression_state.Level.{Level}
 use Rattle.lbnf_readers.specs.declared.expression_state.OpenAtom.{OpenAtom}
 use Rattle.lbnf_readers.specs.declared.expression_state.OpenAtom.TheVariants.{Bracket, Brace}
@@ -163,9 +163,9 @@ sign_step state OpenParen = open_step state
 sign_step state CloseParen = close_step state
 sign_step state Bar = option_map (at_level state) (bar_step state.level)
 sign_step state Minus = option_map (at_level state) (minus_step state.level)
-sign_step state Star = option_map (at_level state) (suffix_step state.level star)
-sign_step state Plus = option_map (at_level state) (suffix_step state.level plus)
-sign_step state Question = option_map (at_level state) (suffix_step state.level question)
+sign_step state Star = option_map (at_level state) (suffix_step state.level star_sign)
+sign_step state Plus = option_map (at_level state) (suffix_step state.level plus_sign)
+sign_step state Question = option_map (at_level state) (suffix_step state.level question_sign)
 sign_step state other = None
 
 -- a token where no atom of three tokens is open

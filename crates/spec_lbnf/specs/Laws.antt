@@ -12,8 +12,8 @@ use Rattle.spec_lbnf.specs.Faults.{Spells, IsFirstFault}
 use Rattle.spec_lbnf.specs.Limits.{size_of, AreFewAndSmall}
 use Rattle.spec_grammar.specs.Grammars.{Grammar, name_number, HasOwnSymbols}
 use Rattle.spec_lbnf.specs.Expansion.{distinct, expansion_of}
-use Rattle.spec_grammar.specs.Grammars.{IsSymbolOf}
-use Rattle.spec_lbnf.specs.Checks.{AreAllKnown, IsFirstCyclic, AreFit, IsUnfit}
+use Rattle.spec_grammar.specs.Grammars.{IsSymbolOf, HasDistinctNames}
+use Rattle.spec_lbnf.specs.Checks.{HasOwnNames, AreAllKnown, IsFirstCyclic, AreFit, IsUnfit}
 
 -- the rules that definitions give have symbols of their grammar alone
 abbrev pub OwnSymbols : Type 0
@@ -24,6 +24,10 @@ abbrev pub OwnEntry : Type 0
 OwnEntry =
     (defs : List Def) → AreAllKnown defs
     → IfSome (expansion_of defs).entry (IsSymbolOf (expansion_of defs))
+
+-- where no definition repeats a name, no two symbols of the grammar have one name
+abbrev pub OneSymbolEach : Type 0
+OneSymbolEach = (defs : List Def) → HasOwnNames defs → HasDistinctNames (expansion_of defs)
 
 -- no definitions are fit and unfit
 abbrev pub FitOrUnfit : Type 0

@@ -20,9 +20,9 @@ use Rattle.spec_lbnf.specs.declared.token.FileToken.TheVariants.{Sign as SignTok
 
 -- a sign behind a factor
 pub data Suffix : Type 0 where
-  star : Suffix
-  plus : Suffix
-  question : Suffix
+  star_sign : Suffix
+  plus_sign : Suffix
+  question_sign : Suffix
 
 mutual
   -- a difference alone, or others, a bar and one more
@@ -32,7 +32,7 @@ mutual
 
   -- a sequence alone, or a difference, a minus sign and one more
   pub data Differences : Type 0 where
-    whole : Sequence → Differences
+    one_part : Sequence → Differences
     less : Differences → Sequence → Differences
 
   -- a factor alone, or others and one more
@@ -47,18 +47,18 @@ mutual
 
   -- a character, `["w"]`, `{"w"}`, the word of a class, `eps`, or alternatives in brackets
   pub data Atom : Type 0 where
-    character : ℕ → Atom
-    any_of : List ℕ → Atom
-    literal : List ℕ → Atom
-    class_word : Class → Atom
-    empty_word : Atom
-    in_brackets : Alternatives → Atom
+    character_atom : ℕ → Atom
+    set_atom : List ℕ → Atom
+    text_atom : List ℕ → Atom
+    class_atom : Class → Atom
+    empty_atom : Atom
+    bracket_atom : Alternatives → Atom
 
 -- the sign of a suffix
 abbrev pub suffix_sign : Suffix → Sign
-suffix_sign star = Star
-suffix_sign plus = Plus
-suffix_sign question = Question
+suffix_sign star_sign = Star
+suffix_sign plus_sign = Plus
+suffix_sign question_sign = Question
 
 -- the word that a class is written as
 abbrev pub word_of_class : Class → List ℕ
@@ -77,7 +77,7 @@ abbrev mutual
 
   -- the tokens of differences: a minus sign between each two sides
   pub differences_tokens : Differences → List FileToken
-  differences_tokens (whole part) = sequence_tokens part
+  differences_tokens (one_part part) = sequence_tokens part
   differences_tokens (less left part) =
       differences_tokens left ++ (SignToken Minus ∷ sequence_tokens part)
 
@@ -94,13 +94,13 @@ abbrev mutual
 
   -- the tokens of an atom
   pub atom_tokens : Atom → List FileToken
-  atom_tokens (character scalar) = Character scalar ∷ []
-  atom_tokens (any_of name) =
+  atom_tokens (character_atom scalar) = Character scalar ∷ []
+  atom_tokens (set_atom name) =
       SignToken OpenBracket ∷ Text name ∷ SignToken CloseBracket ∷ []
-  atom_tokens (literal name) = SignToken OpenBrace ∷ Text name ∷ SignToken CloseBrace ∷ []
-  atom_tokens (class_word class) = Identifier (word_of_class class) ∷ []
-  atom_tokens empty_word = Identifier (codes "eps") ∷ []
-  atom_tokens (in_brackets sides) =
+  atom_tokens (text_atom name) = SignToken OpenBrace ∷ Text name ∷ SignToken CloseBrace ∷ []
+  atom_tokens (class_atom k) = Identifier (word_of_class k) ∷ []
+  atom_tokens empty_atom = Identifier (codes "eps") ∷ []
+  atom_tokens (bracket_atom sides) =
       SignToken OpenParen ∷ alternatives_tokens sides ++ SignToken CloseParen ∷ []
 
 -- the expression of several parts; one alone is itself
@@ -110,9 +110,9 @@ alone_or together parts = together parts
 
 -- the expression of a factor with a sign behind it
 abbrev pub suffix_expr : Suffix → Expr → Expr
-suffix_expr star part = StarExpr part
-suffix_expr plus part = PlusExpr part
-suffix_expr question part = Opt part
+suffix_expr star_sign part = StarExpr part
+suffix_expr plus_sign part = PlusExpr part
+suffix_expr question_sign part = Opt part
 
 abbrev mutual
   -- the expressions of alternatives, in order
@@ -123,7 +123,7 @@ abbrev mutual
 
   -- the expression of differences, the left ones first
   pub differences_expr : Differences → Expr
-  differences_expr (whole part) = alone_or Seq (sequence_exprs part)
+  differences_expr (one_part part) = alone_or Seq (sequence_exprs part)
   differences_expr (less left part) =
       MinusExpr (differences_expr left) (alone_or Seq (sequence_exprs part))
 
@@ -139,12 +139,12 @@ abbrev mutual
 
   -- the expression of an atom; brackets leave no trace
   pub atom_expr : Atom → Expr
-  atom_expr (character scalar) = Scalar scalar
-  atom_expr (any_of name) = AnyOf name
-  atom_expr (literal name) = Word name
-  atom_expr (class_word class) = ClassExpr class
-  atom_expr empty_word = Eps
-  atom_expr (in_brackets sides) = alone_or Alt (alternatives_exprs sides)
+  atom_expr (character_atom scalar) = Scalar scalar
+  atom_expr (set_atom name) = AnyOf name
+  atom_expr (text_atom name) = Word name
+  atom_expr (class_atom k) = ClassExpr k
+  atom_expr empty_atom = Eps
+  atom_expr (bracket_atom sides) = alone_or Alt (alternatives_exprs sides)
 
 -- the expression of alternatives
 abbrev pub alternatives_expr : Alternatives → Expr
@@ -164,7 +164,7 @@ most_minus_signs = 8
 
 -- how many minus signs the differences have at their own level
 abbrev pub minus_count : Differences → ℕ
-minus_count (whole part) = 0
+minus_count (one_part part) = 0
 minus_count (less left part) = minus_count left + 1
 
 -- how many signs are behind the factor's atom
@@ -181,7 +181,7 @@ abbrev mutual
 
   -- the differences are within the limits: they have at most 8 minus signs
   pub AreDifferencesWithin : ℕ → Differences → Type 0
-  AreDifferencesWithin opened (whole part) = IsSequenceWithin opened part
+  AreDifferencesWithin opened (one_part part) = IsSequenceWithin opened part
   AreDifferencesWithin opened (less left part) =
       AreDifferencesWithin opened left × IsSequenceWithin opened part
       × (minus_count left < most_minus_signs)
@@ -200,7 +200,7 @@ abbrev mutual
 
   -- the atom is within the limits: at most 64 round brackets are open
   pub IsAtomWithin : ℕ → Atom → Type 0
-  IsAtomWithin opened (in_brackets sides) =
+  IsAtomWithin opened (bracket_atom sides) =
       (opened < most_brackets) × AreAlternativesWithin (suc opened) sides
   IsAtomWithin opened other = Unit {0}
 
