@@ -4,25 +4,14 @@ use Rattle.std.specs.List.{flat_map}
 use Rattle.std.proofs.lemmas.Bool.{cases_lt}
 use Rattle.std.proofs.lemmas.Option.{slice_get_within}
 use Rattle.std.proofs.lemmas.List.Elements.{All-nil, All-cons, All-append}
-use Rattle.spec_lexing.specs.declared.expression.Expr.{Expr, Expr-F, fold-roll-Expr}
-use Rattle.spec_lexing.specs.declared.expression.Expr.TheVariants.{Seq, Alt, Minus, rolls-Seq, rolls-Alt, rolls-Minus}
-use Rattle.spec_lexing.specs.Expressions.{Expression, minus, all_in_turn, one_of, form_of, expression_of}
+use Rattle.spec_lexing.specs.declared.expression.Expr.{Expr}
+use Rattle.spec_lexing.specs.declared.expression.Expr.TheVariants.{Minus}
+use Rattle.spec_lexing.specs.Expressions.{all_in_turn, one_of, expression_of}
+use Rattle.spec_lexing.proofs.ExpressionLemmas.{expression-Minus}
 use Rattle.spec_lbnf.specs.Checks.{IsFirst, HasAt}
 use Rattle.spec_lbnf.specs.Differences.{Difference, differences_in, IsGood, IsBad}
 use Rattle.spec_lbnf.proofs.FirstLemmas.{none_at}
 use Rattle.lbnf_text.specs.BadDifferences.{differences_in_all, Looks}
-
--- what an expression in code stands for, by its form
-pub expression-Seq : (parts : List Expr) → expression_of (Seq parts) ≡ all_in_turn (map expression_of parts)
-expression-Seq parts = ap expression_of (sym (rolls-Seq parts)) ∙ fold-roll-Expr Expression form_of (Expr-F.Seq parts)
-
-pub expression-Alt : (parts : List Expr) → expression_of (Alt parts) ≡ one_of (map expression_of parts)
-expression-Alt parts = ap expression_of (sym (rolls-Alt parts)) ∙ fold-roll-Expr Expression form_of (Expr-F.Alt parts)
-
-pub expression-Minus : (left right : Expr) →
-    expression_of (Minus left right) ≡ minus (expression_of left) (expression_of right)
-expression-Minus left right =
-    ap expression_of (sym (rolls-Minus left right)) ∙ fold-roll-Expr Expression form_of (Expr-F.Minus left right)
 
 -- the differences in parts in turn are those in each part
 pub in_seq : (parts : List Expr) → differences_in (all_in_turn (map expression_of parts)) ≡ differences_in_all parts

@@ -1,8 +1,8 @@
 -- What a reader of token expressions answers. Serves the proofs alone.
 use Rattle.std.specs.Prelude.{◌≡◌, ◌≢◌, List, [], ◌∷◌, cond, Option, Some, None, Result, Ok, Err}
 use Rattle.spec_lexing.specs.declared.expression.Expr.{Expr}
-use Rattle.spec_lbnf.specs.TokenExpressions as written
-use Rattle.spec_lbnf.specs.TokenExpressions.{alone_or}
+use Rattle.spec_lbnf.specs.TokenExpressions.{Suffix as Written, star_sign, plus_sign}
+use Rattle.spec_lbnf.specs.TokenExpressions.{question_sign, alone_or}
 use Rattle.lbnf_readers.specs.declared.expression_state.Level.{Level}
 use Rattle.spec_lbnf.specs.declared.token.Sign.{Sign}
 use Rattle.spec_lbnf.specs.declared.token.FileToken.{FileToken}
@@ -28,10 +28,10 @@ IsAlone parts (Err others) =
     (parts ≡ others) × ((together : List Expr → Expr) → alone_or together parts ≡ together parts)
 
 -- the sign behind a factor, as it is written
-abbrev pub suffix_of : Suffix → written.Suffix
-suffix_of Star = written.star
-suffix_of Plus = written.plus
-suffix_of Question = written.question
+abbrev pub suffix_of : Suffix → Written
+suffix_of Star = star_sign
+suffix_of Plus = plus_sign
+suffix_of Question = question_sign
 
 -- the level behind the operator
 abbrev pub operator_step : Level → Operator → Option Level
