@@ -1,7 +1,10 @@
 -- Looking at differences one after another.
-use Rattle.std.proofs.Common.{◌≡◌, ℕ, zero, suc, ◌+◌, ◌-◌, ◌^◌, ◌<◌, ◌≤◌, List, [], ◌∷◌, ◌++◌, length, map, All, Result, Ok, Err, Option, Some, None, slice_get, refl, sym, ap, subst, ◌∙◌, arith, inl, inr, length-append, true, false, Bool}
-use Rattle.std.specs.List.{flat_map}
-use Rattle.std.proofs.lemmas.Bool.{cases_lt}
+use Rattle.std.proofs.Common.{◌≡◌, ℕ, zero, suc, ◌+◌, ◌-◌, ◌^◌, ◌<◌, ◌≤◌, List, [], ◌∷◌, ◌++◌, length, map, All, Result, Ok, Err, Option, Some, None, slice_get, refl, sym, ap, subst, ◌∙◌, arith, inl, inr, length-append, true, false, Bool, IsTrue, ◌↔◌, IsUtf8}
+use Rattle.std.specs.Bool.{MatchBool}
+use Rattle.std.specs.Str.{IsAscii, IsNotAscii, chars}
+use Rattle.std.proofs.lemmas.Bool.{cases_lt, false≢true}
+use Rattle.std.proofs.lemmas.Str.{chars-IsAscii, encodes-chars}
+use Rattle.std.proofs.lemmas.Str.Ascii.{All-from_ascii, IsAscii-from_all, encodes-IsAscii}
 use Rattle.std.proofs.lemmas.Option.{slice_get_within}
 use Rattle.std.proofs.lemmas.List.Elements.{All-nil, All-cons, All-append}
 use Rattle.spec_lexing.specs.declared.expression.Expr.{Expr}
@@ -140,3 +143,15 @@ module _ (all rest xs ys : List Difference) (before number : ℕ) (looked : AreL
   -- where one of them is bad, it is the first
   pub looked_at_bad : (bad : ℕ) → Looks xs number (Err bad) → Looks all before (Err bad)
   looked_at_bad bad looks = looked.found (Err bad) (rw split (looks_in_front xs ys number bad looks))
+
+-- a name has ASCII characters alone where it has ASCII bytes alone
+pub ascii_name : (name : List ℕ) → IsUtf8 name → (alone : Bool) → MatchBool alone (IsAscii name) (IsNotAscii name)
+    → IsTrue alone ↔ All (λ c. c < 128) (chars name)
+ascii_name name utf8 true ascii = (λ yes. rw (chars-IsAscii name ascii) (All-from_ascii name ascii), λ all. refl)
+ascii_name name utf8 false wide =
+    (λ no. absurd (false≢true no),
+    λ all.
+      let bytes : IsAscii (chars name) = IsAscii-from_all (chars name) all in
+      let same : chars name ≡ name = sym (encodes-IsAscii (chars name) bytes) ∙ encodes-chars name utf8 in
+      let ascii : IsAscii name = subst IsAscii same bytes in
+      absurd (omega (arith, wide.1, ascii wide.0)))
