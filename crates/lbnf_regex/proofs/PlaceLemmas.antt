@@ -1,5 +1,5 @@
 -- The kinds one behind the other, and which of them match a text.
-use Rattle.std.proofs.Common.{◌≡◌, ◌≢◌, ℕ, zero, suc, ◌+◌, ◌<◌, ◌≤◌, ◌^◌, ◌↔◌, List, [], ◌∷◌, length, map, drop, get_or, Option, Some, None, MatchOption, slice_index_or, refl, sym, ◌∙◌, inl, inr, arith, subst}
+use Rattle.std.proofs.Common.{◌≡◌, ◌≢◌, ℕ, zero, suc, ◌+◌, ◌<◌, ◌≤◌, ◌^◌, ◌↔◌, List, [], ◌∷◌, length, map, drop, get_or, Option, Some, None, IfSome, MatchOption, slice_index_or, refl, sym, ◌∙◌, inl, inr, arith, subst}
 use Rattle.std.specs.List.{Contains}
 use Rattle.std.proofs.lemmas.Bool.{cases_lt}
 use Rattle.std.proofs.lemmas.List.{get_or_past}
@@ -8,7 +8,7 @@ use Rattle.spec_automata.specs.ByteExpressions.{ByteExpression, MatchesBytes}
 use Rattle.spec_automata.specs.Encoding.{one_of_these}
 use Rattle.spec_automata.specs.Positions.{position_count, EndsAt}
 use Rattle.lbnf_regex.specs.declared.pattern.Pattern.{Pattern}
-use Rattle.lbnf_regex.specs.Automata.{IsWholeMachine, machine_of, MatchesInPlace, AreLeastMatching, RecognisesThese}
+use Rattle.lbnf_regex.specs.Automata.{Machine, IsWholeMachine, machine_of, state_behind, MatchesInPlace, AreLeastMatching, RecognisesThese}
 use Rattle.lbnf_regex.specs.Patterns.{bytes_of_pattern}
 use Rattle.lbnf_regex.specs.Steps.{HasLast}
 use Rattle.lbnf_regex.specs.States.{EndsInPlace, IsLeastEnding, ArePlaces, IsTable, IsStateEntry, state_at}
@@ -153,6 +153,12 @@ is_whole xs x most comments states rows places room few table are = (
     entry_within x states s b None j is e = cc
     entry_within x states s b (Some k) j is e =
         let same : k ≡ j = same_Some k j e in omega (arith, same, is.1)
+
+-- what follows a state of a whole automaton is a state
+pub next_within : (a : Machine) (state byte : ℕ) (next : Option ℕ) → IsWholeMachine a → state < length a.rows → byte < 256 →
+    next ≡ state_behind a.rows (Some state) byte → IfSome next (λ j. j < length a.rows)
+next_within a state byte None whole lt lt_b e = tt
+next_within a state byte (Some j) whole lt lt_b e = whole.4 state byte j lt lt_b (sym e)
 
 -- so it recognises the expressions
 pub recognises : (xs : List ByteExpression) (most comments : ℕ) (states : List (List ℕ)) (rows : List (List (Option ℕ)))
