@@ -1,8 +1,8 @@
 -- The kinds one behind the other, and which of them match a text.
-use Rattle.std.proofs.Common.{◌≡◌, ◌≢◌, ℕ, zero, suc, ◌+◌, ◌<◌, ◌≤◌, ◌^◌, ◌↔◌, List, [], ◌∷◌, length, map, drop, get_or, Option, Some, None, MatchOption, slice_index_or, refl, sym, ◌∙◌, inl, inr, arith, subst}
+use Rattle.std.proofs.Common.{◌≡◌, ◌≢◌, ℕ, zero, suc, ◌+◌, ◌<◌, ◌≤◌, ◌^◌, ◌↔◌, List, [], ◌∷◌, length, map, drop, get_or, Option, Some, None, IfSome, MatchOption, slice_index_or, refl, sym, ◌∙◌, ap, inl, inr, arith, subst}
 use Rattle.std.specs.List.{Contains}
 use Rattle.std.proofs.lemmas.Bool.{cases_lt}
-use Rattle.std.proofs.lemmas.List.{get_or_past}
+use Rattle.std.proofs.lemmas.List.{get_or_default, get_or_past}
 use Rattle.std.proofs.lemmas.Option.{same_Some}
 use Rattle.spec_automata.specs.ByteExpressions.{ByteExpression, MatchesBytes}
 use Rattle.spec_automata.specs.Encoding.{one_of_these}
@@ -153,6 +153,24 @@ is_whole xs x most comments states rows places room few table are = (
     entry_within x states s b None j is e = cc
     entry_within x states s b (Some k) j is e =
         let same : k ≡ j = same_Some k j e in omega (arith, same, is.1)
+
+-- an entry of a row of a whole automaton is a state
+pub entry_is_state : (rows : List (List (Option ℕ))) (places : List (Option ℕ)) (comments : ℕ) (row : List (Option ℕ))
+    (entry next : Option ℕ) (state byte : ℕ) → IsWholeMachine (machine_of rows places comments) → state < length rows →
+    byte < 256 → row ≡ slice_index_or rows state row → entry ≡ slice_index_or row byte entry → next ≡ entry →
+    IfSome next (λ j. j < length rows)
+entry_is_state rows places comments row entry next state byte whole lt lt_b is_row is_entry is_next =
+    let row_at : row ≡ slice_index_or rows state [] = is_row ∙ get_or_default rows state row [] lt in
+    let size : length row ≡ 256 = ap (λ (z : List (Option ℕ)). length z) row_at ∙ whole.3 state lt in
+    let entry_at : entry ≡ slice_index_or row byte None =
+    is_entry ∙ get_or_default row byte entry None (omega (arith, size, lt_b)) in
+    let at : next ≡ slice_index_or (slice_index_or rows state []) byte None =
+    is_next ∙ entry_at ∙ ap (λ (z : List (Option ℕ)). slice_index_or z byte None) row_at in
+    by_next next (λ j e. whole.4 state byte j lt lt_b (sym at ∙ e))
+  where
+    by_next : (next : Option ℕ) → ((j : ℕ) → next ≡ Some j → j < length rows) → IfSome next (λ j. j < length rows)
+    by_next None each = tt
+    by_next (Some j) each = each j refl
 
 -- so it recognises the expressions
 pub recognises : (xs : List ByteExpression) (most comments : ℕ) (states : List (List ℕ)) (rows : List (List (Option ℕ)))

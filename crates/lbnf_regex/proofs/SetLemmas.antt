@@ -30,14 +30,6 @@ set_like Is Other set same is = record {
   are = λ p. (λ h. (same p).0 ((is.are p).0 h), λ h. (is.are p).1 ((same p).1 h));
 }
 
--- a set of numbers that are otherwise described
-pub set_like : (Is Other : ℕ → Type 0) (set : List ℕ) → ((p : ℕ) → Is p ↔ Other p) → IsSetThat Is set →
-    IsSetThat Other set
-set_like Is Other set same is = record {
-  rising = is.rising;
-  are = λ p. (λ h. (same p).0 ((is.are p).0 h), λ h. (is.are p).1 ((same p).1 h));
-}
-
 -- inside a comment a byte leads to one position
 pub comment_leads : (first : ℕ) (closing : List ℕ) (size byte longer : ℕ) →
     IsBorder closing (take size closing ++ byte ∷ []) longer → (position : ℕ) →
@@ -82,10 +74,6 @@ adds_both A B C old middle new both first second b lt p = (
     ]
   ],
 )
-
--- no targets are added where nothing holds
-pub adds_none : (A : ℕ → ℕ → Type 0) (old : List (List ℕ)) → ((b p : ℕ) → A b p → ⊥) → AddsTargets A old old
-adds_none A old never b lt p = (λ h. inl h, λ h. elim h [ inl o ↦ o | inr k ↦ absurd (never b p k) ])
 
 -- nothing is in an empty list
 pub none_there : {X : Type 0} (x : X) → Contains {X = X} [] x → ⊥

@@ -5,6 +5,20 @@ ghost use Rattle.cell_sets.specs.Cells.{AddsSymbol, IsRising};
 use std::alloc::{AllocError, Global};
 use std::marker::Model;
 
+fn insert_into(positions: &mut Vec<u32>, position: u32) -> Result<(), AllocError>
+    requires { IsRising positions.old.items }
+    ensures ok { OnOk result (AddsSymbol positions.old.items positions.new.items position) }
+    ensures rising { IsRising positions.new.items }
+{
+    match positions.as_slice().binary_search(&position) {
+        Ok(_) => Ok(()),
+        Err(at) => {
+            positions.insert(at, position)?;
+            Ok(())
+        }
+    }
+}
+
 /// A set of positions in rising order, seen as their list.
 #[derive(Debug, Drop)]
 pub(crate) struct PositionSet {
@@ -36,13 +50,7 @@ impl PositionSet {
     pub(crate) fn insert(&mut self, position: u32) -> Result<(), AllocError>
         ensures { OnOk result (AddsSymbol self.old self.new position) }
     {
-        match self.positions.binary_search(&position) {
-            Ok(_) => Ok(()),
-            Err(at) => {
-                self.positions.insert(at, position)?;
-                Ok(())
-            }
-        }
+        insert_into(&mut self.positions, position)
     }
 
     /// The positions, in rising order.

@@ -5,8 +5,8 @@ use Rattle.lbnf_regex.specs.declared.next_byte.NextByte.{NextByte}
 use Rattle.lbnf_regex.proofs.SetLemmas.{no_targets, targets_more}
 use Rattle.lbnf_regex.proofs.targets.targets_by.Goals as goal
 
-pub loop-next-initial : goal.loop-next-initial
-loop-next-initial c = no_targets c.in_ok-targets.targets c.in_ok-targets.ensures
+pub loop-next-init : goal.loop-next-init
+loop-next-init c = no_targets c.in_ok-targets.targets c.in_ok-targets.ensures
 
 pub loop-next-preserved : goal.loop-next-preserved
 loop-next-preserved c =

@@ -2,13 +2,8 @@
 use Rattle.std.proofs.Common.{◌≡◌, ◌<◌, arith}
 use Rattle.lbnf_regex.specs.declared.next_byte.NextByte.TheVariants.{InComment}
 use Rattle.lbnf_regex.specs.Steps.{LeadsTo}
-use Rattle.lbnf_regex.proofs.SetLemmas.{adds_like, adds_none, comment_more}
+use Rattle.lbnf_regex.proofs.SetLemmas.{adds_like, comment_more}
 use Rattle.lbnf_regex.proofs.targets.Targets.add_comment.Goals as goal
-
-pub loop-byte-initial : goal.loop-byte-initial
-loop-byte-initial c =
-    let next = InComment c.args.first c.args.closing.now c.args.size in
-    adds_none (λ b p. (b < 0) × LeadsTo next b p) c.args.self.now (λ b p k. omega (arith, k.0))
 
 pub loop-byte-preserved : goal.loop-byte-preserved
 loop-byte-preserved c =

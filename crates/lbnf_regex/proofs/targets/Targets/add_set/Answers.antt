@@ -3,12 +3,8 @@ use Rattle.std.proofs.Common.{◌≡◌, ℕ, List, [], take, subst}
 use Rattle.std.specs.List.{Contains}
 use Rattle.std.proofs.lemmas.List.{take_all}
 use Rattle.lbnf_regex.specs.Sets.{AddsTargets}
-use Rattle.lbnf_regex.proofs.SetLemmas.{adds_none, none_there, set_more}
+use Rattle.lbnf_regex.proofs.SetLemmas.{set_more}
 use Rattle.lbnf_regex.proofs.targets.Targets.add_set.Goals as goal
-
-pub loop-byte-initial : goal.loop-byte-initial
-loop-byte-initial c =
-    adds_none (λ b p. Contains [] b × (p ≡ c.args.position)) c.args.self.now (λ b p k. none_there b k.0)
 
 pub loop-byte-preserved : goal.loop-byte-preserved
 loop-byte-preserved c =
