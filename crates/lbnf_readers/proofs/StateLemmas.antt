@@ -156,7 +156,7 @@ side_within opened (Some sides) side first second = (first, second)
 pub part_within : (opened : ℕ) (left : Option Differences) (part : Sequence) → IsLeftWithin opened left
     → IsSequenceWithin opened part → AreDifferencesWithin opened (push_part left part)
 part_within opened None part first second = second
-part_within opened (Some left) part first second = (first.0, (second, first.1))
+part_within opened (Some left) part first second = (first.0, second, first.1)
 
 pub factor_within : (opened : ℕ) (part : Option Sequence) (factor : Factor) → IsPartWithin opened part
     → IsFactorWithin opened factor → IsSequenceWithin opened (push_factor part factor)
@@ -286,7 +286,8 @@ pub close_pushed : (around : Around) (sides : Option Alternatives) (left : Optio
     ≡ Some (state_of (with_atom (held around sides left part) (bracket_atom (alternatives_of own own_left own_part))) None)
 unfolding step plain_step sign_step
 close_pushed around sides left part own own_left own_part =
-    rw (factors_some own_part, split_last-push (levels_of around) (level_of sides left part), level_is own own_left own_part) (by part)
+    rw (factors_some own_part, split_last-push (levels_of around) (level_of sides left part))
+    (ap (λ e. Some (factor_step (state_of (held around sides left part) None) e)) (level_is own own_left own_part) ∙ by part)
   where
     by : (part : Option Sequence)
         → Some (factor_step (state_of (held around sides left part) None) (alternatives_expr (alternatives_of own own_left own_part)))
