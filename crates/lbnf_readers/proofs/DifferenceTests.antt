@@ -87,7 +87,7 @@ good_or_first defs = elim (all_or_first (differences_of defs)) [
 -- an item of a list that is as long as another
 item_there : {A B : Type 0} (xs : List A) (ys : List B) (n : ℕ) (x : A) → length xs ≡ length ys → slice_get xs n ≡ Some x
     → (y : B) × (slice_get ys n ≡ Some y)
-item_there xs ys n x len is = by ys (omega (arith, len, slice_get_within xs n x is))
+item_there {A} {B} xs ys n x len is = by ys (omega (arith, len, slice_get_within xs n x is))
   where
     by : (ys : List B) → n < length ys → (y : B) × (slice_get ys n ≡ Some y)
     by [] lt = absurd (omega (arith, lt))

@@ -169,12 +169,15 @@ module _ (all : List PlacedToken) where
       → Tells IsNothing ExpressionOf all (expression_from rest (state_of h begun))
   unfolding expression_from
   tells_from front [] h begun is = end_tells_all front h begun is
-  tells_from front (token ∷ rest) h begun is = by (step (state_of h begun) token.token) refl
+  tells_from front (token ∷ rest) h begun is =
+      by (step (state_of h begun) token.token) refl (λ f next b there. tells_from f rest next b there)
     where
       by : (x : Option ExpressionState) → step (state_of h begun) token.token ≡ x
+          → ((f : List PlacedToken) (next : Held) (b : Option OpenAtom) → IsReadTo all f rest next b
+          → Tells IsNothing ExpressionOf all (expression_from rest (state_of next b)))
           → Tells IsNothing ExpressionOf all (behind_step x (expression_from rest) (token ∷ rest))
-      by None none = token_stuck front rest token h begun is none
-      by (Some state) next =
+      by None none others = token_stuck front rest token h begun is none
+      by (Some state) next others =
           let moved = moves h begun token.token state is.limits is.short.0 next in
           let there : IsReadTo all (front ++ token ∷ []) rest moved.next moved.next_open = record {
             whole = is.whole ∙ sym (append_assoc front (token ∷ []) rest);
@@ -189,7 +192,7 @@ module _ (all : List PlacedToken) where
             short = is.short.1;
           } in
           subst (λ s. Tells IsNothing ExpressionOf all (expression_from rest s)) (sym moved.is_state)
-          (tells_from (front ++ token ∷ []) rest moved.next moved.next_open there)
+          (others (front ++ token ∷ []) moved.next moved.next_open there)
 
 -- the reader of an expression tells of the expression that the tokens are
 pub expression_tells : (tokens : List PlacedToken) → HaveShortNames tokens → Tells IsNothing ExpressionOf tokens (expression_at tokens)
@@ -235,7 +238,7 @@ word_at_tells : (word : List ℕ) → is_word word (Identifier word) ≡ true �
     → Tells IsAny (WordOf word) tokens (word_at word tokens)
 unfolding word_at
 word_at_tells word itself tokens short =
-    token_tells (λ token. cond (is_word word token) (Some tt) None) (Identifier word) tt (rw itself refl)
+    token_tells {A = Unit {0}} (λ token. cond (is_word word token) (Some tt) None) (Identifier word) tt (rw itself refl)
     (λ token done has is. let same = word_of word token done has in elim is [ inl e ↦ cc (same, e) | inr e ↦ cc (same, e) ])
     tokens short
 

@@ -209,9 +209,10 @@ module _ (around : Around) (sides : Option Alternatives) (left : Option Differen
           ≡ held_tokens (held around sides left (Some (push_factor part factor))) ++ SignToken (suffix_sign suffix) ∷ []
       added =
           let front : List FileToken → List FileToken = λ ts. around_tokens around ++ (sides_tokens sides ++ (left_tokens left ++ ts)) in
-          ap front (factor_pushed part (with_sign factor suffix))
-          ∙ simp append_assoc
-          ∙ ap (λ ts. front ts ++ SignToken (suffix_sign suffix) ∷ []) (sym (factor_pushed part factor))
+          let last : List FileToken = SignToken (suffix_sign suffix) ∷ [] in
+          let moved : front (part_tokens part ++ (factor_tokens factor ++ last)) ≡ front (part_tokens part ++ factor_tokens factor) ++ last
+          = simp append_assoc in
+          ap front (factor_pushed part (with_sign factor suffix)) ∙ moved ∙ ap (λ ts. front ts ++ last) (sym (factor_pushed part factor))
 
   -- a sign behind what may have no factor
   any_suffix_moves : (part : Option Sequence) (suffix : Suffix) (state : ExpressionState) → IsWithin (held around sides left part)

@@ -20,12 +20,12 @@ run (token ∷ tokens) state = option_and_then (run tokens) (step state token)
 -- tokens in two parts
 pub run-append : (xs ys : List FileToken) (state : ExpressionState) → run (xs ++ ys) state ≡ option_and_then (run ys) (run xs state)
 run-append [] ys state = refl
-run-append (x ∷ xs) ys state = by (step state x)
+run-append (x ∷ xs) ys state = by (step state x) (run-append xs ys)
   where
-    by : (next : Option ExpressionState)
+    by : (next : Option ExpressionState) → ((s : ExpressionState) → run (xs ++ ys) s ≡ option_and_then (run ys) (run xs s))
         → option_and_then (run (xs ++ ys)) next ≡ option_and_then (run ys) (option_and_then (run xs) next)
-    by None = refl
-    by (Some next) = run-append xs ys next
+    by None others = refl
+    by (Some next) others = others next
 
 -- a run, and another behind it
 pub run_both : (xs ys : List FileToken) (a b : ExpressionState) (c : Option ExpressionState) → run xs a ≡ Some b → run ys b ≡ c
