@@ -31,7 +31,7 @@ one_token expression = codes "token T " ++ expression
 
 -- the bytes so many times
 abbrev pub times : ℕ → List ℕ → List ℕ
-times count bytes = flat_map (λ code. bytes) (replicate count 0)
+times count bytes = flat_map {X = ℕ} (λ code. bytes) (replicate count 0)
 
 -- the definition of one kind of token
 abbrev pub token_def : Expr → Def

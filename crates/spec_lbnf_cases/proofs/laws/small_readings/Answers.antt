@@ -84,10 +84,10 @@ returns c = record {
   deep_category = spelled (one_category 63 (codes "SS")) _ (omega arith) refl refl refl tt;
   too_long_category = faulty (one_category 63 (codes "SSS")) _ (omega arith) refl refl;
   no_utf8 = is_not_utf8 (omega arith) (omega arith) refl;
-  kind = spelled (codes "position token Hex {\"0x\"} (digit|[\"af\"])+") _ (omega arith) refl refl refl (simp (expression-Seq, expression-Alt, expression-Minus, expression-Star, expression-Plus, expression-Opt, expression-Class, expression-Scalar, expression-AnyOf, expression-Word) tt);
+  kind = spelled (codes "position token Hex {\"0x\"} (digit|[\"af\"])+") _ (omega arith) refl refl refl (simp (expression-Eps, expression-Seq, expression-Alt, expression-Minus, expression-Star, expression-Plus, expression-Opt, expression-Class, expression-Scalar, expression-AnyOf, expression-Word) tt);
   levels = spelled (one_token (codes "'a' eps? | char - 'c' - 'd' | 'e'*+")) _ (omega arith) refl refl refl
-      (simp (expression-Seq, expression-Alt, expression-Minus, expression-Star, expression-Plus, expression-Opt, expression-Class, expression-Scalar, expression-AnyOf, expression-Word) ((tt, omega arith), ((tt, omega arith), tt)));
-  empty_texts = spelled (one_token (codes "[\"\"]{\"\"}")) _ (omega arith) refl refl refl (simp (expression-Seq, expression-Alt, expression-Minus, expression-Star, expression-Plus, expression-Opt, expression-Class, expression-Scalar, expression-AnyOf, expression-Word) tt);
+      (simp (expression-Eps, expression-Seq, expression-Alt, expression-Minus, expression-Star, expression-Plus, expression-Opt, expression-Class, expression-Scalar, expression-AnyOf, expression-Word) ((tt, omega arith), ((tt, omega arith), tt)));
+  empty_texts = spelled (one_token (codes "[\"\"]{\"\"}")) _ (omega arith) refl refl refl (simp (expression-Eps, expression-Seq, expression-Alt, expression-Minus, expression-Star, expression-Plus, expression-Opt, expression-Class, expression-Scalar, expression-AnyOf, expression-Word) tt);
   line_comment = spelled (codes "comment \" \"") _ (omega arith) refl refl refl tt;
   block_comment = spelled (codes "comment \"/*\" \"*/\"") _ (omega arith) refl refl refl tt;
   many_brackets = spelled (one_token (times 64 (codes "(") ++ codes "eps" ++ times 64 (codes ")"))) _ (omega arith) refl refl refl (simp expression-Eps tt);
@@ -105,7 +105,7 @@ returns c = record {
   empty_comment = faulty (codes "comment \"\"") _ (omega arith) refl refl;
   empty_closing = faulty (codes "comment \"a\" \"\"") _ (omega arith) refl refl;
   wide_right_side = first_bad (one_token (codes "digit - char")) _ _ (omega arith) refl refl refl
-      (simp (expression-Seq, expression-Alt, expression-Minus, expression-Star, expression-Plus, expression-Opt, expression-Class, expression-Scalar, expression-AnyOf, expression-Word) (_, refl, λ good. good.1)) _ refl refl;
+      (simp (expression-Eps, expression-Seq, expression-Alt, expression-Minus, expression-Star, expression-Plus, expression-Opt, expression-Class, expression-Scalar, expression-AnyOf, expression-Word) (_, refl, λ good. good.1)) _ refl refl;
   outer_first = first_bad (one_token (codes "('a' 'b') - (digit - char)")) _ _ (omega arith) refl refl refl
-      (simp (expression-Seq, expression-Alt, expression-Minus, expression-Star, expression-Plus, expression-Opt, expression-Class, expression-Scalar, expression-AnyOf, expression-Word) (_, refl, λ good. good.0)) _ refl refl;
+      (simp (expression-Eps, expression-Seq, expression-Alt, expression-Minus, expression-Star, expression-Plus, expression-Opt, expression-Class, expression-Scalar, expression-AnyOf, expression-Word) (_, refl, λ good. good.0)) _ refl refl;
 }
