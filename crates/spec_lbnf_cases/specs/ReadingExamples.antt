@@ -112,3 +112,13 @@ pub record SmallReadings : Type 0 where
   pub empty_closing : IsFirstFault (codes "comment \"a\" \"\"") (Syntax 12)
   pub wide_right_side : IsFirstFault (one_token (codes "digit - char")) (BadDifference 14)
   pub outer_first : IsFirstFault (one_token (codes "('a' 'b') - (digit - char)")) (BadDifference 18)
+  pub closed_brackets : IsFirstFault (one_token (times 65 (codes "(eps)") ++ codes ")"))
+      (Syntax 333)
+  pub bar_begins_anew : IsFirstFault
+      (one_token (codes "eps" ++ times 8 (codes " -eps") ++ codes "|eps" ++ times 9 (codes " -eps")))
+      (Syntax 96)
+  pub bracket_begins_anew : IsFirstFault
+      (one_token (codes "(eps" ++ times 8 (codes " -eps") ++ codes ")" ++ times 9 (codes " -eps")))
+      (Syntax 94)
+  pub sequence_side : IsFirstFault (one_token (codes "('a' 'b') - 'a' ;")) (BadDifference 18)
+  pub inner_second : IsFirstFault (one_token (codes "char - (digit - char)")) (BadDifference 22)

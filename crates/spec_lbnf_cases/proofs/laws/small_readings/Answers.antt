@@ -1,5 +1,6 @@
 -- The functions of Scanning, FileReading and FileDefinitions compute what is read.
-use Rattle.std.proofs.Common.{◌≡◌, ℕ, ◌≤◌, ◌<◌, List, [], ◌∷◌, ◌++◌, codes, length, slice_get, Some, true, Ok, Err, refl, arith}
+use Rattle.std.proofs.lemmas.Option.{same_Some}
+use Rattle.std.proofs.Common.{◌≡◌, ℕ, zero, suc, sym, subst, ◌∙◌, ◌≤◌, ◌<◌, List, [], ◌∷◌, ◌++◌, codes, length, slice_get, Some, true, Ok, Err, refl, arith}
 use Rattle.std.specs.List.{AllByRecursion}
 use Rattle.std.proofs.lemmas.List.Elements.{All-from_recursion}
 use Rattle.std.specs.Char.{encode_utf8}
@@ -50,6 +51,24 @@ first_bad bytes defs offset few utf8 end read bad sign is_sign is_offset =
       is_sign = is_sign;
       is_offset = is_offset;
     })
+
+-- and where the second difference is no good one, and the first is
+second_bad : (bytes : List ℕ) (defs : List Def) (offset : ℕ) → length bytes ≤ 65536 → is_utf8 bytes ≡ true → (scan_of bytes).1 ≡ length bytes
+    → defs_of (scan_of bytes).0 (scan_of bytes).1 ≡ Ok defs → HasAt IsGood (differences_of defs) 0 → HasAt IsBad (differences_of defs) 1
+    → (sign : PlacedToken) → slice_get (minus_signs (scan_of bytes).0) 1 ≡ Some sign → offset ≡ sign.offset → IsFirstFault bytes (BadDifference offset)
+second_bad bytes defs offset few utf8 end read good bad sign is_sign is_offset =
+    bad_is bytes (scan_of bytes).0 (scan_of bytes).1 (scanned bytes) defs offset
+    (record { few = few; utf8 = IsUtf8-from_is_utf8 bytes utf8 }) end read (record {
+      number = 1;
+      first = record { is_so = bad; none_before = none };
+      sign = sign;
+      is_sign = is_sign;
+      is_offset = is_offset;
+    })
+  where
+    none : (k : ℕ) → k < 1 → HasAt IsBad (differences_of defs) k → ⊥
+    none zero lt has = has.2 (subst IsGood (same_Some good.0 has.0 (sym good.1 ∙ has.1)) good.2)
+    none (suc k) lt has = omega (arith, lt)
 
 -- and where the tokens end before the file
 cut_off : (bytes : List ℕ) (defs : List Def) → length bytes ≤ 65536 → is_utf8 bytes ≡ true → (scan_of bytes).1 < length bytes
@@ -108,4 +127,11 @@ returns c = record {
       (simp (expression-Eps, expression-Seq, expression-Alt, expression-Minus, expression-Star, expression-Plus, expression-Opt, expression-Class, expression-Scalar, expression-AnyOf, expression-Word) (_, refl, λ good. good.1)) _ refl refl;
   outer_first = first_bad (one_token (codes "('a' 'b') - (digit - char)")) _ _ (omega arith) refl refl refl
       (simp (expression-Eps, expression-Seq, expression-Alt, expression-Minus, expression-Star, expression-Plus, expression-Opt, expression-Class, expression-Scalar, expression-AnyOf, expression-Word) (_, refl, λ good. good.0)) _ refl refl;
+  closed_brackets = faulty (one_token (times 65 (codes "(eps)") ++ codes ")")) _ (omega arith) refl refl;
+  bar_begins_anew = faulty (one_token (codes "eps" ++ times 8 (codes " -eps") ++ codes "|eps" ++ times 9 (codes " -eps"))) _ (omega arith) refl refl;
+  bracket_begins_anew = faulty (one_token (codes "(eps" ++ times 8 (codes " -eps") ++ codes ")" ++ times 9 (codes " -eps"))) _ (omega arith) refl refl;
+  sequence_side = first_bad (one_token (codes "('a' 'b') - 'a' ;")) _ _ (omega arith) refl refl refl
+      (simp (expression-Eps, expression-Seq, expression-Alt, expression-Minus, expression-Star, expression-Plus, expression-Opt, expression-Class, expression-Scalar, expression-AnyOf, expression-Word) (_, refl, λ good. good.0)) _ refl refl;
+  inner_second = second_bad (one_token (codes "char - (digit - char)")) _ _ (omega arith) refl refl refl
+      (simp (expression-Eps, expression-Seq, expression-Alt, expression-Minus, expression-Star, expression-Plus, expression-Opt, expression-Class, expression-Scalar, expression-AnyOf, expression-Word) (_, refl, (tt, tt))) (simp (expression-Eps, expression-Seq, expression-Alt, expression-Minus, expression-Star, expression-Plus, expression-Opt, expression-Class, expression-Scalar, expression-AnyOf, expression-Word) (_, refl, λ good. good.1)) _ refl refl;
 }
