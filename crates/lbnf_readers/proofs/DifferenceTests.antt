@@ -1,11 +1,11 @@
 -- The differences of definitions are good, or there is a first that is not, and it has a minus sign.
-use Rattle.std.proofs.Common.{◌≡◌, ℕ, zero, suc, ◌≤◌, ◌<◌, List, [], ◌∷◌, length, All, Some, None, slice_get, get_or, chars, ◌⊎◌, inl, inr, refl, sym, ap, subst, ◌∙◌, arith}
+use Rattle.std.proofs.Common.{◌≡◌, ℕ, zero, suc, ◌<◌, List, [], ◌∷◌, length, Some, slice_get, get_or, chars, ◌⊎◌, inl, inr, refl, subst, arith}
 use Rattle.std.specs.List.{AllByRecursion}
 use Rattle.std.proofs.lemmas.Bool.{cases_lt}
 use Rattle.std.proofs.lemmas.List.Elements.{All-from_recursion, recursion_from_All}
 use Rattle.std.proofs.lemmas.Option.{same_Some, slice_get_within, slice_get-get_or}
-use Rattle.spec_lexing.specs.declared.expression.Class.TheVariants.{Digit, Letter, Upper, Lower, AnyChar}
-use Rattle.spec_lexing.specs.Expressions.{Expression, empty, class, scalar, any_of, word, in_turn, nothing, either, minus, star, plus, optional}
+use Rattle.spec_lexing.specs.declared.expression.Class.TheVariants.{AnyChar}
+use Rattle.spec_lexing.specs.Expressions.{Expression, class, scalar, any_of, nothing, either, minus}
 use Rattle.spec_lexing.specs.Classes.{IsClass, IsAsciiClass}
 use Rattle.spec_lbnf.specs.declared.definition.Def.{Def}
 use Rattle.spec_lbnf.specs.declared.token.PlacedToken.{PlacedToken}

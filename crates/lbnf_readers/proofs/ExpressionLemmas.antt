@@ -1,7 +1,6 @@
 -- The reader of token expressions tells of the expression that the tokens spell; and so do those of
 -- kinds of tokens and of comments.
-use Rattle.std.proofs.Common.{◌≡◌, ℕ, ◌<◌, List, [], ◌∷◌, ◌++◌, length, cond, codes, Bool, true, false, Option, Some, None, option_and_then, ◌⊎◌, inl, inr, refl, sym, ap, subst, ◌∙◌, append_assoc, arith}
-use Rattle.std.proofs.lemmas.Bool.{false≢true}
+use Rattle.std.proofs.Common.{◌≡◌, ℕ, ◌<◌, List, [], ◌∷◌, ◌++◌, length, cond, codes, true, Option, Some, None, option_and_then, ◌⊎◌, inl, inr, refl, sym, ap, subst, ◌∙◌, append_assoc, arith}
 use Rattle.std.proofs.lemmas.List.{append-nil}
 use Rattle.std.proofs.lemmas.Option.{same_Some, none-some}
 use Rattle.spec_lexing.specs.declared.expression.Expr.{Expr}
@@ -11,22 +10,19 @@ use Rattle.spec_lbnf.specs.declared.token.FileToken.{FileToken}
 use Rattle.spec_lbnf.specs.declared.token.FileToken.TheVariants.{Identifier, Number, Text, Character}
 use Rattle.spec_lbnf.specs.declared.token.FileToken.TheVariants.{Sign as SignToken}
 use Rattle.spec_lbnf.specs.declared.token.PlacedToken.{PlacedToken}
-use Rattle.spec_lbnf.specs.Words.{is_empty}
 use Rattle.spec_lbnf.specs.TokenExpressions.{Alternatives, Differences, Sequence, alternatives_expr, SpellsExpr}
-use Rattle.spec_lbnf.specs.GrammarFile.{IsUpperName, keyword, position_tokens, SpellsToken}
 use Rattle.spec_lbnf.specs.Faults.{bare}
-use Rattle.spec_lbnf.proofs.BoundaryLemmas.{IsClosed, IsOpenFront, front_behind, closed_front, nothing_closed}
+use Rattle.spec_lbnf.proofs.BoundaryLemmas.{IsClosed, front_behind, nothing_closed}
 use Rattle.lbnf_readers.specs.declared.expression_state.Level.{Level}
 use Rattle.lbnf_readers.specs.declared.expression_state.OpenAtom.{OpenAtom}
 use Rattle.lbnf_readers.specs.declared.expression_state.ExpressionState.{ExpressionState}
 use Rattle.lbnf_readers.specs.ExpressionReading.{step, first_state, whole_by, whole_of}
 use Rattle.lbnf_readers.specs.FileReading.{Read, got, stuck, long, next_on, ◌>>=◌, pure, got_whole, behind_step, expression_from, expression_at, token_at, word_at, position_at, filled_text, filled_text_at, comment_end, comment_at, upper_name, name_at, to_end, is_word}
-use Rattle.lbnf_readers.proofs.TokenTestLemmas.{upper_some, upper_has}
-use Rattle.lbnf_readers.proofs.ReaderLemmas.{Spelling, IsAny, IsNothing, GoesOn, Follows, IsGot, IsStuckAt, Tells, Then, Gives, TokenOf, AtEnd, HaveShortNames, nothing_front, stuck_here, change_tells, then_tells, then_got, gives_tells, token_tells, token_some, some_then, some_gives, short_rest, one_token, bare-append, to_end_tells, end_some, end_tells}
+use Rattle.lbnf_readers.proofs.ReaderLemmas.{Spelling, IsAny, IsNothing, GoesOn, Follows, Tells, Then, Gives, TokenOf, AtEnd, HaveShortNames, change_tells, then_tells, then_got, gives_tells, token_tells, token_some, some_then, some_gives, short_rest, one_token, bare-append, end_some, end_tells}
 use Rattle.lbnf_readers.proofs.FormLemmas.{WordOf, word_of, name_tells}
 use Rattle.lbnf_readers.proofs.StateLemmas.{outside, within, Held, held, push_part, level_of, levels_of, state_of, held_tokens, open_tokens, IsWithin, alternatives_of, alternatives_level, side_within, part_within, whole_held}
 use Rattle.lbnf_readers.proofs.ExpressionRunLemmas.{run, run-append, spelled_runs}
-use Rattle.lbnf_readers.proofs.ExpressionMoveLemmas.{Moves, moves, Completes, completes, open_front}
+use Rattle.lbnf_readers.proofs.ExpressionMoveLemmas.{moves, completes, open_front}
 
 -- the tokens are an expression, and nothing is behind it
 abbrev pub ExpressionOf : Spelling Expr
