@@ -93,12 +93,13 @@ pub record SmallReadings : Type 0 where
   pub line_comment : Spells (codes "comment \" \"") (LineComment (codes " ") ∷ [])
   pub block_comment : Spells (codes "comment \"/*\" \"*/\"")
       (BlockComment (codes "/*") (codes "*/") ∷ [])
-  pub many_brackets : Spells (one_token (times 64 (codes "(") ++ codes "eps" ++ times 64 (codes ")")))
+  pub many_brackets : Spells
+      (one_token (times 64 (codes "(") ++ codes "eps" ++ times 64 (codes ")")))
       (token_def Eps ∷ [])
   pub too_many_brackets : IsFirstFault (one_token (times 65 (codes "("))) (Syntax 72)
   pub too_many_signs : IsFirstFault (one_token (codes "eps" ++ times 9 (codes "*"))) (Syntax 19)
-  pub signs_in_brackets : IsFirstFault (one_token (codes "(eps" ++ times 8 (codes "*") ++ codes ")+ )"))
-      (Syntax 23)
+  pub signs_in_brackets : IsFirstFault
+      (one_token (codes "(eps" ++ times 8 (codes "*") ++ codes ")+ )")) (Syntax 23)
   pub too_many_minus_signs : IsFirstFault (one_token (codes "eps" ++ times 9 (codes " -eps")))
       (Syntax 52)
   pub other_word : IsFirstFault (one_token (codes "digit foo")) (Syntax 14)
@@ -115,7 +116,8 @@ pub record SmallReadings : Type 0 where
   pub closed_brackets : IsFirstFault (one_token (times 65 (codes "(eps)") ++ codes ")"))
       (Syntax 333)
   pub bar_begins_anew : IsFirstFault
-      (one_token (codes "eps" ++ times 8 (codes " -eps") ++ codes "|eps" ++ times 9 (codes " -eps")))
+      (one_token
+      (codes "eps" ++ times 8 (codes " -eps") ++ codes "|eps" ++ times 9 (codes " -eps")))
       (Syntax 96)
   pub bracket_begins_anew : IsFirstFault
       (one_token (codes "(eps" ++ times 8 (codes " -eps") ++ codes ")" ++ times 9 (codes " -eps")))
