@@ -1,7 +1,8 @@
 //! Names in the order in which they are first met.
-ghost use Rattle.std.specs.Prelude.{◌≡◌, [], ◌≤◌, length, OnOk, IfOk, bytes_eq};
+ghost use Rattle.std.specs.Prelude.{◌≡◌, [], ◌≤◌, length, filter, OnOk, IfOk, bytes_eq};
 ghost use Rattle.std.specs.List.{list_any};
 ghost use Rattle.spec_grammar.specs.Grammars.{name_number};
+ghost use Rattle.spec_lbnf.specs.Expansion.{is_among};
 ghost use Rattle.lbnf_grammar.specs.Numbering.{with_new_name, with_new_names};
 
 use crate::texts::{CategoryText, name_of};
@@ -32,6 +33,13 @@ impl Names {
         Names {
             set: IndexSet::new(alloc),
         }
+    }
+
+    /// How many names there are.
+    pub(crate) fn len(&self) -> usize
+        ensures { result ≡ length self.now }
+    {
+        self.set.len()
     }
 
     /// Whether this is one of the names.
@@ -71,6 +79,24 @@ impl Names {
     {
         for name in names {
             self.add(alloc, name.as_str())?;
+        }
+        Ok(())
+    }
+
+    /// Adds those of the names that are new, and among these others.
+    pub(crate) fn add_listed(
+        &mut self,
+        alloc: Global,
+        others: &Names,
+        names: &[CategoryText<'_>],
+    ) -> Result<(), AllocError>
+        ensures { OnOk result
+            (self.new ≡ with_new_names self.old (filter (is_among others.now) names.now)) }
+    {
+        for name in names {
+            if others.has(name.as_str()) {
+                self.add(alloc, name.as_str())?;
+            }
         }
         Ok(())
     }

@@ -376,7 +376,7 @@ IsNone words token = AllByRecursion (λ word. is_word word token ≡ false) word
 no_word_kind : (token : FileToken)
     → IsNone (codes "comment" ∷ codes "position" ∷ codes "token" ∷ codes "entrypoints" ∷ codes "coercions" ∷ codes "separator" ∷ codes "terminator" ∷ codes "internal" ∷ []) token
     → token_kind token ≡ 0
-no_word_kind (Identifier name) (h, g, f, e, d, c, b, a, end) = rw (a, b, c, d, e, f, g, h) refl
+no_word_kind (Identifier name) (h, (g, (f, (e, (d, (c, (b, (a, end)))))))) = rw (a, b, c, d, e, f, g, h) refl
 no_word_kind (Number value) none = refl
 no_word_kind (Text value) none = refl
 no_word_kind (Character scalar) none = refl
@@ -472,7 +472,7 @@ module _ (token : PlacedToken) (tokens : List PlacedToken) (short : HaveShortNam
       word_or_other (codes "position") PositionRest _ comment_or position_forth position_back
       (to_end_tells PositionRest tokens (position_at tokens) (position_rest_tells tokens short.1)) (λ g.
       word_or_other (codes "comment") CommentRest _ rule_or comment_forth comment_back (comment_rest_tells tokens short.1) (λ h.
-      plain_tells (no_word_kind token.token (h, g, f, e, d, c, b, a, tt))))))))))
+      plain_tells (no_word_kind token.token (h, (g, (f, (e, (d, (c, (b, (a, tt)))))))))))))))))
 
 -- the reader of a definition tells of the definition that the tokens are
 pub def_tells : (tokens : List PlacedToken) → HaveShortNames tokens → Tells IsNothing DefOf tokens (def_at tokens)

@@ -4,7 +4,7 @@ use Rattle.std.proofs.Math.Seq.{take-append_seam}
 use Rattle.std.proofs.lemmas.Bool.{false≢true}
 use Rattle.std.proofs.lemmas.List.{append-nil, length-map}
 use Rattle.spec_lbnf.specs.declared.definition.Def.{Def}
-use Rattle.spec_lbnf.specs.declared.token.Sign.TheVariants.{Semicolon, OpenParen}
+use Rattle.spec_lbnf.specs.declared.token.Sign.TheVariants.{Semicolon}
 use Rattle.spec_lbnf.specs.declared.token.FileToken.{FileToken}
 use Rattle.spec_lbnf.specs.declared.token.FileToken.TheVariants.{Identifier}
 use Rattle.spec_lbnf.specs.declared.token.FileToken.TheVariants.{Sign as SignToken}
@@ -22,7 +22,7 @@ use Rattle.lbnf_readers.proofs.ReaderLemmas.{IsNothing, GoesOn, IsGot, IsStuckAt
 use Rattle.spec_lbnf.proofs.BracketLemmas.{category_no_close}
 use Rattle.lbnf_readers.proofs.RuleLemmas.{category_some}
 use Rattle.lbnf_readers.proofs.DefLemmas.{DefOf, def_tells, def_some}
-use Rattle.spec_lbnf.proofs.PieceLemmas.{AreWithin, within_front, within_def, pieces_behind, one_piece, pieces_semicolon, pieces_ended, last_within, last_behind, semicolon_is, spelled_both, spelled_within, spelled_count}
+use Rattle.spec_lbnf.proofs.PieceLemmas.{AreWithin, within_front, within_def, pieces_behind, one_piece, pieces_semicolon, pieces_ended, last_within, last_behind, semicolon_is, spelled_both, spelled_within}
 
 -- a semicolon that cannot stand is a fault of syntax
 semicolon_fault : (piece : List FileToken) (at : ℕ) → piece_fault piece (SignToken Semicolon) at ≡ Syntax at

@@ -1,11 +1,11 @@
 -- The differences of definitions are good, or there is a first that is not, and it has a minus sign.
-use Rattle.std.proofs.Common.{◌≡◌, ℕ, zero, suc, ◌≤◌, ◌<◌, List, [], ◌∷◌, length, All, Some, None, slice_get, get_or, chars, ◌⊎◌, inl, inr, refl, sym, ap, subst, ◌∙◌, arith}
+use Rattle.std.proofs.Common.{◌≡◌, ℕ, zero, suc, ◌<◌, List, [], ◌∷◌, length, Some, slice_get, get_or, chars, ◌⊎◌, inl, inr, refl, subst, arith}
 use Rattle.std.specs.List.{AllByRecursion}
 use Rattle.std.proofs.lemmas.Bool.{cases_lt}
 use Rattle.std.proofs.lemmas.List.Elements.{All-from_recursion, recursion_from_All}
 use Rattle.std.proofs.lemmas.Option.{same_Some, slice_get_within, slice_get-get_or}
-use Rattle.spec_lexing.specs.declared.expression.Class.TheVariants.{Digit, Letter, Upper, Lower, AnyChar}
-use Rattle.spec_lexing.specs.Expressions.{Expression, empty, class, scalar, any_of, word, in_turn, nothing, either, minus, star, plus, optional}
+use Rattle.spec_lexing.specs.declared.expression.Class.TheVariants.{AnyChar}
+use Rattle.spec_lexing.specs.Expressions.{Expression, class, scalar, any_of, nothing, either, minus}
 use Rattle.spec_lexing.specs.Classes.{IsClass, IsAsciiClass}
 use Rattle.spec_lbnf.specs.declared.definition.Def.{Def}
 use Rattle.spec_lbnf.specs.declared.token.PlacedToken.{PlacedToken}
@@ -87,7 +87,7 @@ good_or_first defs = elim (all_or_first (differences_of defs)) [
 -- an item of a list that is as long as another
 item_there : {A B : Type 0} (xs : List A) (ys : List B) (n : ℕ) (x : A) → length xs ≡ length ys → slice_get xs n ≡ Some x
     → (y : B) × (slice_get ys n ≡ Some y)
-item_there xs ys n x len is = by ys (omega (arith, len, slice_get_within xs n x is))
+item_there {A} {B} xs ys n x len is = by ys (omega (arith, len, slice_get_within xs n x is))
   where
     by : (ys : List B) → n < length ys → (y : B) × (slice_get ys n ≡ Some y)
     by [] lt = absurd (omega (arith, lt))

@@ -1,7 +1,6 @@
 -- The reader of token expressions tells of the expression that the tokens spell; and so do those of
 -- kinds of tokens and of comments.
-use Rattle.std.proofs.Common.{◌≡◌, ℕ, ◌<◌, List, [], ◌∷◌, ◌++◌, length, cond, codes, Bool, true, false, Option, Some, None, option_and_then, ◌⊎◌, inl, inr, refl, sym, ap, subst, ◌∙◌, append_assoc, arith}
-use Rattle.std.proofs.lemmas.Bool.{false≢true}
+use Rattle.std.proofs.Common.{◌≡◌, ℕ, ◌<◌, List, [], ◌∷◌, ◌++◌, length, cond, codes, true, Option, Some, None, option_and_then, ◌⊎◌, inl, inr, refl, sym, ap, subst, ◌∙◌, append_assoc, arith}
 use Rattle.std.proofs.lemmas.List.{append-nil}
 use Rattle.std.proofs.lemmas.Option.{same_Some, none-some}
 use Rattle.spec_lexing.specs.declared.expression.Expr.{Expr}
@@ -11,22 +10,19 @@ use Rattle.spec_lbnf.specs.declared.token.FileToken.{FileToken}
 use Rattle.spec_lbnf.specs.declared.token.FileToken.TheVariants.{Identifier, Number, Text, Character}
 use Rattle.spec_lbnf.specs.declared.token.FileToken.TheVariants.{Sign as SignToken}
 use Rattle.spec_lbnf.specs.declared.token.PlacedToken.{PlacedToken}
-use Rattle.spec_lbnf.specs.Words.{is_empty}
 use Rattle.spec_lbnf.specs.TokenExpressions.{Alternatives, Differences, Sequence, alternatives_expr, SpellsExpr}
-use Rattle.spec_lbnf.specs.GrammarFile.{IsUpperName, keyword, position_tokens, SpellsToken}
 use Rattle.spec_lbnf.specs.Faults.{bare}
-use Rattle.spec_lbnf.proofs.BoundaryLemmas.{IsClosed, IsOpenFront, front_behind, closed_front, nothing_closed}
+use Rattle.spec_lbnf.proofs.BoundaryLemmas.{IsClosed, front_behind, nothing_closed}
 use Rattle.lbnf_readers.specs.declared.expression_state.Level.{Level}
 use Rattle.lbnf_readers.specs.declared.expression_state.OpenAtom.{OpenAtom}
 use Rattle.lbnf_readers.specs.declared.expression_state.ExpressionState.{ExpressionState}
 use Rattle.lbnf_readers.specs.ExpressionReading.{step, first_state, whole_by, whole_of}
 use Rattle.lbnf_readers.specs.FileReading.{Read, got, stuck, long, next_on, ◌>>=◌, pure, got_whole, behind_step, expression_from, expression_at, token_at, word_at, position_at, filled_text, filled_text_at, comment_end, comment_at, upper_name, name_at, to_end, is_word}
-use Rattle.lbnf_readers.proofs.TokenTestLemmas.{upper_some, upper_has}
-use Rattle.lbnf_readers.proofs.ReaderLemmas.{Spelling, IsAny, IsNothing, GoesOn, Follows, IsGot, IsStuckAt, Tells, Then, Gives, TokenOf, AtEnd, HaveShortNames, nothing_front, stuck_here, change_tells, then_tells, then_got, gives_tells, token_tells, token_some, some_then, some_gives, short_rest, one_token, bare-append, to_end_tells, end_some, end_tells}
+use Rattle.lbnf_readers.proofs.ReaderLemmas.{Spelling, IsAny, IsNothing, GoesOn, Follows, Tells, Then, Gives, TokenOf, AtEnd, HaveShortNames, change_tells, then_tells, then_got, gives_tells, token_tells, token_some, some_then, some_gives, short_rest, one_token, bare-append, end_some, end_tells}
 use Rattle.lbnf_readers.proofs.FormLemmas.{WordOf, word_of, name_tells}
 use Rattle.lbnf_readers.proofs.StateLemmas.{outside, within, Held, held, push_part, level_of, levels_of, state_of, held_tokens, open_tokens, IsWithin, alternatives_of, alternatives_level, side_within, part_within, whole_held}
 use Rattle.lbnf_readers.proofs.ExpressionRunLemmas.{run, run-append, spelled_runs}
-use Rattle.lbnf_readers.proofs.ExpressionMoveLemmas.{Moves, moves, Completes, completes, open_front}
+use Rattle.lbnf_readers.proofs.ExpressionMoveLemmas.{moves, completes, open_front}
 
 -- the tokens are an expression, and nothing is behind it
 abbrev pub ExpressionOf : Spelling Expr
@@ -169,12 +165,15 @@ module _ (all : List PlacedToken) where
       → Tells IsNothing ExpressionOf all (expression_from rest (state_of h begun))
   unfolding expression_from
   tells_from front [] h begun is = end_tells_all front h begun is
-  tells_from front (token ∷ rest) h begun is = by (step (state_of h begun) token.token) refl
+  tells_from front (token ∷ rest) h begun is =
+      by (step (state_of h begun) token.token) refl (λ f next b there. tells_from f rest next b there)
     where
       by : (x : Option ExpressionState) → step (state_of h begun) token.token ≡ x
+          → ((f : List PlacedToken) (next : Held) (b : Option OpenAtom) → IsReadTo all f rest next b
+          → Tells IsNothing ExpressionOf all (expression_from rest (state_of next b)))
           → Tells IsNothing ExpressionOf all (behind_step x (expression_from rest) (token ∷ rest))
-      by None none = token_stuck front rest token h begun is none
-      by (Some state) next =
+      by None none others = token_stuck front rest token h begun is none
+      by (Some state) next others =
           let moved = moves h begun token.token state is.limits is.short.0 next in
           let there : IsReadTo all (front ++ token ∷ []) rest moved.next moved.next_open = record {
             whole = is.whole ∙ sym (append_assoc front (token ∷ []) rest);
@@ -189,7 +188,7 @@ module _ (all : List PlacedToken) where
             short = is.short.1;
           } in
           subst (λ s. Tells IsNothing ExpressionOf all (expression_from rest s)) (sym moved.is_state)
-          (tells_from (front ++ token ∷ []) rest moved.next moved.next_open there)
+          (others (front ++ token ∷ []) moved.next moved.next_open there)
 
 -- the reader of an expression tells of the expression that the tokens are
 pub expression_tells : (tokens : List PlacedToken) → HaveShortNames tokens → Tells IsNothing ExpressionOf tokens (expression_at tokens)
@@ -235,7 +234,7 @@ word_at_tells : (word : List ℕ) → is_word word (Identifier word) ≡ true �
     → Tells IsAny (WordOf word) tokens (word_at word tokens)
 unfolding word_at
 word_at_tells word itself tokens short =
-    token_tells (λ token. cond (is_word word token) (Some tt) None) (Identifier word) tt (rw itself refl)
+    token_tells {A = Unit {0}} (λ token. cond (is_word word token) (Some tt) None) (Identifier word) tt (rw itself refl)
     (λ token done has is. let same = word_of word token done has in elim is [ inl e ↦ cc (same, e) | inr e ↦ cc (same, e) ])
     tokens short
 

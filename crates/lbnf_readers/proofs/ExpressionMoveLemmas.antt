@@ -1,7 +1,7 @@
 -- What is held behind each step of the reader of expressions, and that some tokens complete it.
-use Rattle.std.proofs.Common.{◌≡◌, ℕ, suc, ◌<◌, List, [], ◌∷◌, ◌++◌, length, cond, codes, Bool, true, false, Option, Some, None, option_map, option_and_then, ◌⊎◌, ltb, inl, inr, refl, sym, ap, subst, ◌∙◌, append_assoc, arith}
+use Rattle.std.proofs.Common.{◌≡◌, ℕ, suc, ◌<◌, List, [], ◌∷◌, ◌++◌, length, cond, codes, Bool, true, false, Option, Some, None, option_map, ◌⊎◌, ltb, inl, inr, refl, sym, ap, subst, ◌∙◌, append_assoc, arith}
 use Rattle.std.specs.Str.{bytes_eq}
-use Rattle.std.proofs.lemmas.Bool.{false≢true, ltb-true}
+use Rattle.std.proofs.lemmas.Bool.{ltb-true}
 use Rattle.std.proofs.lemmas.List.{append-nil}
 use Rattle.std.proofs.lemmas.Option.{same_Some, none-some, cond_some}
 use Rattle.std.proofs.lemmas.Slice.Eq.{bytes_eq-Decides}
@@ -14,7 +14,7 @@ use Rattle.spec_lbnf.specs.declared.token.Sign.TheVariants.{OpenBracket, CloseBr
 use Rattle.spec_lbnf.specs.declared.token.FileToken.{FileToken}
 use Rattle.spec_lbnf.specs.declared.token.FileToken.TheVariants.{Identifier, Number, Text, Character}
 use Rattle.spec_lbnf.specs.declared.token.FileToken.TheVariants.{Sign as SignToken}
-use Rattle.spec_lbnf.specs.TokenExpressions.{Suffix, star_sign, plus_sign, question_sign, Alternatives, Differences, Sequence, one_factor, and_then, Factor, bare_atom, with_sign, Atom, character_atom, set_atom, text_atom, class_atom, empty_atom, bracket_atom, suffix_sign, word_of_class, alternatives_tokens, differences_tokens, sequence_tokens, factor_tokens, atom_tokens, sequence_exprs, factor_expr, atom_expr, minus_count, sign_count, IsFactorWithin, IsSequenceWithin, IsAtomWithin, AreAlternativesWithin}
+use Rattle.spec_lbnf.specs.TokenExpressions.{Suffix, star_sign, plus_sign, question_sign, Alternatives, Differences, Sequence, one_factor, and_then, Factor, bare_atom, with_sign, Atom, character_atom, set_atom, text_atom, class_atom, empty_atom, bracket_atom, suffix_sign, word_of_class, alternatives_tokens, factor_tokens, atom_tokens, sequence_exprs, factor_expr, atom_expr, minus_count, sign_count, IsSequenceWithin, IsAtomWithin, AreAlternativesWithin}
 use Rattle.spec_lbnf.proofs.BoundaryLemmas.{IsClosed, IsOpenFront, IsShort, closed_both, closed_front, lacks_without_names, one_closed, nothing_closed}
 use Rattle.lbnf_readers.specs.declared.expression_state.OpenAtom.{OpenAtom}
 use Rattle.lbnf_readers.specs.declared.expression_state.OpenAtom.TheVariants.{Bracket, Brace}
@@ -22,7 +22,7 @@ use Rattle.lbnf_readers.specs.declared.expression_state.OpenAtom.TheVariants.{An
 use Rattle.lbnf_readers.specs.declared.expression_state.OpenAtom.TheVariants.{Word as OpenWord}
 use Rattle.lbnf_readers.specs.declared.expression_state.ExpressionState.{ExpressionState}
 use Rattle.lbnf_readers.specs.ExpressionReading.{if_below, factor_step, word_atom, sign_step, plain_step, atom_step, step}
-use Rattle.lbnf_readers.proofs.StateLemmas.{Around, outside, within, Held, held, depth_of, push_side, push_part, push_factor, alternatives_of, minus_of, state_of, with_atom, sides_tokens, left_tokens, part_tokens, level_tokens, around_tokens, held_tokens, open_tokens, IsWithin, IsAroundWithin, IsLevelWithin, side_within, part_within, factor_within, part_pushed, factor_pushed, alternatives_level, factors_some, split_last-push, levels_of, levels_count, atom_pushed, bar_pushed, minus_pushed, open_pushed, suffix_pushed, close_pushed}
+use Rattle.lbnf_readers.proofs.StateLemmas.{Around, outside, within, Held, held, depth_of, push_part, push_factor, alternatives_of, minus_of, state_of, with_atom, sides_tokens, left_tokens, part_tokens, level_tokens, around_tokens, held_tokens, open_tokens, IsWithin, IsAroundWithin, side_within, part_within, factor_within, part_pushed, factor_pushed, alternatives_level, factors_some, split_last-push, levels_of, levels_count, atom_pushed, bar_pushed, minus_pushed, open_pushed, suffix_pushed, close_pushed}
 
 -- a step from what is held leads to what is held and this token, within the limits
 pub record Moves (h : Held) (begun : Option OpenAtom) (token : FileToken) (state : ExpressionState) : Type 0 where
@@ -209,9 +209,10 @@ module _ (around : Around) (sides : Option Alternatives) (left : Option Differen
           ≡ held_tokens (held around sides left (Some (push_factor part factor))) ++ SignToken (suffix_sign suffix) ∷ []
       added =
           let front : List FileToken → List FileToken = λ ts. around_tokens around ++ (sides_tokens sides ++ (left_tokens left ++ ts)) in
-          ap front (factor_pushed part (with_sign factor suffix))
-          ∙ simp append_assoc
-          ∙ ap (λ ts. front ts ++ SignToken (suffix_sign suffix) ∷ []) (sym (factor_pushed part factor))
+          let last : List FileToken = SignToken (suffix_sign suffix) ∷ [] in
+          let moved : front (part_tokens part ++ (factor_tokens factor ++ last)) ≡ front (part_tokens part ++ factor_tokens factor) ++ last
+          = simp append_assoc in
+          ap front (factor_pushed part (with_sign factor suffix)) ∙ moved ∙ ap (λ ts. front ts ++ last) (sym (factor_pushed part factor))
 
   -- a sign behind what may have no factor
   any_suffix_moves : (part : Option Sequence) (suffix : Suffix) (state : ExpressionState) → IsWithin (held around sides left part)

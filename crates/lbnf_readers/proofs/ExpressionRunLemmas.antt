@@ -1,16 +1,15 @@
 -- The tokens of written alternatives run from the first state to one that holds them.
-use Rattle.std.proofs.Common.{◌≡◌, ℕ, suc, ◌<◌, List, [], ◌∷◌, ◌++◌, Option, Some, None, option_and_then, refl, sym, ap, subst, ◌∙◌, arith}
+use Rattle.std.proofs.Common.{◌≡◌, ◌<◌, List, [], ◌∷◌, ◌++◌, Option, Some, None, option_and_then, refl, sym, ap, ◌∙◌}
 use Rattle.spec_lexing.specs.declared.expression.Class.{Class}
 use Rattle.spec_lexing.specs.declared.expression.Class.TheVariants.{Digit, Letter, Upper, Lower, AnyChar}
 use Rattle.spec_lexing.specs.declared.expression.Expr.{Expr}
 use Rattle.spec_lbnf.specs.declared.token.Sign.TheVariants.{OpenParen, CloseParen, Bar, Minus}
 use Rattle.spec_lbnf.specs.declared.token.FileToken.{FileToken}
-use Rattle.spec_lbnf.specs.declared.token.FileToken.TheVariants.{Identifier, Text, Character}
 use Rattle.spec_lbnf.specs.declared.token.FileToken.TheVariants.{Sign as SignToken}
 use Rattle.spec_lbnf.specs.TokenExpressions.{Alternatives, one_side, or_else, Differences, one_part, less, Sequence, one_factor, and_then, Factor, bare_atom, with_sign, Atom, character_atom, set_atom, text_atom, class_atom, empty_atom, bracket_atom, suffix_sign, alternatives_tokens, differences_tokens, sequence_tokens, factor_tokens, atom_tokens, alternatives_expr, minus_count, AreAlternativesWithin, AreDifferencesWithin, IsSequenceWithin, IsFactorWithin, IsAtomWithin, SpellsExpr}
 use Rattle.lbnf_readers.specs.declared.expression_state.ExpressionState.{ExpressionState}
 use Rattle.lbnf_readers.specs.ExpressionReading.{sign_step, plain_step, atom_step, step, first_state, whole_of}
-use Rattle.lbnf_readers.proofs.StateLemmas.{Around, outside, within, Held, held, depth_of, push_part, push_factor, alternatives_of, minus_of, state_of, with_atom, atom_pushed, bar_pushed, minus_pushed, open_pushed, suffix_pushed, close_pushed, whole_held}
+use Rattle.lbnf_readers.proofs.StateLemmas.{Around, outside, within, Held, held, depth_of, push_factor, state_of, with_atom, atom_pushed, bar_pushed, minus_pushed, open_pushed, suffix_pushed, close_pushed, whole_held}
 
 -- the state behind tokens, if each can stand
 abbrev pub run : List FileToken → ExpressionState → Option ExpressionState
@@ -20,12 +19,12 @@ run (token ∷ tokens) state = option_and_then (run tokens) (step state token)
 -- tokens in two parts
 pub run-append : (xs ys : List FileToken) (state : ExpressionState) → run (xs ++ ys) state ≡ option_and_then (run ys) (run xs state)
 run-append [] ys state = refl
-run-append (x ∷ xs) ys state = by (step state x)
+run-append (x ∷ xs) ys state = by (step state x) (run-append xs ys)
   where
-    by : (next : Option ExpressionState)
+    by : (next : Option ExpressionState) → ((s : ExpressionState) → run (xs ++ ys) s ≡ option_and_then (run ys) (run xs s))
         → option_and_then (run (xs ++ ys)) next ≡ option_and_then (run ys) (option_and_then (run xs) next)
-    by None = refl
-    by (Some next) = run-append xs ys next
+    by None others = refl
+    by (Some next) others = others next
 
 -- a run, and another behind it
 pub run_both : (xs ys : List FileToken) (a b : ExpressionState) (c : Option ExpressionState) → run xs a ≡ Some b → run ys b ≡ c

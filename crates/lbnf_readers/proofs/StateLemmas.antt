@@ -1,22 +1,20 @@
 -- What a state of the reader of expressions holds, as it is written; and each step of that reader.
-use Rattle.std.proofs.Common.{◌≡◌, ℕ, zero, suc, ◌+◌, ◌<◌, ◌≤◌, List, [], ◌∷◌, ◌++◌, length, cond, Bool, true, false, Option, Some, None, option_map, option_and_then, refl, sym, ap, subst, ◌∙◌, append_assoc, add-one, arith, length-append}
-use Rattle.std.proofs.lemmas.Bool.{false≢true, lt-ltb, ltb-true}
-use Rattle.std.proofs.lemmas.List.{append-nil}
+use Rattle.std.proofs.Common.{◌≡◌, ℕ, suc, ◌+◌, ◌<◌, List, [], ◌∷◌, ◌++◌, length, false, Option, Some, None, option_map, refl, sym, ap, ◌∙◌, append_assoc, arith, length-append}
+use Rattle.std.proofs.lemmas.Bool.{lt-ltb}
 use Rattle.spec_lexing.specs.declared.expression.Expr.{Expr}
-use Rattle.spec_lexing.specs.declared.expression.Expr.TheVariants.{Seq, Alt}
-use Rattle.spec_lbnf.specs.declared.token.Sign.TheVariants.{OpenBracket, CloseBracket, OpenParen, CloseParen, OpenBrace, CloseBrace, Bar, Minus}
+use Rattle.spec_lbnf.specs.declared.token.Sign.TheVariants.{OpenBracket, OpenParen, CloseParen, OpenBrace, Bar, Minus}
 use Rattle.spec_lbnf.specs.declared.token.FileToken.{FileToken}
-use Rattle.spec_lbnf.specs.declared.token.FileToken.TheVariants.{Identifier, Text, Character}
+use Rattle.spec_lbnf.specs.declared.token.FileToken.TheVariants.{Text}
 use Rattle.spec_lbnf.specs.declared.token.FileToken.TheVariants.{Sign as SignToken}
 use Rattle.spec_lbnf.specs.Words.{is_empty}
-use Rattle.spec_lbnf.specs.TokenExpressions.{Suffix, star_sign, plus_sign, question_sign, Alternatives, one_side, or_else, Differences, one_part, less, Sequence, one_factor, and_then, Factor, bare_atom, with_sign, Atom, set_atom, text_atom, bracket_atom, suffix_sign, alternatives_tokens, differences_tokens, sequence_tokens, factor_tokens, atom_tokens, alone_or, suffix_expr, alternatives_exprs, alternatives_expr, differences_expr, sequence_exprs, factor_expr, atom_expr, minus_count, sign_count, AreAlternativesWithin, AreDifferencesWithin, IsSequenceWithin, IsFactorWithin, IsAtomWithin}
+use Rattle.spec_lbnf.specs.TokenExpressions.{Suffix, star_sign, plus_sign, question_sign, Alternatives, one_side, or_else, Differences, one_part, less, Sequence, one_factor, and_then, Factor, bare_atom, with_sign, Atom, bracket_atom, suffix_sign, alternatives_tokens, differences_tokens, sequence_tokens, factor_tokens, alternatives_exprs, alternatives_expr, differences_expr, sequence_exprs, factor_expr, atom_expr, minus_count, sign_count, AreAlternativesWithin, AreDifferencesWithin, IsSequenceWithin, IsFactorWithin}
 use Rattle.lbnf_readers.specs.declared.expression_state.Level.{Level}
 use Rattle.lbnf_readers.specs.declared.expression_state.OpenAtom.{OpenAtom}
 use Rattle.lbnf_readers.specs.declared.expression_state.OpenAtom.TheVariants.{Bracket, Brace}
 use Rattle.lbnf_readers.specs.declared.expression_state.OpenAtom.TheVariants.{AnyOf as OpenSet}
 use Rattle.lbnf_readers.specs.declared.expression_state.OpenAtom.TheVariants.{Word as OpenWord}
 use Rattle.lbnf_readers.specs.declared.expression_state.ExpressionState.{ExpressionState}
-use Rattle.lbnf_readers.specs.ExpressionReading.{unless_none, if_below, split_last, less_than, side_of, level_expr, empty_level, factor_step, open_step, close_step, bar_step, minus_step, suffix_step, sign_step, plain_step, step, whole_by, whole_of}
+use Rattle.lbnf_readers.specs.ExpressionReading.{if_below, split_last, side_of, level_expr, factor_step, sign_step, plain_step, step, whole_of}
 
 -- the levels around the innermost, each by the alternatives that a bar ended, the differences that a
 -- minus sign is behind, and the sequence
@@ -156,7 +154,7 @@ side_within opened (Some sides) side first second = (first, second)
 pub part_within : (opened : ℕ) (left : Option Differences) (part : Sequence) → IsLeftWithin opened left
     → IsSequenceWithin opened part → AreDifferencesWithin opened (push_part left part)
 part_within opened None part first second = second
-part_within opened (Some left) part first second = (first.0, (second, first.1))
+part_within opened (Some left) part first second = (first.0, second, first.1)
 
 pub factor_within : (opened : ℕ) (part : Option Sequence) (factor : Factor) → IsPartWithin opened part
     → IsFactorWithin opened factor → IsSequenceWithin opened (push_factor part factor)
@@ -286,7 +284,8 @@ pub close_pushed : (around : Around) (sides : Option Alternatives) (left : Optio
     ≡ Some (state_of (with_atom (held around sides left part) (bracket_atom (alternatives_of own own_left own_part))) None)
 unfolding step plain_step sign_step
 close_pushed around sides left part own own_left own_part =
-    rw (factors_some own_part, split_last-push (levels_of around) (level_of sides left part), level_is own own_left own_part) (by part)
+    rw (factors_some own_part, split_last-push (levels_of around) (level_of sides left part))
+    (ap (λ e. Some (factor_step (state_of (held around sides left part) None) e)) (level_is own own_left own_part) ∙ by part)
   where
     by : (part : Option Sequence)
         → Some (factor_step (state_of (held around sides left part) None) (alternatives_expr (alternatives_of own own_left own_part)))

@@ -9,7 +9,7 @@ use Rattle.spec_lbnf.specs.declared.definition.Def.TheVariants.{Rule as RuleDef,
 use Rattle.spec_lbnf.specs.Expansion.{expansion_of}
 use Rattle.spec_lbnf.specs.declared.fault.GrammarFault.{GrammarFault}
 use Rattle.spec_lbnf.specs.declared.fault.GrammarFault.TheVariants.{BadCoercion, BadList, Cyclic, RepeatedToken, UnknownCategory}
-use Rattle.spec_lbnf.specs.Checks.{HasAt, IsFirstName, IsTaken, IsFree, RepeatsName, IsFirstRepeated, own_names, IsUnknown, IsKnown, NamesKnown, NamesUnknown, AreAllKnown}
+use Rattle.spec_lbnf.specs.Checks.{HasAt, IsFirstName, IsTaken, IsFree, TakesFree, RepeatsName, IsFirstRepeated, own_names, IsUnknown, IsKnown, NamesKnown, NamesUnknown, AreAllKnown}
 use Rattle.spec_lbnf.specs.Expansion.{categories_in, named_categories}
 use Rattle.spec_lbnf.specs.Checks.{IsBadWild, IsBadCoercion, IsOneElement, IsBadLabel, IsBadListRule, IsBadList, IsWellLabelled, IsIllLabelled}
 use Rattle.spec_lbnf.specs.Checks.{HasFewRules, HasOwnNames, AtLabels, AtCount, AtOwnName, AtUnknown, AtCycle}
@@ -89,13 +89,13 @@ known_pass defs fault all (name, number, unknown, is) =
     none_at (NamesKnown defs) defs (NamesUnknown defs) (not_all_known defs) all number unknown.first.is_so
 
 -- no definition repeats a name and takes free names alone
-pub repeats_none : (defs : List Def) (number : ℕ) → HasOwnNames defs → RepeatsName defs number → ⊥
-repeats_none defs number own (def, is, (place, taken)) =
-    none_at (IsFree defs number def) (own_names def) (IsTaken defs number def) (λ name is_taken free. free is_taken) (own number def is) place taken
+pub repeats_at : (defs : List Def) (number : ℕ) → TakesFree defs number → RepeatsName defs number → ⊥
+repeats_at defs number free (def, is, (place, taken)) =
+    none_at (IsFree defs number def) (own_names def) (IsTaken defs number def) (λ name is_taken is_free. is_free is_taken) (free def is) place taken
 
 -- where no definition repeats a name, none is the first that does
 names_pass : (defs : List Def) (fault : GrammarFault) → HasOwnNames defs → AtOwnName defs fault → ⊥
-names_pass defs fault own (name, repeated, is) = repeats_none defs repeated.number own repeated.first.is_so
+names_pass defs fault own (name, repeated, is) = repeats_at defs repeated.number (own repeated.number) repeated.first.is_so
 
 -- definitions have one fault of repeated names
 one_at_own_name : (defs : List Def) (a b : GrammarFault) → AtOwnName defs a → AtOwnName defs b → a ≡ b

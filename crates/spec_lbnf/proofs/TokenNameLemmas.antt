@@ -17,7 +17,7 @@ use Rattle.spec_lbnf.specs.declared.definition.Def.TheVariants.{Rule as RuleDef,
 use Rattle.spec_lbnf.specs.Expansion.{rules_of, rules_of_def, item_categories, named_categories, names_in, token_in, token_names, kind_names, is_among, is_active, tokens_of}
 use Rattle.spec_lbnf.proofs.NameLemmas.{same_name, any_distinct, any_filter, NoneTwice, none_twice_filter}
 
-or_right : (a : Bool) → (a || true) ≡ true
+pub or_right : (a : Bool) → (a || true) ≡ true
 or_right true = refl
 or_right false = refl
 
@@ -201,7 +201,7 @@ none_twice_append (x ∷ xs) ys once once' apart = (
 
 -- no predefined name stands twice
 pub predefined_once : NoneTwice predefined_names
-predefined_once = (refl, refl, refl, refl, refl, tt)
+predefined_once = (refl, (refl, (refl, (refl, (refl, tt)))))
 
 -- where no name of a token definition stands twice, no name of a token does
 pub tokens_once : (defs : List Def) → NoneTwice (token_names defs) → NoneTwice (token_names defs ++ active_names defs)
