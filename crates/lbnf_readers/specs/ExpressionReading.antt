@@ -115,7 +115,7 @@ minus_step level =
 
 -- the state with this innermost level
 abbrev pub at_level : ExpressionState → Level → ExpressionState
-at_level state level = record { outer = state.outer; level = level; open = None }
+at_level state level = record { outer = state.outer; level = level; atom = None }
 
 -- the state with one factor more
 abbrev pub factor_step : ExpressionState → Expr → ExpressionState
@@ -123,20 +123,20 @@ factor_step state factor = at_level state (with_factor state.level factor)
 
 -- the state with an atom begun
 abbrev pub begin_atom : ExpressionState → OpenAtom → ExpressionState
-begin_atom state atom = record { outer = state.outer; level = state.level; open = Some atom }
+begin_atom state atom = record { outer = state.outer; level = state.level; atom = Some atom }
 
 -- an open round bracket, of which at most 64 are open
 abbrev pub open_step : ExpressionState → Option ExpressionState
 open_step state =
     if_below (length state.outer) most_brackets
-    (record { outer = state.outer ++ state.level ∷ []; level = empty_level; open = None })
+    (record { outer = state.outer ++ state.level ∷ []; level = empty_level; atom = None })
 
 -- the state behind a level and its close bracket, by the levels around it
 abbrev pub closed_state : Level → List Level × Level → ExpressionState
 closed_state level around = record {
   outer = around.0;
   level = with_factor around.1 (level_expr level);
-  open = None;
+  atom = None;
 }
 
 -- a close bracket, where no operand must come and a bracket is open
@@ -181,7 +181,7 @@ atom_step state Bracket (Text name) = Some (begin_atom state (OpenSet name))
 atom_step state (OpenSet name) (SignToken CloseBracket) = Some (factor_step state (AnyOf name))
 atom_step state Brace (Text name) = Some (begin_atom state (OpenWord name))
 atom_step state (OpenWord name) (SignToken CloseBrace) = Some (factor_step state (Word name))
-atom_step state open token = None
+atom_step state atom token = None
 
 -- a token within the atom that is open, if one is
 abbrev pub step_by : ExpressionState → Option OpenAtom → FileToken → Option ExpressionState
@@ -190,18 +190,18 @@ step_by state None token = plain_step state token
 
 -- the state behind one token more
 unfoldable pub step : ExpressionState → FileToken → Option ExpressionState
-step state token = step_by state state.open token
+step state token = step_by state state.atom token
 
 -- the state before the first token
 abbrev pub first_state : ExpressionState
-first_state = record { outer = []; level = empty_level; open = None }
+first_state = record { outer = []; level = empty_level; atom = None }
 
 -- the expression that the state is, if it is whole: no bracket and no atom is open, and no operand
 -- must come
 abbrev pub whole_by : List Level → Option OpenAtom → Level → Option Expr
 whole_by [] None level = unless_none level.factors (level_expr level)
-whole_by outer open level = None
+whole_by outer atom level = None
 
 -- the expression that is read
 abbrev pub whole_of : ExpressionState → Option Expr
-whole_of state = whole_by state.outer state.open state.level
+whole_of state = whole_by state.outer state.atom state.level

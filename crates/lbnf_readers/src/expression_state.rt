@@ -39,5 +39,5 @@ pub struct ExpressionState {
     /// The innermost level.
     pub level: Level,
     /// The atom that is not whole yet.
-    pub open: Option<OpenAtom>,
+    pub atom: Option<OpenAtom>,
 }

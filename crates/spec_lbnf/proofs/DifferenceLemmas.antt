@@ -1,5 +1,5 @@
 -- Where tokens spell definitions, each difference has a minus sign; and what a file spells is proper.
-use Rattle.std.proofs.Common.{◌≡◌, ℕ, ◌+◌, List, [], ◌∷◌, ◌++◌, length, map, filter, not, All, Bool, true, false, cond, codes, inl, inr, refl, sym, ap, subst, ◌∙◌, arith, length-append}
+use Rattle.std.proofs.Common.{◌≡◌, ℕ, suc, ◌+◌, List, [], ◌∷◌, ◌++◌, length, map, filter, not, All, Bool, true, false, cond, codes, inl, inr, refl, sym, ap, subst, ◌∙◌, arith, length-append}
 use Rattle.std.specs.List.{flat_map, slice_split, onto_first, sum_by, AllByRecursion}
 use Rattle.std.proofs.lemmas.Bool.{false≢true}
 use Rattle.std.proofs.lemmas.List.Elements.{All-from_recursion, recursion_from_All}
@@ -62,11 +62,8 @@ parts_minus (token ∷ tokens) = by (is_semicolon token) refl (slice_split is_se
   where
     by : (b : Bool) → is_semicolon token ≡ b → (parts : List (List FileToken)) → sum_by minus_among parts ≡ minus_among tokens
         → sum_by minus_among (cond b ([] ∷ parts) (onto_first token parts)) ≡ minus_among (token ∷ tokens)
-    by true is parts e = rw (semicolon_minus token is) (sum_by-cons minus_among [] parts ∙ e)
-    by false is [] e = omega (arith, e, minus_both (token ∷ []) tokens, by_empty)
-      where
-        by_empty : sum_by minus_among (onto_first token []) ≡ minus_among (token ∷ [])
-        by_empty = sum_by-cons minus_among (token ∷ []) []
+    by true is parts e = rw (semicolon_minus token is) (omega (arith, sum_by-cons minus_among [] parts, e))
+    by false is [] e = omega (arith, e, sum_by-cons minus_among (token ∷ []) [], minus_both (token ∷ []) tokens)
     by false is (first ∷ others) e =
         omega (
           arith,
@@ -81,7 +78,7 @@ parts_minus (token ∷ tokens) = by (is_semicolon token) refl (slice_split is_se
 pieces_minus : (parts : List (List FileToken))
     → sum_by minus_among (filter (λ piece. not (is_empty piece)) parts) ≡ sum_by minus_among parts
 pieces_minus [] = refl
-pieces_minus ([] ∷ parts) = pieces_minus parts ∙ sym (sum_by-cons minus_among [] parts)
+pieces_minus ([] ∷ parts) = omega (arith, pieces_minus parts, sum_by-cons minus_among [] parts)
 pieces_minus ((token ∷ piece) ∷ parts) =
     sum_by-cons minus_among (token ∷ piece) (filter (λ part. not (is_empty part)) parts)
     ∙ ap (λ n. minus_among (token ∷ piece) + n) (pieces_minus parts)
@@ -110,7 +107,7 @@ bare_minus (token ∷ tokens) = by (is_minus token.token) (bare_minus tokens)
     by : (b : Bool) → length (minus_signs tokens) ≡ minus_among (bare tokens)
         → length (cond b (token ∷ minus_signs tokens) (minus_signs tokens))
         ≡ length (cond b (token.token ∷ filter is_minus (bare tokens)) (filter is_minus (bare tokens)))
-    by true e = ap (λ n. 1 + n) e
+    by true e = ap suc e
     by false e = e
 
 -- where tokens spell definitions, each difference has a minus sign
@@ -159,9 +156,10 @@ proper_spelled : (defs : List Def) (pieces : List (List FileToken)) → AreSpell
     → AllByRecursion IsGood (differences_of defs) → AllByRecursion IsProper defs
 proper_spelled [] pieces is utf8 good = tt
 proper_spelled (d ∷ defs) [] is utf8 good = absurd is
-proper_spelled (d ∷ defs) (piece ∷ pieces) is utf8 good =
-    (proper_def d piece is.0 utf8.0 (all_front IsGood (differences_of_def d) (differences_of defs) good),
-    proper_spelled defs pieces is.1 utf8.1 (all_rest IsGood (differences_of_def d) (differences_of defs) good))
+proper_spelled (d ∷ defs) (piece ∷ pieces) is utf8 good = (
+  proper_def d piece is.0 utf8.0 (all_front IsGood (differences_of_def d) (differences_of defs) good),
+  proper_spelled defs pieces is.1 utf8.1 (all_rest IsGood (differences_of_def d) (differences_of defs) good),
+)
 
 -- what a file spells is proper
 pub proper_defs : ProperDefs

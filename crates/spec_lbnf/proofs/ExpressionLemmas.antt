@@ -1,6 +1,6 @@
 -- What the expression of written alternatives has: texts and scalars of its tokens, and a difference
 -- for each minus sign.
-use Rattle.std.proofs.Common.{◌≡◌, ℕ, ◌+◌, List, [], ◌∷◌, ◌++◌, length, map, filter, Bool, true, false, refl, sym, ap, subst, ◌∙◌, arith, length-append, IsUtf8}
+use Rattle.std.proofs.Common.{◌≡◌, ℕ, suc, ◌+◌, List, [], ◌∷◌, ◌++◌, length, map, filter, Bool, true, false, refl, sym, ap, subst, ◌∙◌, arith, length-append, IsUtf8}
 use Rattle.std.specs.Char.{IsScalar}
 use Rattle.std.specs.List.{flat_map, AllByRecursion}
 use Rattle.std.proofs.lemmas.Grind.{flat_map-append}
@@ -23,7 +23,7 @@ use Rattle.spec_lbnf.specs.Differences.{Difference, differences_in, IsGood, is_m
 use Rattle.spec_lbnf.proofs.Utf8Lemmas.{IsUtf8Token}
 
 -- the empty expression
-expression-Eps : expression_of Eps ≡ empty
+pub expression-Eps : expression_of Eps ≡ empty
 expression-Eps = ap expression_of (sym rolls-Eps) ∙ fold-roll-Expr Expression form_of Expr-F.Eps
 
 -- what holds of two runs holds of both together
@@ -32,12 +32,12 @@ all_both P [] ys first second = second
 all_both P (x ∷ xs) ys first second = (first.0, all_both P xs ys first.1 second)
 
 -- what holds of the whole holds of a front
-all_front : {A : Type 0} (P : A → Type 0) (xs ys : List A) → AllByRecursion P (xs ++ ys) → AllByRecursion P xs
+pub all_front : {A : Type 0} (P : A → Type 0) (xs ys : List A) → AllByRecursion P (xs ++ ys) → AllByRecursion P xs
 all_front P [] ys all = tt
 all_front P (x ∷ xs) ys all = (all.0, all_front P xs ys all.1)
 
 -- and of the rest
-all_rest : {A : Type 0} (P : A → Type 0) (xs ys : List A) → AllByRecursion P (xs ++ ys) → AllByRecursion P ys
+pub all_rest : {A : Type 0} (P : A → Type 0) (xs ys : List A) → AllByRecursion P (xs ++ ys) → AllByRecursion P ys
 all_rest P [] ys all = all
 all_rest P (x ∷ xs) ys all = all_rest P xs ys all.1
 
@@ -63,17 +63,19 @@ sound_of (class k) utf8 good = tt
 sound_of (scalar c) utf8 good = utf8
 sound_of (any_of name) utf8 good = utf8
 sound_of (word name) utf8 good = utf8
-sound_of (in_turn first second) utf8 good =
-    (sound_of first utf8.0 (all_front IsGood (differences_in first) (differences_in second) good),
-    sound_of second utf8.1 (all_rest IsGood (differences_in first) (differences_in second) good))
+sound_of (in_turn first second) utf8 good = (
+  sound_of first utf8.0 (all_front IsGood (differences_in first) (differences_in second) good),
+  sound_of second utf8.1 (all_rest IsGood (differences_in first) (differences_in second) good),
+)
 sound_of nothing utf8 good = tt
-sound_of (either left right) utf8 good =
-    (sound_of left utf8.0 (all_front IsGood (differences_in left) (differences_in right) good),
-    sound_of right utf8.1 (all_rest IsGood (differences_in left) (differences_in right) good))
+sound_of (either left right) utf8 good = (
+  sound_of left utf8.0 (all_front IsGood (differences_in left) (differences_in right) good),
+  sound_of right utf8.1 (all_rest IsGood (differences_in left) (differences_in right) good),
+)
 sound_of (minus left right) utf8 good =
     let own : List Difference = (left, right) ∷ differences_in right in
     let behind = all_rest IsGood (differences_in left) own good in
-    (behind.0, (sound_of left utf8.0 (all_front IsGood (differences_in left) own good), sound_of right utf8.1 behind.1))
+    (behind.0, sound_of left utf8.0 (all_front IsGood (differences_in left) own good), sound_of right utf8.1 behind.1)
 sound_of (star part) utf8 good = sound_of part utf8 good
 sound_of (plus part) utf8 good = sound_of part utf8 good
 sound_of (optional part) utf8 good = sound_of part utf8 good
@@ -230,7 +232,7 @@ suffix_no_minus question_sign = refl
 
 -- a difference has one more than its sides
 minus_has : (left right : Expr)
-    → length (differences_of_expr (MinusExpr left right)) ≡ length (differences_of_expr left) + (1 + length (differences_of_expr right))
+    → length (differences_of_expr (MinusExpr left right)) ≡ length (differences_of_expr left) + suc (length (differences_of_expr right))
 minus_has left right =
     ap (λ e. length (differences_in e)) (expression-Minus left right)
     ∙ length-append (differences_of_expr left) ((expression_of left, expression_of right) ∷ differences_of_expr right)

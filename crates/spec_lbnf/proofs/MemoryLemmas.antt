@@ -47,6 +47,6 @@ no_memory_unfitness defs (inl (number, first, inl (bad, is))) = false≢true (sy
 no_memory_unfitness defs (inl (number, first, inr (bad, is))) = false≢true (sym (ap is_grammar_memory is))
 no_memory_unfitness defs (inr (all, inl (many, is))) = false≢true (sym (ap is_grammar_memory is))
 no_memory_unfitness defs (inr (all, inr (few, inl (name, first, is)))) = false≢true (sym (ap is_grammar_memory is))
-no_memory_unfitness defs (inr (all, inr (few, inr (own, inl (name, number, first, is))))) = no_memory_unknown _ name number is
+no_memory_unfitness defs (inr (all, inr (few, inr (own, inl (name, number, first, is))))) = false≢true (sym (ap is_grammar_memory is))
 no_memory_unfitness defs (inr (all, inr (few, inr (own, inr (known, (name, cyclic, is)))))) =
     false≢true (sym (ap is_grammar_memory is))

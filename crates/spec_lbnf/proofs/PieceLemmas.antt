@@ -1,5 +1,5 @@
 -- The pieces of a file's tokens, and that no definition has a semicolon among its tokens.
-use Rattle.std.proofs.Common.{◌≡◌, ℕ, zero, suc, List, [], ◌∷◌, ◌++◌, length, filter, Bool, true, false, not, ◌||◌, ◌⊎◌, inl, inr, cond, refl, sym, ap, subst, ◌∙◌}
+use Rattle.std.proofs.Common.{◌≡◌, ℕ, zero, suc, List, [], ◌∷◌, ◌++◌, length, filter, Bool, true, false, not, ◌||◌, ◌⊎◌, inl, inr, cond, codes, refl, sym, ap, subst, ◌∙◌}
 use Rattle.std.specs.Prelude.{replicate}
 use Rattle.std.specs.List.{flat_map, AllByRecursion, slice_split, onto_first, list_any}
 use Rattle.std.proofs.lemmas.Bool.{false≢true}
@@ -18,7 +18,7 @@ use Rattle.spec_lbnf.specs.declared.token.FileToken.TheVariants.{Identifier, Num
 use Rattle.spec_lbnf.specs.declared.token.FileToken.TheVariants.{Sign as SignToken}
 use Rattle.spec_lbnf.specs.Words.{is_empty}
 use Rattle.spec_lbnf.specs.TokenExpressions.{Suffix, star_sign, plus_sign, question_sign, Alternatives, one_side, or_else, Differences, one_part, less, Sequence, one_factor, and_then, Factor, bare_atom, with_sign, Atom, character_atom, set_atom, text_atom, class_atom, empty_atom, bracket_atom, suffix_sign, alternatives_tokens, differences_tokens, sequence_tokens, factor_tokens, atom_tokens}
-use Rattle.spec_lbnf.specs.GrammarFile.{label_tokens, category_tokens, WrittenItem, category, string, written_tokens, entry_tokens, nonempty_tokens, position_tokens, SpellsRule, SpellsToken, SpellsDef, is_semicolon, pieces_of, AreSpelledBy}
+use Rattle.spec_lbnf.specs.GrammarFile.{label_tokens, category_tokens, WrittenItem, category, string, written_tokens, entry_tokens, nonempty_tokens, position_tokens, keyword, SpellsRule, SpellsToken, SpellsDef, is_semicolon, pieces_of, AreSpelledBy}
 use Rattle.spec_lbnf.specs.Faults.{last_piece}
 
 -- no token is a semicolon
@@ -162,12 +162,14 @@ mutual
 -- a kind of token has no semicolon
 within_token : (name : List ℕ) (expr : Expr) (tokens : List FileToken) → SpellsToken name expr tokens → AreWithin tokens
 within_token name expr tokens is =
-    let own : AreWithin is.own = subst AreWithin (sym is.spelled.whole) (within_alternatives is.spelled.written) in
-    subst AreWithin (sym is.whole) (by is.position (refl, (refl, own)))
+    subst AreWithin (sym is.whole) (by is.position)
   where
-    by : (position : Bool) {others : List FileToken} → AreWithin others → AreWithin (position_tokens position ++ others)
-    by true others = (refl, others)
-    by false others = others
+    own : AreWithin is.own
+    own = subst AreWithin (sym is.spelled.whole) (within_alternatives is.spelled.written)
+
+    by : (position : Bool) → AreWithin (position_tokens position ++ (keyword (codes "token") ∷ Identifier name ∷ is.own))
+    by true = (refl, (refl, (refl, own)))
+    by false = (refl, (refl, own))
 
 -- a definition has no semicolon
 pub within_def : (def : Def) (tokens : List FileToken) → SpellsDef def tokens → AreWithin tokens

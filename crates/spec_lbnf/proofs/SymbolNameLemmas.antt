@@ -104,15 +104,15 @@ module _ (defs : List Def) (own : HasOwnNames defs) where
       → is_among (own_categories def) name ≡ true → is_among (kind_names defs) name ≡ true → ⊥
   not_own number (Token own_name expr) name free there kind = false≢true there
   not_own number (RuleDef rule) name free there kind =
-      All-contains (IsFree defs number (RuleDef rule)) _ name free (found_there _ name there) (found_there (kind_names defs) name kind)
+      All-contains (IsFree defs number (RuleDef rule)) (own_names (RuleDef rule)) name free (found_there (own_categories (RuleDef rule)) name there) (found_there (kind_names defs) name kind)
   not_own number (Internal rule) name free there kind =
-      All-contains (IsFree defs number (Internal rule)) _ name free (found_there _ name there) (found_there (kind_names defs) name kind)
+      All-contains (IsFree defs number (Internal rule)) (own_names (Internal rule)) name free (found_there (own_categories (Internal rule)) name there) (found_there (kind_names defs) name kind)
   not_own number (Terminator nonempty cat word) name free there kind =
-      All-contains (IsFree defs number (Terminator nonempty cat word)) _ name free (found_there _ name there) (found_there (kind_names defs) name kind)
+      All-contains (IsFree defs number (Terminator nonempty cat word)) (own_names (Terminator nonempty cat word)) name free (found_there (own_categories (Terminator nonempty cat word)) name there) (found_there (kind_names defs) name kind)
   not_own number (Separator nonempty cat word) name free there kind =
-      All-contains (IsFree defs number (Separator nonempty cat word)) _ name free (found_there _ name there) (found_there (kind_names defs) name kind)
+      All-contains (IsFree defs number (Separator nonempty cat word)) (own_names (Separator nonempty cat word)) name free (found_there (own_categories (Separator nonempty cat word)) name there) (found_there (kind_names defs) name kind)
   not_own number (Coercions first levels) name free there kind =
-      All-contains (IsFree defs number (Coercions first levels)) _ name free (found_there _ name there) (found_there (kind_names defs) name kind)
+      All-contains (IsFree defs number (Coercions first levels)) (own_names (Coercions first levels)) name free (found_there (own_categories (Coercions first levels)) name there) (found_there (kind_names defs) name kind)
   not_own number (Entry cats) name free there kind = false≢true there
   not_own number (LineComment opening) name free there kind = false≢true there
   not_own number (BlockComment opening closing) name free there kind = false≢true there

@@ -201,7 +201,7 @@ none_twice_append (x ∷ xs) ys once once' apart = (
 
 -- no predefined name stands twice
 pub predefined_once : NoneTwice predefined_names
-predefined_once = (refl, refl, refl, refl, refl, tt)
+predefined_once = (refl, (refl, (refl, (refl, (refl, tt)))))
 
 -- where no name of a token definition stands twice, no name of a token does
 pub tokens_once : (defs : List Def) → NoneTwice (token_names defs) → NoneTwice (token_names defs ++ active_names defs)

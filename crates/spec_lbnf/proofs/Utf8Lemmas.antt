@@ -27,9 +27,9 @@ cut_utf8 front byte rest low utf8 =
     let within : length front < length all = omega (arith, length-append front (byte ∷ rest)) in
     let is_low : get_or all (length front) 0 < 128 = omega (arith, here, low) in (
       subst IsUtf8 (take-append_seam front (byte ∷ rest))
-      (IsUtf8-take all (length front) utf8 (IsCharBoundary-before_ascii all (length front) within is_low)),
+          (IsUtf8-take all (length front) utf8 (IsCharBoundary-before_ascii all (length front) within is_low)),
       subst IsUtf8 (drop-append-add front (byte ∷ rest) 1)
-      (IsUtf8-drop all (length front + 1) utf8 (IsCharBoundary-after_ascii all (length front) utf8 within is_low)),
+          (IsUtf8-drop all (length front + 1) utf8 (IsCharBoundary-after_ascii all (length front) utf8 within is_low)),
     )
 
 -- the byte of an escape is ASCII
@@ -96,5 +96,5 @@ tokens_utf8 front start bytes (token ∷ tokens) stop (skipped, written, rest, w
     = subst IsUtf8 (ap (λ bs. front ++ bs) whole ∙ sym (append_assoc front skipped (written ++ rest))) utf8 in (
       token_utf8 token.token (front ++ skipped) written rest begins here,
       tokens_utf8 ((front ++ skipped) ++ written) (token.offset + length written) rest tokens stop more
-      (subst IsUtf8 (sym (append_assoc (front ++ skipped) written rest)) here),
+          (subst IsUtf8 (sym (append_assoc (front ++ skipped) written rest)) here),
     )

@@ -1,6 +1,6 @@
 -- Token expressions as they are written, from the loosest level to the tightest: alternatives,
 -- differences, sequences, factors and atoms. Of each, its tokens and the expression that it is.
-use Rattle.std.specs.Prelude.{ℕ, suc, ◌+◌, ◌<◌, List, [], ◌∷◌, ◌++◌, codes}
+use Rattle.std.specs.Prelude.{◌≡◌, ℕ, suc, ◌+◌, ◌<◌, List, [], ◌∷◌, ◌++◌, codes}
 use Rattle.spec_lexing.specs.declared.expression.Class.{Class}
 use Rattle.spec_lexing.specs.declared.expression.Class.TheVariants.{Digit, Letter, Upper, Lower}
 use Rattle.spec_lexing.specs.declared.expression.Class.TheVariants.{AnyChar}

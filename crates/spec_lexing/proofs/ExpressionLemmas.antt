@@ -41,4 +41,4 @@ expression-Opt part = ap expression_of (sym (rolls-Opt part)) ∙ fold-roll-Expr
 -- the expressions of the predefined kinds stand for those of their page
 pub predefined_stand : PredefinedStand
 predefined_stand =
-    rw (expression-Seq, expression-Alt, expression-Minus, expression-Star, expression-Plus, expression-Opt, expression-Class, expression-Scalar, expression-AnyOf) refl
+    simp (expression-Seq, expression-Alt, expression-Minus, expression-Star, expression-Plus, expression-Opt, expression-Class, expression-Scalar, expression-AnyOf)
