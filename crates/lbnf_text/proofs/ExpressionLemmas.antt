@@ -13,9 +13,9 @@ use Rattle.spec_lbnf.specs.declared.token.FileToken.TheVariants.{Sign as SignTok
 use Rattle.spec_lbnf.specs.TokenExpressions.{alone_or}
 use Rattle.lbnf_readers.specs.declared.expression_state.Level.{Level}
 use Rattle.lbnf_readers.specs.declared.expression_state.OpenAtom.{OpenAtom}
-use Rattle.lbnf_readers.specs.declared.expression_state.OpenAtom.TheVariants as atom
+use Rattle.lbnf_readers.specs.declared.expression_state.OpenAtom.TheVariants as part
 use Rattle.lbnf_readers.specs.declared.expression_state.ExpressionState.{ExpressionState}
-use Rattle.lbnf_readers.specs.ExpressionReading.{split_last, atom_step, plain_step, sign_step, step, whole_of, begin_atom}
+use Rattle.lbnf_readers.specs.ExpressionReading.{atom_step, plain_step, sign_step, step, whole_of, begin_atom}
 use Rattle.lbnf_readers.specs.FileReading.{got, stuck, text_value, expression_from}
 use Rattle.lbnf_text.specs.Expressions.{closed_by}
 
@@ -25,16 +25,10 @@ taken_together [] many together = refl
 taken_together (part ∷ []) many together = absurd (many (omega arith))
 taken_together (part ∷ other ∷ parts) many together = refl
 
--- what is behind the last of a list is cut off
-pub split_last-push : {A : Type 0} (xs : List A) (x : A) → split_last (xs ++ x ∷ []) ≡ Some (xs, x)
-split_last-push [] x = refl
-split_last-push (y ∷ []) x = refl
-split_last-push (y ∷ z ∷ xs) x = rw (split_last-push (z ∷ xs) x) refl
-
 module _ (state : ExpressionState) where
   -- the state without an atom that is open
   abbrev pub bare_state : ExpressionState
-  bare_state = record { outer = state.outer; level = state.level; open = None }
+  bare_state = record { outer = state.outer; level = state.level; atom = None }
 
   -- a sign does not look at the atom that is open
   bare_sign : (s : Sign) → sign_step bare_state s ≡ sign_step state s
@@ -58,7 +52,7 @@ module _ (state : ExpressionState) where
   bare_sign sign.Underscore = refl
 
   -- where no atom is open, a token is read plainly
-  pub step_plainly : (token : FileToken) → state.open ≡ None → step state token ≡ plain_step bare_state token
+  pub step_plainly : (token : FileToken) → state.atom ≡ None → step state token ≡ plain_step bare_state token
   unfolding step plain_step
   step_plainly (Identifier name) none = rw none refl
   step_plainly (Number value) none = rw none refl
@@ -67,7 +61,7 @@ module _ (state : ExpressionState) where
   step_plainly (SignToken s) none = rw none (sym (bare_sign s))
 
   -- behind the first sign of an atom its string is read
-  pub opened_set : (token : FileToken) → atom_step state atom.Bracket token ≡ option_map (λ name. begin_atom state (atom.AnyOf name)) (text_value token)
+  pub opened_set : (token : FileToken) → atom_step state part.Bracket token ≡ option_map (λ name. begin_atom state (part.AnyOf name)) (text_value token)
   unfolding atom_step
   opened_set (Identifier name) = refl
   opened_set (Number value) = refl
@@ -75,7 +69,7 @@ module _ (state : ExpressionState) where
   opened_set (Character scalar) = refl
   opened_set (SignToken s) = refl
 
-  pub opened_word : (token : FileToken) → atom_step state atom.Brace token ≡ option_map (λ name. begin_atom state (atom.Word name)) (text_value token)
+  pub opened_word : (token : FileToken) → atom_step state part.Brace token ≡ option_map (λ name. begin_atom state (part.Word name)) (text_value token)
   unfolding atom_step
   opened_word (Identifier name) = refl
   opened_word (Number value) = refl
@@ -84,7 +78,7 @@ module _ (state : ExpressionState) where
   opened_word (SignToken s) = refl
 
   -- behind its string an atom is closed by its sign
-  closed_set_by : (name : List ℕ) (s : Sign) → atom_step state (atom.AnyOf name) (SignToken s) ≡ closed_by state CloseBracket (AnyOf name) (SignToken s)
+  closed_set_by : (name : List ℕ) (s : Sign) → atom_step state (part.AnyOf name) (SignToken s) ≡ closed_by state CloseBracket (AnyOf name) (SignToken s)
   unfolding atom_step
   closed_set_by name sign.Dot = refl
   closed_set_by name sign.Semicolon = refl
@@ -104,7 +98,7 @@ module _ (state : ExpressionState) where
   closed_set_by name sign.Minus = refl
   closed_set_by name sign.Underscore = refl
 
-  closed_word_by : (name : List ℕ) (s : Sign) → atom_step state (atom.Word name) (SignToken s) ≡ closed_by state CloseBrace (Word name) (SignToken s)
+  closed_word_by : (name : List ℕ) (s : Sign) → atom_step state (part.Word name) (SignToken s) ≡ closed_by state CloseBrace (Word name) (SignToken s)
   unfolding atom_step
   closed_word_by name sign.Dot = refl
   closed_word_by name sign.Semicolon = refl
@@ -124,7 +118,7 @@ module _ (state : ExpressionState) where
   closed_word_by name sign.Minus = refl
   closed_word_by name sign.Underscore = refl
 
-  pub closed_set : (name : List ℕ) (token : FileToken) → atom_step state (atom.AnyOf name) token ≡ closed_by state CloseBracket (AnyOf name) token
+  pub closed_set : (name : List ℕ) (token : FileToken) → atom_step state (part.AnyOf name) token ≡ closed_by state CloseBracket (AnyOf name) token
   unfolding atom_step
   closed_set name (Identifier word) = refl
   closed_set name (Number value) = refl
@@ -132,7 +126,7 @@ module _ (state : ExpressionState) where
   closed_set name (Character scalar) = refl
   closed_set name (SignToken s) = closed_set_by name s
 
-  pub closed_word : (name : List ℕ) (token : FileToken) → atom_step state (atom.Word name) token ≡ closed_by state CloseBrace (Word name) token
+  pub closed_word : (name : List ℕ) (token : FileToken) → atom_step state (part.Word name) token ≡ closed_by state CloseBrace (Word name) token
   unfolding atom_step
   closed_word name (Identifier word) = refl
   closed_word name (Number value) = refl
@@ -141,13 +135,13 @@ module _ (state : ExpressionState) where
   closed_word name (SignToken s) = closed_word_by name s
 
 -- where an atom is open, a token is read within it
-pub step_within : (state : ExpressionState) (opened : OpenAtom) (token : FileToken) → state.open ≡ Some opened
+pub step_within : (state : ExpressionState) (opened : OpenAtom) (token : FileToken) → state.atom ≡ Some opened
     → step state token ≡ atom_step (bare_state state) opened token
 unfolding step
-step_within state atom.Bracket token is = rw is (opened_set state token ∙ sym (opened_set (bare_state state) token))
-step_within state atom.Brace token is = rw is (opened_word state token ∙ sym (opened_word (bare_state state) token))
-step_within state (atom.AnyOf name) token is = rw is (closed_set state name token ∙ sym (closed_set (bare_state state) name token))
-step_within state (atom.Word name) token is = rw is (closed_word state name token ∙ sym (closed_word (bare_state state) name token))
+step_within state part.Bracket token is = rw is (opened_set state token ∙ sym (opened_set (bare_state state) token))
+step_within state part.Brace token is = rw is (opened_word state token ∙ sym (opened_word (bare_state state) token))
+step_within state (part.AnyOf name) token is = rw is (closed_set state name token ∙ sym (closed_set (bare_state state) name token))
+step_within state (part.Word name) token is = rw is (closed_word state name token ∙ sym (closed_word (bare_state state) name token))
 
 -- a token that is read leads to the next state
 pub one_token : (tokens : List PlacedToken) (token : PlacedToken) (rest : List PlacedToken) (state next : ExpressionState)

@@ -28,7 +28,7 @@ fn first_state(alloc: Global) -> ExpressionState
     ExpressionState {
         outer: Items::new(alloc),
         level: empty_level(alloc),
-        open: None,
+        atom: None,
     }
 }
 
@@ -39,12 +39,12 @@ fn begin_atom(state: ExpressionState, atom: OpenAtom) -> ExpressionState
     let ExpressionState {
         outer,
         level,
-        open: _,
+        atom: _,
     } = state;
     ExpressionState {
         outer,
         level,
-        open: Some(atom),
+        atom: Some(atom),
     }
 }
 
@@ -55,13 +55,13 @@ fn factor_step(state: ExpressionState, factor: Expr) -> Result<ExpressionState, 
     let ExpressionState {
         outer,
         level,
-        open: _,
+        atom: _,
     } = state;
     let level = with_factor(level, factor)?;
     Ok(ExpressionState {
         outer,
         level,
-        open: None,
+        atom: None,
     })
 }
 
@@ -76,13 +76,13 @@ fn operated(
     let ExpressionState {
         outer,
         level,
-        open: _,
+        atom: _,
     } = state;
     let level = operate(alloc, level, operator)?;
     Ok(ExpressionState {
         outer,
         level,
-        open: None,
+        atom: None,
     })
 }
 
@@ -93,7 +93,7 @@ fn open_step(alloc: Global, state: ExpressionState) -> Result<ExpressionState, S
     let ExpressionState {
         mut outer,
         level,
-        open: _,
+        atom: _,
     } = state;
     if outer.len() >= MAX_BRACKETS {
         return Err(Stop::Stuck);
@@ -102,7 +102,7 @@ fn open_step(alloc: Global, state: ExpressionState) -> Result<ExpressionState, S
     Ok(ExpressionState {
         outer,
         level: empty_level(alloc),
-        open: None,
+        atom: None,
     })
 }
 
@@ -113,7 +113,7 @@ fn close_step(alloc: Global, state: ExpressionState) -> Result<ExpressionState, 
     let ExpressionState {
         mut outer,
         level,
-        open: _,
+        atom: _,
     } = state;
     if level.factors.is_empty() {
         return Err(Stop::Stuck);
@@ -124,7 +124,7 @@ fn close_step(alloc: Global, state: ExpressionState) -> Result<ExpressionState, 
     Ok(ExpressionState {
         outer,
         level,
-        open: None,
+        atom: None,
     })
 }
 
@@ -259,13 +259,13 @@ fn step(
 ) -> Result<ExpressionState, Stop>
     ensures { StepsTo (step state token.now) result }
 {
-    let ExpressionState { outer, level, open } = state;
+    let ExpressionState { outer, level, atom } = state;
     let state = ExpressionState {
         outer,
         level,
-        open: None,
+        atom: None,
     };
-    match open {
+    match atom {
         Some(atom) => atom_step(alloc, state, atom, token),
         None => plain_step(alloc, state, token),
     }
@@ -275,11 +275,11 @@ fn step(
 fn whole(alloc: Global, state: ExpressionState) -> Result<Expr, Stop>
     ensures { StepsTo (whole_of state) result }
 {
-    let ExpressionState { outer, level, open } = state;
+    let ExpressionState { outer, level, atom } = state;
     if !outer.is_empty() {
         return Err(Stop::Stuck);
     }
-    if open.is_some() {
+    if atom.is_some() {
         return Err(Stop::Stuck);
     }
     if level.factors.is_empty() {

@@ -50,17 +50,18 @@ fn show_own(alloc: Global, out: &mut Vec<u8>, expr: &Expr) -> Result<(), AllocEr
 /// Adds the parts of an expression to those that are to be shown, the first of them last.
 fn add_parts<'a>(due: &mut Vec<&'a Expr>, expr: &'a Expr) -> Result<(), AllocError> {
     match expr {
-        Expr::Seq(parts) => add_all(due, parts.as_slice()),
-        Expr::Alt(parts) => add_all(due, parts.as_slice()),
+        Expr::Seq(parts) => add_all(due, parts.as_slice())?,
+        Expr::Alt(parts) => add_all(due, parts.as_slice())?,
         Expr::Minus(left, right) => {
             due.push(right.get())?;
-            due.push(left.get())
+            due.push(left.get())?;
         }
-        Expr::Star(part) => due.push(part.get()),
-        Expr::Plus(part) => due.push(part.get()),
-        Expr::Opt(part) => due.push(part.get()),
-        _ => Ok(()),
+        Expr::Star(part) => due.push(part.get())?,
+        Expr::Plus(part) => due.push(part.get())?,
+        Expr::Opt(part) => due.push(part.get())?,
+        _ => {}
     }
+    Ok(())
 }
 
 fn add_all<'a>(due: &mut Vec<&'a Expr>, parts: &'a [Expr]) -> Result<(), AllocError> {
