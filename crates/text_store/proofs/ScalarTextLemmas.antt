@@ -50,7 +50,7 @@ utf8_bytes bytes text = subst AreBytes (text.1).1 (scalars_bytes text.0 (text.1)
 -- a text that is not empty begins with a scalar
 first_scalar : (bytes : List ℕ) → IsUtf8 bytes → 0 < length bytes →
     (c : ℕ) × (rest : List ℕ) × IsScalar c × (bytes ≡ encode_utf8 c ++ rest)
-first_scalar bytes (cs, all, is) some = by_scalars cs all is
+first_scalar bytes text some = by_scalars text.0 (text.1).0 (text.1).1
   where
     by_scalars : (cs : List ℕ) → scalars cs ≡ true → encodes cs ≡ bytes →
         (c : ℕ) × (rest : List ℕ) × IsScalar c × (bytes ≡ encode_utf8 c ++ rest)

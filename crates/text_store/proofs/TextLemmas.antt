@@ -1,13 +1,15 @@
 -- The tokens of a text as they are read one by one, and what opening a text answers.
-use Rattle.std.proofs.Common.{inl, inr, ◌≡◌, ℕ, suc, zero, ◌+◌, ◌<◌, ◌≤◌, List, [], ◌∷◌, ◌++◌, length, drop, All, Option, Some, None, Ok, Err, IfSome, slice_range, refl, sym, ◌∙◌, ap, subst, arith, append_assoc, length-append}
+use Rattle.std.proofs.Common.{inl, inr, ◌≡◌, ℕ, suc, zero, ◌+◌, ◌<◌, ◌≤◌, List, [], ◌∷◌, ◌++◌, length, drop, All, Option, Some, None, Result, Ok, Err, IfSome, IsErrAnd, MatchResult, get_or, slice_get, slice_range, refl, sym, ◌∙◌, ap, subst, arith, append_assoc, length-append}
 use Rattle.std.specs.Coded.{Coded-set, coded_list}
 use Rattle.std.specs.List.{cons_option}
+use Rattle.std.specs.Option.{option_map}
 use Rattle.std.specs.Str.{IsUtf8}
 use Rattle.std.proofs.Math.Logic.{∥∥₁_elim, ∥∥₁_map}
 use Rattle.std.proofs.lemmas.Bool.{cases_lt}
 use Rattle.std.proofs.lemmas.Grind.{not_there}
 use Rattle.std.proofs.lemmas.List.{append-nil}
 use Rattle.std.proofs.lemmas.List.Elements.{All-nil, All-cons, All-append, All-same}
+use Rattle.std.proofs.lemmas.Option.{slice_get-get_or}
 use Rattle.std.proofs.lemmas.Str.{IsUtf8-had}
 use Rattle.spec_lexing.specs.declared.token.Token.{Token}
 use Rattle.spec_lexing.specs.contracts.token.Token.{the_row as token_row}
@@ -21,8 +23,8 @@ use Rattle.lbnf_regex.specs.Automata.{Machine}
 use Rattle.text_store.specs.declared.fault.EditFault.{EditFault}
 use Rattle.text_store.specs.declared.fault.EditFault.TheVariants.{Memory, Range, FullText, NotUtf8, FullTokens}
 use Rattle.text_store.specs.declared.lexing.Lexeme.{Lexeme}
-use Rattle.text_store.specs.TextStore.{FitText, IsSoundAutomatonOf, Lexes, OpensBytes, OpensTokens}
-use Rattle.text_store.specs.Lexing.{AreTokensBehind, IsTokenIn, Spans, IsLexeme, IsNotKept, IsLexerFault, HasTooMany, IsBytesFault}
+use Rattle.text_store.specs.TextStore.{TextValue, FitText, IsSoundAutomatonOf, Lexes, OpensBytes, OpensTokens, token_bytes}
+use Rattle.text_store.specs.Lexing.{AreTokensBehind, IsTokenIn, MayKeep, Spans, IsLexeme, IsNotKept, IsLexerFault, HasTooMany, IsBytesFault}
 use Rattle.text_store.proofs.ScalarTextLemmas.{utf8_between}
 
 -- from each place on there are tokens
@@ -182,3 +184,38 @@ pub opened_tokens : (lexicon : Lexicon) (a : Machine) (bytes : List ℕ) (tokens
     (IsSoundAutomatonOf lexicon a → AreTokensBehind lexicon bytes 0 tokens) → Lexes lexicon a →
     AreTokensOf lexicon bytes tokens
 opened_tokens lexicon a bytes tokens are lexed = had_tokens lexicon bytes tokens (∥∥₁_map lexed are)
+
+-- a fault that is known
+pub at_fault : {T : Type 0} → (P : T → Type 0) (Q : EditFault → Type 0) (fault : EditFault) (r : Result T EditFault) →
+    IsErrAnd r (λ x. x ≡ fault) → Q fault → MatchResult r P Q
+at_fault P Q fault (Ok x) h q = absurd h
+at_fault P Q fault (Err other) h q = subst Q (sym h) q
+
+pub at_refusal : (lexicon : Lexicon) (bytes : List ℕ) (fault : EditFault) (r : Result TextValue EditFault) →
+    IsErrAnd r (λ x. x ≡ fault) → OpensTokens lexicon bytes (Err fault) → OpensTokens lexicon bytes r
+at_refusal lexicon bytes fault (Ok text) h q = absurd h
+at_refusal lexicon bytes fault (Err other) h q =
+    subst (λ (f : EditFault). OpensTokens lexicon bytes (Err f)) (sym h) q
+
+-- copies may be kept as what they are copies of
+pub copies_kept : (bytes own : List ℕ) (tokens own_tokens : List Token) → own ≡ bytes → own_tokens ≡ tokens →
+    MayKeep bytes tokens → MayKeep own own_tokens
+copies_kept bytes own tokens own_tokens same same_tokens kept =
+    subst (λ (b : List ℕ). MayKeep b own_tokens) (sym same)
+    (subst (λ (ts : List Token). MayKeep bytes ts) (sym same_tokens) kept)
+
+-- the bytes of a token that is kept are UTF-8
+pub token_utf8 : (bytes : List ℕ) (tokens : List Token) (i : ℕ) (token : Token) → MayKeep bytes tokens →
+    i < length tokens → token ≡ get_or tokens i token → IsUtf8 (token_bytes bytes token)
+token_utf8 bytes tokens i token kept within is =
+    let there : IsTokenIn bytes (get_or tokens i token) = kept.2 i token within in
+    IsUtf8-had (token_bytes bytes token)
+    (subst (λ (t : Token). ∥ IsUtf8 (token_bytes bytes t) ∥₁) (sym is) there.2)
+
+-- what is told of the token at a place
+pub token_told : (bytes : List ℕ) (tokens : List Token) (i : ℕ) (token : Token) (name : List ℕ) → i < length tokens →
+    token ≡ get_or tokens i token → name ≡ token_bytes bytes token →
+    option_map (token_bytes bytes) (slice_get tokens i) ≡ Some name
+token_told bytes tokens i token name within is e =
+    ap (option_map (token_bytes bytes)) (slice_get-get_or tokens i token within)
+    ∙ ap (λ (t : Token). Some (token_bytes bytes t)) (sym is) ∙ ap Some (sym e)

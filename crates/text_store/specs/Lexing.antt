@@ -1,5 +1,5 @@
 -- Serves the proofs alone: what an automaton accepts at a place, and what the lexer makes of it.
-use Rattle.std.specs.Prelude.{◌≡◌, ℕ, ◌<◌, ◌≤◌, List, [], ◌∷◌, ◌++◌, length, take, drop, IsUtf8}
+use Rattle.std.specs.Prelude.{◌≡◌, ℕ, ◌<◌, ◌≤◌, List, [], ◌∷◌, ◌++◌, length, take, drop, All, IsUtf8}
 use Rattle.std.specs.Prelude.{Option, Some, None, MatchOption, slice_index_or}
 use Rattle.std.specs.List.{cons_option}
 use Rattle.std.specs.Option.{option_map}
@@ -61,6 +61,11 @@ abbrev pub IsTokenIn : List ℕ → Token → Type 0
 IsTokenIn bytes token =
     (token.first ≤ token.end) × (token.end ≤ length bytes)
     × ∥ IsUtf8 (token_bytes bytes token) ∥₁
+
+-- a text may keep the bytes and the tokens: neither are too many, and each token is one in the bytes
+abbrev pub MayKeep : List ℕ → List Token → Type 0
+MayKeep bytes tokens =
+    (length bytes ≤ MAX_BYTES) × (length tokens ≤ MAX_TOKENS) × All (IsTokenIn bytes) tokens
 
 -- the token has the bytes from start up to end
 abbrev pub Spans : ℕ → ℕ → Token → Type 0

@@ -25,19 +25,14 @@ pub struct Text {
 }
 
 impl Model for Text {
-    ghost use Rattle.std.specs.Prelude.{◌≤◌, length, All};
-    ghost use Rattle.spec_text.specs.declared.limits.TheConstants.{MAX_TOKENS};
-    ghost use Rattle.text_store.specs.declared.limits.TheConstants.{MAX_BYTES};
     ghost use Rattle.text_store.specs.TextStore.{TextValue};
-    ghost use Rattle.text_store.specs.Lexing.{IsTokenIn};
+    ghost use Rattle.text_store.specs.Lexing.{MayKeep};
 
     ghost Value = { TextValue };
 
     ghost view = { λ t. record { bytes = t.bytes.items; tokens = t.tokens.items } };
 
-    ghost invariant = { λ t. (length t.bytes.items ≤ MAX_BYTES)
-        × (length t.tokens.items ≤ MAX_TOKENS)
-        × All (IsTokenIn t.bytes.items) t.tokens.items };
+    ghost invariant = { λ t. MayKeep t.bytes.items t.tokens.items };
 }
 
 /// Looks whether a text may have the bytes.
