@@ -112,11 +112,11 @@ module _ (defs : List Def) where
   rule_own : (r : ℕ) (rule : RawRule) → slice_get (rules_of defs) r ≡ Some rule → HasSymbolsOf (expansion_of defs) (numbered_rule (tables_of defs) rule)
   rule_own r rule is = (
     distinct_number (category_names defs) (category_text rule.cat)
-    (rule_met r rule is (category_text rule.cat) (head_among (category_text rule.cat) _)),
+        (rule_met r rule is (category_text rule.cat) (head_among (category_text rule.cat) _)),
     All-from_recursion (IsSymbolOf (expansion_of defs)) _
-    (items_own rule.items
-    (λ name there. named_own name (item_met r rule is name there))
-    (λ name there. distinct_number (flat_map item_told (rules_of defs)) name (given_among item_told (rules_of defs) r rule name is there))),
+        (items_own rule.items
+        (λ name there. named_own name (item_met r rule is name there))
+        (λ name there. distinct_number (flat_map item_told (rules_of defs)) name (given_among item_told (rules_of defs) r rule name is there))),
   )
 
 -- the rules that definitions give have symbols of their grammar alone

@@ -55,7 +55,10 @@ pub enum Def {
     /// `entrypoints Cat, Cat`: the categories that a text may be asked for, one or more.
     Entry(Items<CatName>),
     /// `token Name Expr` or `position token Name Expr`: a kind of token by its name.
-    Token { name: Name, expr: Expr },
+    Token {
+        name: Name,
+        expr: Expr,
+    },
     /// `comment "w"`: comments from the word to the end of the line.
     LineComment(Name),
     /// `comment "w" "v"`: comments from the first word to the next second word.
