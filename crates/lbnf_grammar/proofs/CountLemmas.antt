@@ -17,7 +17,7 @@ use Rattle.spec_lbnf.specs.Limits.{def_size, size_of}
 use Rattle.spec_lbnf.specs.Words.{is_empty, words_in}
 use Rattle.spec_lexing.specs.declared.expression.Expr.{Expr}
 use Rattle.spec_lexing.specs.Predefined.{predefined_kinds}
-use Rattle.spec_lbnf.specs.Expansion.{category_text, word_items, list_of, terminator_rules, separator_rules, level_rule, bracket_rule, coercion_rules, rules_of_def, rules_of, item_categories, item_words, met_categories, internal_category, distinct, words_of, token_in, kind_names, is_among, is_active, active_kinds, NameTables, item_symbol, numbered_rule}
+use Rattle.spec_lbnf.specs.Expansion.{category_text, word_items, list_of, terminator_rules, separator_rules, level_rule, bracket_rule, coercion_rules, rules_of_def, rules_of, item_categories, item_words, met_categories, internal_category, distinct, words_of, token_in, kind_names, is_among, is_active, active_kinds, tokens_of, NameTables, tables_of, item_symbol, numbered_rule}
 use Rattle.spec_lbnf.proofs.TokenNameLemmas.{head_among, among_right, or_right}
 use Rattle.spec_grammar.specs.Grammars.{item_count}
 use Rattle.spec_lbnf.specs.Checks.{HasFewRules}
@@ -404,3 +404,17 @@ are_few defs small few =
           );
       items = λ tables. omega (arith, few_items tables (rules_of defs), bounded.words, bounded.categories);
     }
+
+-- so can those of their tables
+pub tables_few : (defs : List Def) (tables : NameTables) → tables ≡ tables_of defs → AreFew defs
+    → (length tables.categories < 2 ^ 16) × (length tables.words + length tables.tokens < 2 ^ 16)
+tables_few defs tables are few = (
+  omega (arith, ap (λ (t : NameTables). length t.categories) are, few.categories),
+  omega (
+    arith,
+    ap (λ (t : NameTables). length t.words) are,
+    ap (λ (t : NameTables). length t.tokens) are,
+    length-map (tokens_of defs) (λ (token : List ℕ × Expr). token.0),
+    few.kinds,
+  ),
+)

@@ -1,10 +1,11 @@
 -- Adding names one by one leaves them without repetitions, in the order of first meeting.
-use Rattle.std.proofs.Common.{◌≡◌, ℕ, ◌+◌, ◌≤◌, List, [], ◌∷◌, ◌++◌, length, Bool, true, false, not, ◌&&◌, ◌||◌, filter, refl, sym, ap, ◌∙◌, inl, inr, arith, append-nil, append_assoc, length-append, true≢false, take, Some, slice_get}
-use Rattle.std.specs.List.{list_any}
+use Rattle.std.proofs.Common.{◌≡◌, ℕ, ◌+◌, ◌≤◌, List, [], ◌∷◌, ◌++◌, length, Bool, true, false, not, ◌&&◌, ◌||◌, filter, refl, sym, ap, ◌∙◌, inl, inr, arith, append-nil, append_assoc, length-append, true≢false, take, map, cond, Some, slice_get}
+use Rattle.std.specs.List.{list_any, AllByRecursion}
 use Rattle.std.specs.Str.{bytes_eq}
 use Rattle.std.specs.Cmp.Lexicographic.{nat_list_eq_equiv}
 use Rattle.std.proofs.lemmas.Bool.{cases_Bool}
 use Rattle.std.proofs.Math.Bool.{or-false, or_assoc}
+use Rattle.std.proofs.lemmas.List.{map-append}
 use Rattle.std.proofs.lemmas.List.Elements.{filter_agree, filter-append}
 use Rattle.std.proofs.lemmas.List.Folds.{list_any-append}
 use Rattle.std.proofs.lemmas.List.Sums.{fold-append}
@@ -147,26 +148,39 @@ distinct_behind xs ys zs =
     ∙ sym (distinct_added (with_new_names [] xs) (ys ++ zs))
     ∙ added_in_turn [] xs (distinct (ys ++ zs))
 
--- those of the first names that pass, and the next
-module _ (passes : List ℕ → Bool) (start names : List (List ℕ)) (i : ℕ) (name : List ℕ) (at : slice_get names i ≡ Some name)
-    (old : List (List ℕ)) (so_far : old ≡ with_new_names start (filter passes (take i names))) where
-  pub passing_more : (new : List (List ℕ)) → passes name ≡ true → new ≡ with_new_name old name
-      → new ≡ with_new_names start (filter passes (take (i + 1) names))
-  passing_more new pass added =
-      added ∙ ap (λ l. with_new_name l name) so_far
-      ∙ added_in_turn start (filter passes (take i names)) (name ∷ [])
-      ∙ ap (λ l. with_new_names start (filter passes (take i names) ++ l)) (sym (kept pass))
-      ∙ ap (with_new_names start) (sym (filter-append passes (take i names) (name ∷ [])) ∙ ap (filter passes) (sym (take_next names i name at)))
-    where
-      kept : passes name ≡ true → filter passes (name ∷ []) ≡ name ∷ []
-      kept e = rw e refl
+-- those of the first items that pass, and the next
+pub filter_more : {X : Type 0} (passes : X → Bool) (xs : List X) (i : ℕ) (x : X) → slice_get xs i ≡ Some x
+    → filter passes (take (i + 1) xs) ≡ filter passes (take i xs) ++ cond (passes x) (x ∷ []) []
+filter_more passes xs i x at = ap (filter passes) (take_next xs i x at) ∙ filter-append passes (take i xs) (x ∷ [])
 
-  pub failing_more : passes name ≡ false → old ≡ with_new_names start (filter passes (take (i + 1) names))
-  failing_more fail =
-      so_far
-      ∙ ap (with_new_names start) (sym (append-nil (filter passes (take i names))))
-      ∙ ap (λ l. with_new_names start (filter passes (take i names) ++ l)) (sym (dropped fail))
-      ∙ ap (with_new_names start) (sym (filter-append passes (take i names) (name ∷ [])) ∙ ap (filter passes) (sym (take_next names i name at)))
-    where
-      dropped : passes name ≡ false → filter passes (name ∷ []) ≡ []
-      dropped e = rw e refl
+-- the first names that pass are added, and then the next if it passes
+pub passing_more : (passes : List ℕ → Bool) (start names : List (List ℕ)) (i : ℕ) (name : List ℕ) → slice_get names i ≡ Some name
+    → (old new : List (List ℕ)) → old ≡ with_new_names start (filter passes (take i names))
+    → new ≡ cond (passes name) (with_new_name old name) old → new ≡ with_new_names start (filter passes (take (i + 1) names))
+passing_more passes start names i name at old new so_far added =
+    added
+    ∙ ap (λ l. cond (passes name) (with_new_name l name) l) so_far
+    ∙ by (passes name)
+    ∙ ap (with_new_names start) (sym (filter_more passes names i name at))
+  where
+    by : (pass : Bool)
+        → cond pass (with_new_name (with_new_names start (filter passes (take i names))) name) (with_new_names start (filter passes (take i names)))
+        ≡ with_new_names start (filter passes (take i names) ++ cond pass (name ∷ []) [])
+    by true = added_in_turn start (filter passes (take i names)) (name ∷ [])
+    by false = ap (with_new_names start) (sym (append-nil (filter passes (take i names))))
+
+-- tests that agree on the items keep the same of them
+pub filter_members : {X : Type 0} (p q : X → Bool) (xs : List X) → AllByRecursion (λ x. p x ≡ q x) xs → filter p xs ≡ filter q xs
+filter_members p q [] agree = refl
+filter_members p q (x ∷ xs) agree = λ i. cond (agree.0 i) (x ∷ filter_members p q xs agree.1 i) (filter_members p q xs agree.1 i)
+
+-- the names of the first items are added, and then that of the next
+pub named_more : {X : Type 0} (name : X → List ℕ) (start : List (List ℕ)) (xs : List X) (i : ℕ) (x : X) → slice_get xs i ≡ Some x
+    → (old new : List (List ℕ)) → old ≡ with_new_names start (map name (take i xs))
+    → new ≡ with_new_name old (name x) → new ≡ with_new_names start (map name (take (i + 1) xs))
+named_more name start xs i x at old new so_far added =
+    added
+    ∙ ap (λ l. with_new_name l (name x)) so_far
+    ∙ added_in_turn start (map name (take i xs)) (name x ∷ [])
+    ∙ ap (with_new_names start) (sym (map-append name (take i xs) (x ∷ [])))
+    ∙ ap (λ l. with_new_names start (map name l)) (sym (take_next xs i x at))

@@ -1,5 +1,6 @@
 //! Names in the order in which they are first met.
-ghost use Rattle.std.specs.Prelude.{◌≡◌, [], ◌≤◌, length, filter, OnOk, IfOk, bytes_eq};
+ghost use Rattle.std.specs.Prelude.{◌≡◌, [], ◌≤◌, length, filter, cond, OnOk};
+ghost use Rattle.std.specs.Prelude.{IfOk, bytes_eq};
 ghost use Rattle.std.specs.List.{list_any};
 ghost use Rattle.spec_grammar.specs.Grammars.{name_number};
 ghost use Rattle.spec_lbnf.specs.Expansion.{is_among};
@@ -83,6 +84,22 @@ impl Names {
         Ok(())
     }
 
+    /// Adds the name, if it is new, and among these others.
+    fn add_if_listed(
+        &mut self,
+        alloc: Global,
+        others: &Names,
+        name: &str,
+    ) -> Result<(), AllocError>
+        ensures { OnOk result (self.new
+            ≡ cond (is_among others.now name.now) (with_new_name self.old name.now) self.old) }
+    {
+        if others.has(name) {
+            return self.add(alloc, name);
+        }
+        Ok(())
+    }
+
     /// Adds those of the names that are new, and among these others.
     pub(crate) fn add_listed(
         &mut self,
@@ -94,9 +111,7 @@ impl Names {
             (self.new ≡ with_new_names self.old (filter (is_among others.now) names.now)) }
     {
         for name in names {
-            if others.has(name.as_str()) {
-                self.add(alloc, name.as_str())?;
-            }
+            self.add_if_listed(alloc, others, name.as_str())?;
         }
         Ok(())
     }

@@ -1,5 +1,5 @@
 //! The predefined kinds of token, and which of them are active.
-ghost use Rattle.std.specs.Prelude.{◌≡◌, map, filter, IfOk};
+ghost use Rattle.std.specs.Prelude.{◌≡◌, [], ◌∷◌, ◌++◌, map, filter, cond, IfOk, OnOk};
 ghost use Rattle.spec_lexing.specs.declared.expression.Expr.TheVariants.{AnyOf};
 ghost use Rattle.spec_lexing.specs.Predefined.{integer_expr, exponent_expr, double_expr};
 ghost use Rattle.spec_lexing.specs.Predefined.{ident_part_expr, ident_expr, escape_expr};
@@ -142,6 +142,22 @@ impl Predefined {
     }
 }
 
+/// Adds the kind, if its name is used and not taken.
+fn add_if_active(
+    active: &mut Vec<Predefined>,
+    kind: Predefined,
+    used: &Names,
+    taken: &Names,
+) -> Result<(), AllocError>
+    ensures { OnOk result (active.new.items ≡ active.old.items
+        ++ cond (is_free_use used.now taken.now (predefined_name kind)) (kind ∷ []) []) }
+{
+    if used.has(kind.name()) && !taken.has(kind.name()) {
+        active.push(kind)?;
+    }
+    Ok(())
+}
+
 /// Those of the kinds whose names are used and not taken.
 fn active_among(
     alloc: Global,
@@ -154,9 +170,7 @@ fn active_among(
 {
     let mut active = Vec::new(alloc);
     for kind in kinds {
-        if used.has(kind.name()) && !taken.has(kind.name()) {
-            active.push(*kind)?;
-        }
+        add_if_active(&mut active, *kind, used, taken)?;
     }
     Ok(active)
 }

@@ -1,5 +1,5 @@
 -- Symbols by their names, added one by one.
-use Rattle.std.proofs.Common.{◌≡◌, ℕ, zero, suc, ◌+◌, ◌<◌, ◌≤◌, ◌⊎◌, List, [], ◌∷◌, ◌++◌, length, take, map, get_or, Bool, true, false, cond, Vec, Global, Option, Some, None, is_some, slice_get, Contains, MatchOption, refl, sym, ap, subst, ◌∙◌, inl, inr, arith, append-nil, append_assoc}
+use Rattle.std.proofs.Common.{◌↔◌, IsTrue, ◌≡◌, ℕ, zero, suc, ◌+◌, ◌<◌, ◌≤◌, ◌⊎◌, List, [], ◌∷◌, ◌++◌, length, take, map, get_or, Bool, true, false, cond, Vec, Global, Option, Some, None, is_some, slice_get, Contains, MatchOption, refl, sym, ap, subst, ◌∙◌, inl, inr, arith, append-nil, append_assoc}
 use Rattle.std.specs.Map.{lookup}
 use Rattle.std.specs.Str.{bytes_eq}
 use Rattle.std.proofs.lemmas.Bool.{cases_Bool, both_ways, false≢true}
@@ -15,7 +15,7 @@ use Rattle.spec_grammar.specs.declared.rule.Symbol.{Symbol}
 use Rattle.spec_grammar.specs.declared.rule.Symbol.TheVariants.{Category, Kind}
 use Rattle.spec_grammar.specs.Grammars.{Grammar, IsTokenNamed, HasName, HasDistinctNames, IsSymbolOf}
 use Rattle.numbered_grammar.specs.Making.{grammar_of_symbols, FindsSymbol}
-use Rattle.numbered_grammar.specs.Places.{categories_from, kinds_from, named_symbols, entries_in, symbol_in, HasEntry, HasOneEach, AddsSymbol, AddsKind, AddsAll}
+use Rattle.numbered_grammar.specs.Places.{categories_from, kinds_from, named_symbols, entries_in, symbol_in, HasEntry, HasOneEach, AddsSymbol, AddsKind, AddsAll, GivesPlaces}
 
 -- an entry of a name
 abbrev Entry : Type 0
@@ -207,20 +207,20 @@ distinct_moves g h categories kinds one s t name is_s is_t =
     one s t name (name_moves h g (sym categories) (sym kinds) s name is_s) (name_moves h g (sym categories) (sym kinds) t name is_t)
 
 -- a look-up by bytes in a map is one among its entries
-pub look_up : {S : Type 0} (name : List ℕ) (entries : List (Vec ℕ Global × Symbol))
+pub look_up : (name : List ℕ) (entries : List (Vec ℕ Global × Symbol))
     → lookup (λ (key : Vec ℕ Global). bytes_eq name key.items) entries
     ≡ symbol_in (map (λ (entry : Vec ℕ Global × Symbol). (entry.0.items, entry.1)) entries) name
 look_up name [] = refl
-look_up {S} name (entry ∷ entries) = elim (cases_Bool (bytes_eq name entry.0.items)) [
+look_up name (entry ∷ entries) = elim (cases_Bool (bytes_eq name entry.0.items)) [
   | inl e ↦ rw e refl
-  | inr e ↦ rw e (look_up {S} name entries)
+  | inr e ↦ rw e (look_up name entries)
 ]
 
 module _ {S : Type 0} (old : IndexMap (Vec ℕ Global) Symbol S) (name : List ℕ) (s : Symbol) where
   -- a name that has a symbol keeps it
   pub symbol_there : is_some (lookup (λ (key : Vec ℕ Global). bytes_eq name key.items) old.entries) ≡ true
       → AddsSymbol (entries_in old) (entries_in old) name s false
-  symbol_there there = ap is_some (sym (look_up {S} name old.entries)) ∙ there
+  symbol_there there = ap is_some (sym (look_up name old.entries)) ∙ there
 
   -- a name that has none gets one, by a key of its bytes
   pub symbol_new : (new : IndexMap (Vec ℕ Global) Symbol S) (key : Vec ℕ Global) → key.items ≡ name
@@ -232,7 +232,7 @@ module _ {S : Type 0} (old : IndexMap (Vec ℕ Global) Symbol S) (name : List �
       let no_key : lookup (λ (k : Vec ℕ Global). bytes_eq key.items k.items) old.entries ≡ None
       = ap (λ bytes. lookup (λ (k : Vec ℕ Global). bytes_eq bytes k.items) old.entries) is ∙ none in
       let shown : Vec ℕ Global × Symbol → Entry = λ entry. (entry.0.items, entry.1) in (
-        sym (look_up {S} name old.entries) ∙ none,
+        sym (look_up name old.entries) ∙ none,
         ap (map shown) (inserted ∙ insert_entry-new (λ (a b : Vec ℕ Global). bytes_eq a.items b.items) old key s no_key)
         ∙ map-append shown old.entries ((key, s) ∷ [])
         ∙ ap (λ bytes. entries_in old ++ (bytes, s) ∷ []) is,
@@ -244,11 +244,11 @@ one_push : (entries : List Entry) (name : List ℕ) (s : Symbol) → HasOneEach 
 one_push entries name s one none other a b at_a at_b =
     by (Contains-push_cases entries (name, s) (other, a) at_a) (Contains-push_cases entries (name, s) (other, b) at_b)
   where
-    apart : (c : Symbol) → HasEntry entries other c → (d : Symbol) → (name, s) ≡ (other, d) → ⊥
+    apart : (c : Symbol) → HasEntry entries other c → (d : Symbol) → ◌≡◌ {A = Entry} (name, s) (other, d) → ⊥
     apart c there d same =
         no_entry entries name c none (subst (λ n. HasEntry entries n c) (sym (ap (λ (x : Entry). x.0) same)) there)
 
-    by : HasEntry entries other a ⊎ ((name, s) ≡ (other, a)) → HasEntry entries other b ⊎ ((name, s) ≡ (other, b)) → a ≡ b
+    by : HasEntry entries other a ⊎ (◌≡◌ {A = Entry} (name, s) (other, a)) → HasEntry entries other b ⊎ (◌≡◌ {A = Entry} (name, s) (other, b)) → a ≡ b
     by (inl there) (inl too) = one other a b there too
     by (inl there) (inr same) = absurd (apart a there b same)
     by (inr same) (inl too) = absurd (apart b too a same)
@@ -370,6 +370,18 @@ module _ (names : List (List ℕ)) (kinds : List KindDef) (i : ℕ) (kind : Kind
                 omega (arith, earlier.0, ap symbol_number (each name (Kind at.0) (Kind i) too own))
           ]
 
+-- the first entries have one symbol each where all do
+pub front_one : (entries others : List Entry) → HasOneEach (entries ++ others) → HasOneEach entries
+front_one entries others one name s t is_s is_t =
+    one name s t (Contains-append_left entries others (name, s) is_s) (Contains-append_left entries others (name, t) is_t)
+
 -- no entries have one symbol each
 pub one_each_none : HasOneEach []
 one_each_none name s t there = absurd (none_there (name, s) there)
+
+-- whether there is a map of the names tells whether they are distinct
+pub told_distinct : {S : Type 0} (categories : List (List ℕ)) (kinds : List KindDef) (found : Option (IndexMap (Vec ℕ Global) Symbol S))
+    → GivesPlaces categories kinds found → (told : Bool) → told ≡ is_some found
+    → IsTrue told ↔ HasDistinctNames (grammar_of_symbols categories kinds)
+told_distinct categories kinds (Some places) gives told is = ((λ e. gives.1), (λ distinct. is))
+told_distinct categories kinds None gives told is = ((λ e. absurd (false≢true (sym is ∙ e))), (λ distinct. absurd (gives distinct)))

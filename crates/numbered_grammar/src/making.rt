@@ -1,6 +1,7 @@
 //! Grammars of numbered rules, made from their parts.
 ghost use Rattle.std.specs.Prelude.{◌≡◌, ◌<◌, ◌^◌, ◌↔◌, IsTrue, All, IfOk, length};
 ghost use Rattle.spec_grammar.specs.Grammars.{IsSymbolOf, HasSymbolsOf, HasOwnSymbols, item_count};
+ghost use Rattle.spec_grammar.specs.Grammars.{HasDistinctNames};
 ghost use Rattle.spec_lexing.specs.Lexicon.{lexicon_of};
 ghost use Rattle.numbered_grammar.specs.Making.{lexicon_of_parts, grammar_of_parts};
 ghost use Rattle.numbered_grammar.specs.Making.{grammar_of_symbols, entry_of_rules};
@@ -100,6 +101,21 @@ fn entry_of_rules(rules: &[Rule]) -> Option<Symbol>
     Some(Symbol::Category(rule.category))
 }
 
+/// Whether no two symbols have one name. It takes memory for a copy of each name.
+fn have_distinct_names(
+    alloc: Global,
+    categories: &[Name],
+    kinds: &[KindDef],
+) -> Result<bool, AllocError>
+    requires categories { length categories.now < 2 ^ 16 }
+    requires kinds { length kinds.now < 2 ^ 16 }
+    ensures { IfOk result (λ distinct. IsTrue distinct
+        ↔ HasDistinctNames (grammar_of_symbols categories.now kinds.now)) }
+{
+    let found = symbol_places(alloc, categories, kinds)?;
+    Ok(found.is_some())
+}
+
 /// These parts, and `None` where they do not fit together. It looks at each item once, and takes
 /// memory for a copy of each name.
 pub(crate) fn parts_of(
@@ -114,7 +130,7 @@ pub(crate) fn parts_of(
     if !is_well_formed(rules.as_slice(), categories.as_slice(), &lexicon) {
         return Ok(None);
     }
-    if symbol_places(alloc, categories.as_slice(), lexicon.kinds.as_slice())?.is_none() {
+    if !have_distinct_names(alloc, categories.as_slice(), lexicon.kinds.as_slice())? {
         return Ok(None);
     }
     let entry = entry_of_rules(rules.as_slice());
@@ -128,7 +144,8 @@ fn places_of_parts(
 ) -> Result<IndexMap<Vec<u8>, Symbol>, AllocError>
     ensures { IfOk result (ArePlacesOf parts.now.categories parts.now.lexicon.kinds) }
 {
-    match symbol_places(alloc, parts.categories(), parts.kinds())? {
+    let found = symbol_places(alloc, parts.categories(), parts.kinds())?;
+    match found {
         Some(places) => Ok(places),
         None => unreachable!(),
     }
@@ -174,7 +191,8 @@ impl Grammar {
         ensures { IfOk result (MakesGrammar (grammar_of_parts rules.items categories.items
             (lexicon_of_parts lexicon) (entry_of_rules rules.items))) }
     {
-        let Some(parts) = parts_of(alloc, rules, categories, lexicon)? else {
+        let made = parts_of(alloc, rules, categories, lexicon)?;
+        let Some(parts) = made else {
             return Ok(None);
         };
         match Grammar::of_parts(alloc, parts) {

@@ -20,9 +20,24 @@ returns-in-Some c =
     c.loop-number.number c.index-defs-number.result c.as_slice.result.now (search rules)
     c.loop-number-test.true c.index-defs-number.is c.loop-number.invariant.known c.in-Some.name.now first) c.unknown.result c.unknown.ensures
 
-pub loop-number-preserved-known : goal.loop-number-preserved-known
-loop-number-preserved-known c =
+pub loop-number-preserved : goal.loop-number-preserved
+loop-number-preserved c =
+    let defs = c.args.defs.now in
+    let number = c.loop-number.number in
+    let def = c.index-defs-number.result in
     let listed = rw c.in_default-first_unlisted.is at c.first_unlisted.ensures in
-    more_known c.args.defs.now c.args.known.now c.requires.listed
-    c.loop-number.number c.index-defs-number.result c.as_slice.result.now (search rules)
-    c.loop-number-test.true c.index-defs-number.is c.loop-number.invariant.known listed
+    let at : slice_get defs number ≡ Some def = slice_get_read defs _ number def refl c.loop-number-test.true c.index-defs-number.is in
+    record {
+      known =
+          more_known defs c.args.known.now c.requires.listed number def c.as_slice.result.now (search rules)
+          c.loop-number-test.true c.index-defs-number.is c.loop-number.invariant.known listed;
+      used =
+          used_more c.args.kinds.now defs number def c.as_slice-2.result.now c.loop-number.used c.add_listed.new.self at (search rules)
+          c.loop-number.invariant.used c.in-Ok-add_listed.ensures;
+    }
+
+pub returns : goal.returns
+returns c = (
+  all_hold (NamesKnown c.args.defs.now) c.args.defs.now (λ k def lt at. c.loop-number.invariant.known k def (omega arith) at),
+  c.loop-number.invariant.used ∙ ap (used_names c.args.kinds.now) (take_all c.loop-number.number c.args.defs.now c.loop-number-test.false),
+)
