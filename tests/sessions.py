@@ -408,6 +408,14 @@ for name, grammar, counted, text, tokens, questions, answers in [
 
 N64 = b'A' * 64
 N65 = b'A' * 65
+
+
+def words(count):
+    """The words 0, 1, .., so many. Each front of one is another, so they have a state each, and with
+    the start and white space there are two more."""
+    return b''.join(b'"%d" ' % k for k in range(count))
+
+
 for name, grammar, wanted in [
     ('no last semicolon', b'One. S ::= "a"', counts(1, 1, 1)),
     ('no white byte', b'One.S::="a"', counts(1, 1, 1)),
@@ -448,7 +456,9 @@ for name, grammar, wanted in [
     ('2,048 symbols, one of them a kind', b'A. S ::= ' + b'"a" ' * 2046 + b';', counts(1, 1, 1)),
     ('2,048 symbols of many rules', b'A. S ::= "a" S ;' * 1023, counts(1023, 1, 1)),
     ('2,048 symbols by one macro', b'coercions E 1021 ;', counts(1022, 1022, 2)),
-    ('2,047 symbols, 1,023 of them kinds', b'A. S ::= ' + b''.join(b'"%d" ' % k for k in range(1023)) + b';', counts(1, 1, 1023)),
+    ('2,047 symbols and 1,023 states, of 1,021 kinds', b'A. S ::= ' + words(1021) + b'"0" ' * 4 + b';', counts(1, 1, 1021)),
+    ('1,023 states of one word', b'A. S ::= "' + b'x' * 1021 + b'" ;', counts(1, 1, 1)),
+    ('1,023 states of two words', b'A. S ::= "' + b'x' * 500 + b'" "y' + b'x' * 520 + b'" ;', counts(1, 1, 2)),
     ('an empty string', b'A. S ::= "" ;', counts(1, 1, 0)),
     ('two words in a string', b'A. S ::= "a b" ;', counts(1, 1, 2)),
     ('a backslash in a word', b'A. S ::= "\\\\" ;', counts(1, 1, 1)),
@@ -488,6 +498,9 @@ def cyclic(name):
 
 def symbols(number):
     return refused(b'symbols', number)
+
+
+STATES = refused(b'states')
 
 
 for name, grammar, wanted in [
@@ -564,7 +577,12 @@ for name, grammar, wanted in [
     ('a cycle with 2,049 symbols', b'A. S ::= ' + b'S ' * 2048 + b'; B. S ::= ;', cyclic(b'S')),
     ('2,049 symbols of one rule', b'A. S ::= ' + b'S ' * 2048 + b';', symbols(2049)),
     ('2,049 symbols, one of them a kind', b'A. S ::= ' + b'"a" ' * 2047 + b';', symbols(2049)),
-    ('2,049 symbols, 1,024 of them kinds', b'A. S ::= ' + b''.join(b'"%d" ' % k for k in range(1024)) + b';', symbols(2049)),
+    ('1,024 states of 1,022 kinds', b'A. S ::= ' + words(1022) + b';', STATES),
+    ('1,024 states of one word', b'A. S ::= "' + b'x' * 1022 + b'" ;', STATES),
+    ('1,024 states of two words', b'A. S ::= "' + b'x' * 500 + b'" "y' + b'x' * 521 + b'" ;', STATES),
+    ('1,026 states, and 2,049 symbols', b'A. S ::= ' + words(1024) + b';', STATES),
+    ('1,024 states, and an unknown category', b'A. S ::= "' + b'x' * 1022 + b'" ; B. S ::= T ;', unknown(b'T', 1)),
+    ('1,024 states, and a cycle', b'A. S ::= "' + b'x' * 1022 + b'" ; B. S ::= S ;', cyclic(b'S')),
     ('2,050 symbols of many rules', b'A. S ::= "a" S ;' * 1024, symbols(2050)),
 ]:
     case('refused: ' + name, with_grammar(grammar, b'open 0\n\nend\n'), wanted, 2)

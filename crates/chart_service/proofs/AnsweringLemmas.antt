@@ -17,7 +17,7 @@ use Rattle.std.specs.declared.alloc.Global.{Global}
 use Rattle.spec_script.specs.Script.{Constituent, Query}
 use Rattle.spec_script.specs.declared.question.Constituent.TheVariants.{EntryWhole, CategoryWhole, CategorySpan}
 use Rattle.spec_session.specs.Answers.{IsAnswer, IsOfCategory, first_of, end_of, IsWithin, IsHasAnswer, yes_line, no_line, yes, no}
-use Rattle.chart_service.specs.Languages.{HasNamesAndWords}
+use Rattle.chart_service.specs.Languages.{HasDistinctNames}
 use Rattle.chart_service.specs.Sessions.{IsOpened}
 
 module _ (g : Grammar) (chart : ChartValue) (text : List ℕ) (tokens : List Token)
@@ -63,11 +63,11 @@ module _ (g : Grammar) (chart : ChartValue) (text : List ℕ) (tokens : List Tok
       )
 
 -- a constituent is of one category
-one_category : (g : Grammar) (constituent : Constituent) (c d : ℕ) → HasNamesAndWords g
+one_category : (g : Grammar) (constituent : Constituent) (c d : ℕ) → HasDistinctNames g
     → IsOfCategory g constituent c → IsOfCategory g constituent d → c ≡ d
 one_category g EntryWhole c d names is other = cc
-one_category g (CategoryWhole name) c d names is other = names.distinct c d name is other
-one_category g (CategorySpan name first end) c d names is other = names.distinct c d name is other
+one_category g (CategoryWhole name) c d names is other = names c d name is other
+one_category g (CategorySpan name first end) c d names is other = names c d name is other
 
 -- the answer on a constituent of a category within the text, by whether the category derives it
 module _ (g : Grammar) (chart : ChartValue) (text : List ℕ) (tokens : List Token)

@@ -11,14 +11,14 @@ use Rattle.script_reader.specs.declared.command.Command.{Command as ReadCommand}
 use Rattle.script_reader.specs.declared.command.Command.TheVariants.{Open, Ask, End}
 use Rattle.script_reader.specs.Forms.{query_of}
 use Rattle.valiant.specs.Charts.{ChartValue, IsChartOf}
-use Rattle.chart_service.specs.Languages.{HasNamesAndWords}
+use Rattle.chart_service.specs.Languages.{HasDistinctNames}
 use Rattle.chart_service.specs.declared.session.Session.{Session}
 use Rattle.chart_service.specs.declared.session.Version.{Version}
 
 -- the chart is that of the text's tokens under the grammar
 pub record IsOpened (g : Grammar) (chart : ChartValue) (text : List ℕ)
     (tokens : List Token) : Type 0 where
-  pub names : HasNamesAndWords g
+  pub names : HasDistinctNames g
   pub are_tokens : AreTokensOf g.lexicon text tokens
   pub is_chart : IsChartOf g (kinds_of tokens) chart
 

@@ -11,7 +11,7 @@ use Rattle.spec_automata.specs.Positions.{IsBorder, position_count}
 use Rattle.lbnf_regex.specs.declared.next_byte.NextByte.{NextByte}
 use Rattle.lbnf_regex.specs.declared.next_byte.NextByte.TheVariants.{InComment}
 use Rattle.lbnf_regex.specs.Steps.{AddsExpected, LeadsTo, LeadsJustTo, Steps}
-use Rattle.lbnf_regex.specs.Sets.{HaveJust, IsSetThat, IsNext, AreExpected, AreSmall, LeadsFrom, AddsTargets}
+use Rattle.lbnf_regex.specs.Sets.{HaveJust, IsSetThat, IsNext, AreExpected, HaveFewPositions, LeadsFrom, AddsTargets}
 use Rattle.lbnf_regex.proofs.ClosingLemmas.{one_border}
 use Rattle.lbnf_regex.proofs.ExpectingLemmas.{expects_same, expects_small}
 
@@ -106,7 +106,7 @@ are_expected x state entered new same adds next = (
 )
 
 pub are_small : (x : ByteExpression) (state : List ℕ) (expected : List NextByte) → position_count x < 2 ^ 32 →
-    AreExpected x state expected → AreSmall expected
+    AreExpected x state expected → HaveFewPositions expected
 are_small x state expected room are next has =
     expects_small x 0 (state ≡ []) (Contains state) next (omega (arith, room)) ((are next).0 has)
 

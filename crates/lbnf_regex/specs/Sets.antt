@@ -4,7 +4,7 @@ use Rattle.cell_sets.specs.Cells.{IsRising}
 use Rattle.spec_automata.specs.ByteExpressions.{ByteExpression}
 use Rattle.spec_automata.specs.Positions.{IsPositionOf}
 use Rattle.lbnf_regex.specs.declared.next_byte.NextByte.{NextByte}
-use Rattle.lbnf_regex.specs.Steps.{Expects, IsSmall, LeadsTo, Steps}
+use Rattle.lbnf_regex.specs.Steps.{Expects, HasFewPositions, LeadsTo, Steps}
 
 -- the list has just the numbers that are so
 abbrev pub HaveJust : (ℕ → Type 0) → List ℕ → Type 0
@@ -29,8 +29,8 @@ AreExpected x state expected =
     (next : NextByte) → Contains expected next ↔ Expects x 0 (state ≡ []) (Contains state) next
 
 -- each way is small
-abbrev pub AreSmall : List NextByte → Type 0
-AreSmall expected = (next : NextByte) → Contains expected next → IsSmall next
+abbrev pub HaveFewPositions : List NextByte → Type 0
+HaveFewPositions expected = (next : NextByte) → Contains expected next → HasFewPositions next
 
 -- read in one of these ways, the byte leads to the position
 abbrev pub LeadsFrom : List NextByte → ℕ → ℕ → Type 0

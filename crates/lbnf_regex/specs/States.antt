@@ -28,24 +28,24 @@ pub record AreStates (x : ByteExpression) (states : List (List ℕ)) : Type 0 wh
   pub differ : (i j : ℕ) → i < j → j < length states → state_at states i ≡ state_at states j → ⊥
 
 -- where the byte leads to from the state: to none, or to one of these by its number
-abbrev pub IsEntry : ByteExpression → List (List ℕ) → List ℕ → ℕ → Option ℕ → Type 0
-IsEntry x states state byte None = IsNext x state byte []
-IsEntry x states state byte (Some j) =
+abbrev pub IsStateEntry : ByteExpression → List (List ℕ) → List ℕ → ℕ → Option ℕ → Type 0
+IsStateEntry x states state byte None = IsNext x state byte []
+IsStateEntry x states state byte (Some j) =
     (0 < j) × (j < length states) × IsNext x state byte (state_at states j)
 
 -- the entries of the state for the first bytes, so many
-pub record IsRow (x : ByteExpression) (states : List (List ℕ)) (state : List ℕ) (count : ℕ)
+pub record IsStateRow (x : ByteExpression) (states : List (List ℕ)) (state : List ℕ) (count : ℕ)
     (row : List (Option ℕ)) : Type 0 where
   pub size : length row ≡ count
   pub entries : (byte : ℕ) → byte < count
-      → IsEntry x states state byte (slice_index_or row byte None)
+      → IsStateEntry x states state byte (slice_index_or row byte None)
 
 -- the rows of the first states, so many
 pub record AreRows (x : ByteExpression) (states : List (List ℕ)) (count : ℕ)
     (rows : List (List (Option ℕ))) : Type 0 where
   pub size : length rows ≡ count
   pub rows_are : (i : ℕ) → i < count
-      → IsRow x states (state_at states i) 256 (slice_index_or rows i [])
+      → IsStateRow x states (state_at states i) 256 (slice_index_or rows i [])
 
 -- the rows of all states, which are at most so many
 pub record IsTable (x : ByteExpression) (most : ℕ) (states : List (List ℕ))
@@ -55,7 +55,7 @@ pub record IsTable (x : ByteExpression) (most : ℕ) (states : List (List ℕ))
   pub few : length states ≤ most
 
 -- states were added behind the others
-pub record Grows (old new : List (List ℕ)) : Type 0 where
+pub record AddsStates (old new : List (List ℕ)) : Type 0 where
   pub more : List (List ℕ)
   pub is : new ≡ old ++ more
 

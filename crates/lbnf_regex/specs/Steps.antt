@@ -90,9 +90,9 @@ AddsExpected x first Entered Marked old new =
     (next : NextByte) → Contains new next ↔ (Contains old next ⊎ Expects x first Entered Marked next)
 
 -- the position has 32 bits, and inside a comment less than all of the closing text has been read
-abbrev pub IsSmall : NextByte → Type 0
-IsSmall (InSet position set) = position < 2 ^ 32
-IsSmall (InComment first closing size) = (size < length closing) × (first + length closing < 2 ^ 32)
+abbrev pub HasFewPositions : NextByte → Type 0
+HasFewPositions (InSet position set) = position < 2 ^ 32
+HasFewPositions (InComment first closing size) = (size < length closing) × (first + length closing < 2 ^ 32)
 
 -- read in this way, the byte leads to this position alone, or to none
 abbrev pub LeadsJustTo : NextByte → ℕ → Option ℕ → Type 0

@@ -1,7 +1,7 @@
 //! Automata as their callers see them.
 ghost use Rattle.std.specs.Prelude.{◌≡◌, ◌+◌, ◌<◌, ◌^◌, None, Some, IfSome, length, slice_index_or};
 ghost use Rattle.std.specs.Option.{option_map};
-ghost use Rattle.lbnf_regex.specs.Automata.{IsWhole, kind_at, machine_of, state_behind};
+ghost use Rattle.lbnf_regex.specs.Automata.{IsWholeMachine, kind_at, machine_of, state_behind};
 
 use crate::kind::Kind;
 use sqlite_items::Items;
@@ -17,7 +17,7 @@ pub struct Automaton {
 
 impl Model for Automaton {
     ghost use Rattle.std.specs.Coded.{codes};
-    ghost use Rattle.lbnf_regex.specs.Automata.{IsWhole, Machine, machine_of};
+    ghost use Rattle.lbnf_regex.specs.Automata.{IsWholeMachine, Machine, machine_of};
 
     ghost Value = { Machine };
 
@@ -25,7 +25,7 @@ impl Model for Automaton {
 
     ghost view = { λ a. machine_of a.rows a.places a.comments };
 
-    ghost invariant = { λ a. IsWhole (machine_of a.rows a.places a.comments) };
+    ghost invariant = { λ a. IsWholeMachine (machine_of a.rows a.places a.comments) };
 }
 
 impl Automaton {
@@ -34,7 +34,7 @@ impl Automaton {
         places: Items<Option<usize>>,
         comments: usize,
     ) -> Automaton
-        requires { IsWhole (machine_of rows places comments) }
+        requires { IsWholeMachine (machine_of rows places comments) }
         ensures { result ≡ machine_of rows places comments }
     {
         Automaton {

@@ -4,9 +4,9 @@ ghost use Rattle.cell_sets.specs.Cells.{HaveSame, IsRising};
 ghost use Rattle.spec_automata.specs.Encoding.{one_of_these};
 ghost use Rattle.spec_automata.specs.Positions.{position_count};
 ghost use Rattle.lbnf_regex.specs.Patterns.{bytes_of_pattern, sizes_of};
-ghost use Rattle.lbnf_regex.specs.Sets.{AddsTargets, AreExpected, AreSmall, HaveJust, IsSetThat};
+ghost use Rattle.lbnf_regex.specs.Sets.{AddsTargets, AreExpected, HaveFewPositions, HaveJust, IsSetThat};
 ghost use Rattle.lbnf_regex.specs.Sets.{LeadsFrom};
-ghost use Rattle.lbnf_regex.specs.Steps.{IsSmall, LeadsJustTo};
+ghost use Rattle.lbnf_regex.specs.Steps.{HasFewPositions, LeadsJustTo};
 
 use crate::comment::border;
 use crate::expecting::expect_any;
@@ -27,7 +27,7 @@ pub(crate) fn expected(
     requires sizes { sizes.now ≡ sizes_of kinds.now }
     ensures ok { IfOk result
         (AreExpected (one_of_these (map bytes_of_pattern kinds.now)) state.now) }
-    ensures small { IfOk result AreSmall }
+    ensures small { IfOk result HaveFewPositions }
 {
     let mut expected = Items::new(alloc);
     expect_any(alloc, kinds, sizes, state.is_empty(), state, &mut expected)?;
@@ -35,7 +35,7 @@ pub(crate) fn expected(
 }
 
 fn target(next: &NextByte, byte: u8) -> Option<u32>
-    requires { IsSmall next.now }
+    requires { HasFewPositions next.now }
     ensures { LeadsJustTo next.now byte result }
 {
     match next {
@@ -58,7 +58,7 @@ fn target(next: &NextByte, byte: u8) -> Option<u32>
 }
 
 fn add_target(next: &NextByte, byte: u8, positions: &mut Vec<u32>) -> Result<(), AllocError>
-    requires { IsSmall next.now }
+    requires { HasFewPositions next.now }
     ensures { OnOk result (AddsTargets next.now byte positions.old.items positions.new.items) }
 {
     if let Some(position) = target(next, byte) {
@@ -68,7 +68,7 @@ fn add_target(next: &NextByte, byte: u8, positions: &mut Vec<u32>) -> Result<(),
 }
 
 fn targets(alloc: Global, expected: &[NextByte], byte: u8) -> Result<Vec<u32>, AllocError>
-    requires { AreSmall expected.now }
+    requires { HaveFewPositions expected.now }
     ensures { IfOk result (λ positions. HaveJust (LeadsFrom expected.now byte) positions.items) }
 {
     let mut positions = Vec::new(alloc);
@@ -94,7 +94,7 @@ pub(crate) fn next_set(
     expected: &[NextByte],
     byte: u8,
 ) -> Result<Vec<u32>, AllocError>
-    requires { AreSmall expected.now }
+    requires { HaveFewPositions expected.now }
     ensures { IfOk result (λ set. IsSetThat (LeadsFrom expected.now byte) set.items) }
 {
     let positions = targets(alloc, expected, byte)?;

@@ -4,9 +4,9 @@ ghost use Rattle.spec_automata.specs.Encoding.{one_of_these};
 ghost use Rattle.spec_automata.specs.Positions.{position_count};
 ghost use Rattle.spec_automata.specs.States.{HasManySets};
 ghost use Rattle.lbnf_regex.specs.Patterns.{bytes_of_pattern, sizes_of};
-ghost use Rattle.lbnf_regex.specs.Sets.{AreSmall};
-ghost use Rattle.lbnf_regex.specs.States.{AreStates, GetsEntry, GetsNumber, Grows, HasNoRoom};
-ghost use Rattle.lbnf_regex.specs.States.{HasNoRoomFrom, IsRow, IsTable, state_at};
+ghost use Rattle.lbnf_regex.specs.Sets.{HaveFewPositions};
+ghost use Rattle.lbnf_regex.specs.States.{AreStates, GetsEntry, GetsNumber, AddsStates, HasNoRoom};
+ghost use Rattle.lbnf_regex.specs.States.{HasNoRoomFrom, IsStateRow, IsTable, state_at};
 ghost use Rattle.lbnf_regex.specs.declared.lex_fault.LexFault.TheVariants.{TooManyStates};
 
 use crate::lex_fault::LexFault;
@@ -44,7 +44,7 @@ fn entry(
     byte: u8,
     most: usize,
 ) -> Result<Option<u16>, LexFault>
-    requires small { AreSmall expected.now }
+    requires small { HaveFewPositions expected.now }
     requires few { length states.old ≤ most }
     requires room { most < 2 ^ 16 }
     ensures ok { IfOk result (GetsEntry expected.now byte states.old states.new) }
@@ -75,11 +75,11 @@ fn row(
     requires few { length states.old ≤ most }
     requires room { most < 2 ^ 16 }
     requires within { i < length states.old }
-    ensures grows { IfOk result (λ row. Grows states.old states.new) }
+    ensures grows { IfOk result (λ row. AddsStates states.old states.new) }
     ensures states { IfOk result (λ row.
         AreStates (one_of_these (map bytes_of_pattern kinds.now)) states.new) }
     ensures most { IfOk result (λ row. length states.new ≤ most) }
-    ensures row { IfOk result (IsRow (one_of_these (map bytes_of_pattern kinds.now)) states.new
+    ensures row { IfOk result (IsStateRow (one_of_these (map bytes_of_pattern kinds.now)) states.new
         (state_at states.old i) 256) }
     ensures full { result ≡ Err TooManyStates
         → HasManySets (one_of_these (map bytes_of_pattern kinds.now)) most }

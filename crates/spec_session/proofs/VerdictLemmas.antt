@@ -4,6 +4,7 @@ use Rattle.std.proofs.lemmas.Option.{same_Some, none-some, slice_get_within}
 use Rattle.std.specs.Prelude.{All}
 use Rattle.std.proofs.lemmas.Bool.{cases_lt}
 use Rattle.std.proofs.lemmas.List.Elements.{All-from_recursion}
+use Rattle.spec_automata.specs.States.{HasTooManyStates}
 use Rattle.spec_lbnf.specs.declared.definition.Def.{Def}
 use Rattle.spec_lbnf.specs.declared.fault.GrammarFault.{GrammarFault}
 use Rattle.spec_lbnf.specs.declared.fault.GrammarFault.TheVariants.{BadCoercion, BadList, Cyclic, RepeatedToken, TooManyRules, UnknownCategory}
@@ -20,8 +21,8 @@ use Rattle.spec_lbnf.proofs.SymbolLemmas.{own_symbols}
 use Rattle.lbnf_readers.proofs.FaultLemmas.{defs_or_fault}
 use Rattle.spec_grammar.specs.Cycles.{IsCyclic, IsAcyclic}
 use Rattle.spec_session.specs.GrammarReplies.{IsAccepted, AreAccepted, IsRefused, IsRefusedFor}
-use Rattle.spec_session.specs.GrammarReplies.{faulty, unfit, too_many_symbols, fault_reason}
-use Rattle.spec_session.specs.GrammarReplies.{unfit_reason, symbols_reason, refusal_line}
+use Rattle.spec_session.specs.GrammarReplies.{faulty, unfit, too_many_states, too_many_symbols, fault_reason}
+use Rattle.spec_session.specs.GrammarReplies.{unfit_reason, states_reason, symbols_reason, refusal_line}
 use Rattle.spec_session.proofs.DenialLemmas.{IsUndeniable, decided, FirstWithout, AllOrFirst, all_or_first, first_place, holds_earlier}
 
 -- the first name that is not good is the first bad one, where no name is both
@@ -294,14 +295,23 @@ HasVerdict block =
 refused : (block reason : List ℕ) → IsRefusedFor block reason → HasVerdict block
 refused block reason why = inr (refusal_line reason, (reason, why, refl))
 
--- a block of definitions that are fit has a verdict, by the count of symbols
-fit_verdict : (block : List ℕ) (defs : List Def) → Spells block defs → AreFit defs → HasVerdict block
-fit_verdict block defs spelled fit =
+-- the automaton of what the definitions stand for has too many states, or has not
+abbrev AreFewStatesOrNot : List Def → Type 0
+AreFewStatesOrNot defs =
+    HasTooManyStates (expansion_of defs).lexicon ⊎ (HasTooManyStates (expansion_of defs).lexicon → ⊥)
+
+-- a block of definitions that are fit has a verdict, by the count of states and then of symbols
+fit_verdict : (block : List ℕ) (defs : List Def) → Spells block defs → AreFit defs → AreFewStatesOrNot defs
+    → HasVerdict block
+fit_verdict block defs spelled fit (inl many) =
+    refused block states_reason (too_many_states defs spelled fit many refl)
+fit_verdict block defs spelled fit (inr few_states) =
     let count : ℕ = symbol_count (expansion_of defs) in
     elim (cases_lt 2048 count) [
-      | inl many ↦ refused block (symbols_reason count) (too_many_symbols defs spelled fit many refl)
+      | inl many ↦
+          refused block (symbols_reason count) (too_many_symbols defs spelled fit few_states many refl)
       | inr few ↦
-          let accepted : AreAccepted defs = record { fit = fit; few = few } in
+          let accepted : AreAccepted defs = record { fit = fit; few_states = few_states; few = few } in
           inl (expansion_of defs, (defs, spelled, accepted, refl))
     ]
 
@@ -309,7 +319,9 @@ fit_verdict block defs spelled fit =
 pub some_verdict : (block : List ℕ) → IsUndeniable (HasVerdict block)
 some_verdict block denied = elim (defs_or_fault block) [
   | inl spelled ↦ fit_or_not spelled.0 (λ (split : AreFitOrNot spelled.0). elim split [
-    | inl fit ↦ denied (fit_verdict block spelled.0 spelled.1 fit)
+    | inl fit ↦ decided (HasTooManyStates (expansion_of spelled.0).lexicon)
+        (λ (states : AreFewStatesOrNot spelled.0).
+        denied (fit_verdict block spelled.0 spelled.1 fit states))
     | inr why ↦ denied (refused block (unfit_reason why.0) (unfit spelled.0 why.0 spelled.1 why.1 refl))
   ])
   | inr first ↦ denied (refused block (fault_reason first.0) (faulty first.0 first.1 refl))

@@ -37,6 +37,7 @@ use Rattle.spec_session.specs.Lines.{as_line}
 use Rattle.spec_session.specs.GrammarReplies.{IsAccepted}
 use Rattle.spec_session.specs.Answers.{IsDerived, IsHasAnswer, refused_has, of_no_category, of_no_span, yes, no}
 use Rattle.spec_session.specs.Steps.{State, IsReply}
+use Rattle.spec_session_cases.proofs.StatesExample.{few_states}
 
 -- the grammar's block
 abbrev pub rule_block : List ℕ
@@ -102,7 +103,7 @@ fit = record {
 
 -- so the block is accepted
 pub accepted : IsAccepted rule_block rule_grammar
-accepted = (rule_defs, spells, record { fit = fit; few = omega arith }, refl)
+accepted = (rule_defs, spells, record { fit = fit; few_states = few_states; few = omega arith }, refl)
 
 -- the text's one token
 abbrev pub one_token : List Token

@@ -5,7 +5,7 @@ use Rattle.lbnf_regex.specs.declared.lex_fault.LexFault.TheVariants.{TooManyStat
 use Rattle.spec_automata.specs.Encoding.{one_of_these}
 use Rattle.lbnf_regex.specs.Patterns.{bytes_of_pattern}
 use Rattle.lbnf_regex.specs.Sets.{AreExpected}
-use Rattle.lbnf_regex.specs.States.{state_at, IsEntry}
+use Rattle.lbnf_regex.specs.States.{state_at, IsStateEntry}
 use Rattle.lbnf_regex.proofs.StateLemmas.{grows_more, grows_at, grows_len, row_grows, row_push, no_room, entry_is, other_err}
 use Rattle.lbnf_regex.proofs.states.row.Goals as goal
 
@@ -49,5 +49,5 @@ loop-byte-preserved c =
       row = rw c.in_ok-push.ensures.ok
           (row_push x new (state_at c.args.states.now i) b c.loop-byte.row c.in_ok-entry.entry
           (row_grows old new right.0 x (state_at c.args.states.now i) b c.loop-byte.row c.loop-byte.invariant.row)
-          (subst (λ (z : List ℕ). IsEntry x new z b c.in_ok-entry.entry) at right.2));
+          (subst (λ (z : List ℕ). IsStateEntry x new z b c.in_ok-entry.entry) at right.2));
     }
