@@ -8,9 +8,10 @@ use Rattle.std.proofs.lemmas.Str.Ascii.{All-from_ascii, IsAscii-from_all, encode
 use Rattle.std.proofs.lemmas.Option.{slice_get_within}
 use Rattle.std.proofs.lemmas.List.Elements.{All-nil, All-cons, All-append}
 use Rattle.spec_lexing.specs.declared.expression.Expr.{Expr}
-use Rattle.spec_lexing.specs.declared.expression.Expr.TheVariants.{Minus}
-use Rattle.spec_lexing.specs.Expressions.{all_in_turn, one_of, expression_of}
-use Rattle.spec_lexing.proofs.ExpressionLemmas.{expression-Minus}
+use Rattle.spec_lexing.specs.declared.expression.Expr.TheVariants.{Minus, Seq}
+use Rattle.spec_lexing.specs.Classes.{IsClass, IsAsciiClass}
+use Rattle.spec_lexing.specs.Expressions.{Expression, all_in_turn, one_of, expression_of}
+use Rattle.spec_lexing.proofs.ExpressionLemmas.{expression-Minus, expression-Seq}
 use Rattle.spec_lbnf.specs.Checks.{IsFirst, HasAt}
 use Rattle.spec_lbnf.specs.Differences.{Difference, differences_in, IsGood, IsBad}
 use Rattle.spec_lbnf.proofs.FirstLemmas.{none_at}
@@ -155,3 +156,20 @@ ascii_name name utf8 false wide =
       let same : chars name ≡ name = sym (encodes-IsAscii (chars name) bytes) ∙ encodes-chars name utf8 in
       let ascii : IsAscii name = subst IsAscii same bytes in
       absurd (omega (arith, wide.1, ascii wide.0)))
+
+-- a sequence is no class
+no_class : (parts : List Expression) → IsClass (all_in_turn parts) → ⊥
+no_class [] is = is
+no_class (part ∷ parts) is = is
+
+no_ascii_class : (parts : List Expression) → IsAsciiClass (all_in_turn parts) → ⊥
+no_ascii_class [] is = is
+no_ascii_class (part ∷ parts) is = is
+
+pub seq_is_no_class : (parts : List Expr) → IsTrue false ↔ IsClass (expression_of (Seq parts))
+seq_is_no_class parts =
+    (λ no. absurd (false≢true no), λ is. absurd (no_class (map expression_of parts) (subst IsClass (expression-Seq parts) is)))
+
+pub seq_is_no_ascii_class : (parts : List Expr) → IsTrue false ↔ IsAsciiClass (expression_of (Seq parts))
+seq_is_no_ascii_class parts =
+    (λ no. absurd (false≢true no), λ is. absurd (no_ascii_class (map expression_of parts) (subst IsAsciiClass (expression-Seq parts) is)))
