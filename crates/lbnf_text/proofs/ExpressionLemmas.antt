@@ -1,5 +1,6 @@
 -- Steps of the reader of token expressions.
-use Rattle.std.proofs.Common.{◌≡◌, ◌≢◌, ℕ, List, [], ◌∷◌, ◌++◌, length, Option, Some, None, refl, sym, ap, ◌∙◌, arith, true, false, IsTrue}
+use Rattle.std.proofs.lemmas.Bool.{lt-ltb, false≢true}
+use Rattle.std.proofs.Common.{◌≡◌, ◌≢◌, ◌+◌, ◌<◌, Result, Ok, Err, ℕ, List, [], ◌∷◌, ◌++◌, length, Option, Some, None, refl, sym, ap, ◌∙◌, arith, true, false, IsTrue}
 use Rattle.std.specs.Prelude.{option_map}
 use Rattle.spec_lexing.specs.declared.expression.Expr.{Expr}
 use Rattle.spec_lexing.specs.declared.expression.Expr.TheVariants.{AnyOf, Word}
@@ -17,7 +18,15 @@ use Rattle.lbnf_readers.specs.declared.expression_state.OpenAtom.TheVariants as 
 use Rattle.lbnf_readers.specs.declared.expression_state.ExpressionState.{ExpressionState}
 use Rattle.lbnf_readers.specs.ExpressionReading.{atom_step, plain_step, sign_step, step, whole_of, begin_atom}
 use Rattle.lbnf_readers.specs.FileReading.{got, stuck, text_value, expression_from}
-use Rattle.lbnf_text.specs.Expressions.{closed_by}
+use Rattle.lbnf_readers.specs.ExpressionReading.{with_factor, level_expr, suffix_step, close_step, first_state}
+use Rattle.lbnf_readers.proofs.StateLemmas.{split_last-push}
+use Rattle.spec_lbnf.specs.TokenExpressions.{Suffix, suffix_expr}
+use Rattle.spec_lbnf.specs.Words.{is_empty}
+use Rattle.lbnf_readers.specs.FileReading.{expression_at}
+use Rattle.lbnf_text.specs.declared.parser.Stop.{Stop}
+use Rattle.lbnf_text.specs.declared.parser.Stop.TheVariants.{Memory, Stuck}
+use Rattle.lbnf_text.specs.Expressions.{closed_by, StepsTo}
+use Rattle.lbnf_text.specs.Parsing.{Gives, stopped}
 
 -- several parts, or none, are taken together
 pub taken_together : (parts : List Expr) → length parts ≢ 1 → (together : List Expr → Expr) → alone_or together parts ≡ together parts
@@ -165,3 +174,37 @@ pub no_end : (tokens : List PlacedToken) (state : ExpressionState) → tokens �
     → expression_from tokens state ≡ stuck tokens
 unfolding expression_from
 no_end tokens state none not_whole = rw (none, not_whole) refl
+
+-- the level with a sign behind its last factor
+pub with_sign : (level : Level) (suffix : Suffix) (front : List Expr) (last : Expr) (factors : List Expr)
+    → level.factors ≡ front ++ last ∷ [] → level.signs < 8 → factors ≡ front ++ suffix_expr suffix last ∷ []
+    → suffix_step level suffix
+    ≡ Some (record { alternatives = level.alternatives; left = level.left; minus_signs = level.minus_signs; factors = factors; signs = level.signs + 1 })
+with_sign level suffix front last factors is few pushed = rw (is, split_last-push front last, lt-ltb level.signs 8 few, pushed) refl
+
+-- a list that has an item is not empty
+some_items : {A : Type 0} (xs : List A) → (xs ≡ [] → IsTrue false) → is_empty xs ≡ false
+some_items [] some = absurd (false≢true (some refl))
+some_items (x ∷ xs) some = refl
+
+-- the state behind a close bracket
+pub with_close : (state : ExpressionState) (outer : List Level) (around next : Level) → (state.level.factors ≡ [] → IsTrue false)
+    → state.outer ≡ outer ++ around ∷ [] → next ≡ with_factor around (level_expr state.level)
+    → close_step state ≡ Some (record { outer = outer; level = next; atom = None })
+with_close state outer around next some is made = rw (some_items state.level.factors some, is, split_last-push outer around, made) refl
+
+-- at first nothing is read
+pub nothing_read : (tokens : List PlacedToken) → expression_at tokens ≡ expression_from tokens first_state
+unfolding expression_at
+nothing_read tokens = refl
+
+module _ (old tokens : List PlacedToken) (state : ExpressionState) (read : expression_at old ≡ expression_from tokens state) where
+  -- a token that cannot stand is where the reader stops
+  pub not_read : (token : PlacedToken) (behind : List PlacedToken) (stop : Stop) → tokens ≡ token ∷ behind
+      → (step state token.token ≡ None) × (stop ≡ Stuck) → expression_at old ≡ stopped stop tokens
+  not_read token behind stop split (none, is) = rw is (read ∙ no_token tokens token behind state split none)
+
+  -- where no token is left, the answer is the expression that is whole
+  pub all_read : (answer : Result Expr Stop) → tokens ≡ [] → StepsTo (whole_of state) answer → Gives (expression_at old) answer tokens
+  all_read (Ok expr) none some = read ∙ whole_end tokens state expr none some
+  all_read (Err stop) none steps = λ free. rw (steps free).1 (read ∙ no_end tokens state none (steps free).0)
