@@ -39,36 +39,6 @@ module _ (state : ExpressionState) where
   abbrev pub bare_state : ExpressionState
   bare_state = record { outer = state.outer; level = state.level; atom = None }
 
-  -- a sign does not look at the atom that is open
-  bare_sign : (s : Sign) → sign_step bare_state s ≡ sign_step state s
-  unfolding sign_step
-  bare_sign sign.Dot = refl
-  bare_sign sign.Semicolon = refl
-  bare_sign sign.Gives = refl
-  bare_sign sign.Colon = refl
-  bare_sign sign.OpenBracket = refl
-  bare_sign sign.CloseBracket = refl
-  bare_sign sign.OpenParen = refl
-  bare_sign sign.CloseParen = refl
-  bare_sign sign.OpenBrace = refl
-  bare_sign sign.CloseBrace = refl
-  bare_sign sign.Comma = refl
-  bare_sign sign.Bar = refl
-  bare_sign sign.Star = refl
-  bare_sign sign.Plus = refl
-  bare_sign sign.Question = refl
-  bare_sign sign.Minus = refl
-  bare_sign sign.Underscore = refl
-
-  -- where no atom is open, a token is read plainly
-  pub step_plainly : (token : FileToken) → state.atom ≡ None → step state token ≡ plain_step bare_state token
-  unfolding step plain_step
-  step_plainly (Identifier name) none = rw none refl
-  step_plainly (Number value) none = rw none refl
-  step_plainly (Text value) none = rw none refl
-  step_plainly (Character scalar) none = rw none refl
-  step_plainly (SignToken s) none = rw none (sym (bare_sign s))
-
   -- behind the first sign of an atom its string is read
   pub opened_set : (token : FileToken) → atom_step state part.Bracket token ≡ option_map (λ name. begin_atom state (part.AnyOf name)) (text_value token)
   unfolding atom_step
@@ -146,7 +116,7 @@ module _ (state : ExpressionState) where
 -- where an atom is open, a token is read within it
 pub step_within : (state : ExpressionState) (opened : OpenAtom) (token : FileToken) → state.atom ≡ Some opened
     → step state token ≡ atom_step (bare_state state) opened token
-unfolding step
+unfolding step atom_step
 step_within state part.Bracket token is = rw is (opened_set state token ∙ sym (opened_set (bare_state state) token))
 step_within state part.Brace token is = rw is (opened_word state token ∙ sym (opened_word (bare_state state) token))
 step_within state (part.AnyOf name) token is = rw is (closed_set state name token ∙ sym (closed_set (bare_state state) name token))

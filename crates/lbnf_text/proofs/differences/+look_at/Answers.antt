@@ -18,13 +18,8 @@ look_at-returns-then-not-is_good t c =
 pub look_at-overflow_add-number : goal.look_at-overflow_add-number
 look_at-overflow_add-number t c =
     let looks = rw c.get.ensures at c.in_ok-number-in-Minus.ensures in
-    next_number c.in-Minus.left c.in-Minus.right c.args.before c.in_ok-number-in-Minus.number (rw c.in-Minus.is at c.requires) looks.1
-
-pub look_at-look_at_all-requires : goal.look_at-look_at_all-requires
-look_at-look_at_all-requires t c = (search rules, rw c.as_slice.ensures (rw (c.in-Seq.is, seq_is c.in-Seq.parts) at c.requires))
-
-pub look_at-look_at_all-requires-in-Alt : goal.look_at-look_at_all-requires-in-Alt
-look_at-look_at_all-requires-in-Alt t c = (search rules, rw c.as_slice-in-Alt.ensures (rw (c.in-Alt.is, alt_is c.in-Alt.parts) at c.requires))
+    let fits = next_number c.in-Minus.left c.in-Minus.right c.args.before c.in_ok-number-in-Minus.number (rw c.in-Minus.is at c.requires) looks.1 in
+    record { fits = fits }
 
 pub look_at-returns-else-not-is_good : goal.look_at-returns-else-not-is_good
 look_at-returns-else-not-is_good t c =

@@ -4,7 +4,7 @@ use Rattle.lbnf_text.proofs.ExpressionLemmas.{nothing_read, one_token, not_read,
 use Rattle.lbnf_text.proofs.parser.Parser.expression.Goals as goal
 
 pub tokens-init : goal.tokens-init
-tokens-init c = rw c.first_state.ensures (nothing_read c.args.self.now)
+tokens-init c = rw c.first_state-state.ensures (nothing_read c.args.self.now)
 
 pub returns-in_err-state : goal.returns-in_err-state
 returns-in_err-state c =
