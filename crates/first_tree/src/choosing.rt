@@ -67,20 +67,35 @@ pub(crate) fn least_rule<C: Cell>(
     unreachable!()
 }
 
-/// Whether what is left of the rule can begin at its first token: whether the token is of the kind
-/// that comes next, if a kind comes next.
+/// Whether the first token of the span is of the kind.
+fn begins_with<C: Cell>(chart: &Chart<C>, kind: u16, first: u32, end: u32) -> bool
+    requires within { first < end → end ≤ length chart.now.kinds }
+    ensures { first < end → slice_get chart.now.kinds first ≡ Some (Some kind) → IsTrue result }
+{
+    if end <= first {
+        return false;
+    }
+    match chart.kind_at(first) {
+        Some(found) => found == kind,
+        None => false,
+    }
+}
+
+/// Whether what is left of the rule can begin with the first token of its span: not where a kind
+/// comes next of which the token is not.
 fn can_begin<C: Cell>(chart: &Chart<C>, rule: &Rule, rest: Rest) -> bool
     requires within { rest.first < rest.end → rest.end ≤ length chart.now.kinds }
     ensures { (rules : List Rule)
         → DerivesAll rules chart.now.kinds (drop rest.place rule.now.items) rest.first rest.end
         → IsTrue result }
 {
-    match rule.items.as_slice().get(rest.place as usize) {
-        Some(Symbol::Kind(kind)) => {
-            rest.first < rest.end && chart.kind_at(rest.first) == Some(*kind)
-        }
-        Some(Symbol::Category(_)) => true,
-        None => true,
+    let items = rule.items.as_slice();
+    if rest.place as usize >= items.len() {
+        return true;
+    }
+    match items[rest.place as usize] {
+        Symbol::Kind(kind) => begins_with(chart, kind, rest.first, rest.end),
+        Symbol::Category(_) => true,
     }
 }
 

@@ -10,7 +10,7 @@ use numbered_grammar::{Grammar, Rule, Symbol};
 use std::alloc::AllocError;
 
 /// The items of the rule from the place on, over the tokens from `first` up to `end`.
-#[derive(Clone, Copy, Debug, PartialEq, Eq)]
+#[derive(Clone, Copy)]
 pub(crate) struct Rest {
     pub(crate) rule: u16,
     pub(crate) place: u16,
@@ -19,7 +19,7 @@ pub(crate) struct Rest {
 }
 
 /// A symbol over a span.
-#[derive(Clone, Copy, Debug, PartialEq, Eq)]
+#[derive(Clone, Copy)]
 pub(crate) struct Part {
     pub(crate) symbol: Symbol,
     pub(crate) first: u32,

@@ -146,7 +146,8 @@ pub fn first<C: Cell>(
     };
     let mut kept = Vec::new(alloc);
     let mut nodes = Vec::new(alloc);
-    nodes.push(enter(chart, bin, grammar, &mut kept, part)?)?;
+    let root = enter(chart, bin, grammar, &mut kept, part)?;
+    nodes.push(root)?;
     while let Some(node) = next_node(chart, bin, grammar, &mut kept)? {
         if nodes.len() == MAX_NODES as usize {
             return Ok(First::Large);
