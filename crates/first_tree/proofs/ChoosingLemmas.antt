@@ -8,7 +8,8 @@ use Rattle.spec_grammar.specs.declared.rule.Rule.{Rule}
 use Rattle.spec_grammar.specs.Derivation.{Derives, DerivesAll}
 use Rattle.spec_grammar.proofs.DerivationLemmas.{derives_within, derives_all_within, kind_derives, category_derives, none_derive, some_derive}
 use Rattle.spec_trees.proofs.FirstTreeLemmas.{below_same_above}
-use Rattle.binary_form.proofs.ItemLemmas.{drop_at}
+use Rattle.binary_form.proofs.ItemLemmas.{drop_at, drop_behind}
+use Rattle.first_tree.proofs.DerivationLemmas.{drop_all}
 use Rattle.first_tree.specs.Searching.{IsKind, AreKinds, GivesSpan, IsCut, IsLeastCut, IsLeastRule}
 
 module _ (rules : List Rule) (kinds : List (Option ℕ)) where
@@ -194,3 +195,31 @@ module _ (rules : List Rule) (kinds : List (Option ℕ)) where
       let token = (kind_derives rules kinds k i x.0).0 x.1 in
       let order = (derives_all_within rules kinds behind x.0 j x.2).0 in
       (token.0, omega (arith, token.1, order))
+
+  -- the last item ends where the span does
+  pub last_item_cut :
+      (items : List Symbol) (p i j : ℕ) → p < length items → length items ≤ suc p
+      → DerivesAll rules kinds (drop p items) i j
+      → IsLeastCut rules kinds (drop p items) i j j
+  last_item_cut items p i j within past d = only_cut items p i j j within d ends
+    where
+      ends : (k : ℕ) → IsCut rules kinds (drop p items) i k j → k ≡ j
+      ends k cut =
+          let none : drop (suc p) items ≡ [] = drop_all items (suc p) past in
+          let behind : drop (suc p) items ≡ cut.behind = drop_behind items p cut.item cut.behind cut.is in
+          let empty : cut.behind ≡ [] = sym behind ∙ none in
+          let P : List Symbol → Type 0 = λ xs. DerivesAll rules kinds xs k j in
+          sym ((none_derive rules kinds k j).0 (subst P empty cut.back))
+
+  -- the item of a cut derives the front of the span
+  pub cut_derives :
+      (items behind : List Symbol) (item : Symbol) (i j k : ℕ) → items ≡ item ∷ behind
+      → IsLeastCut rules kinds items i j k → Derives rules kinds item i k
+  cut_derives items behind item i j k is cut =
+      let same : (cut.0).item ≡ item = same_item (cut.0).is is in
+      let P : Symbol → Type 0 = λ y. Derives rules kinds y i k in
+      subst P same (cut.0).front
+    where
+      same_item :
+          {a b : Symbol} {xs ys : List Symbol} → items ≡ a ∷ xs → items ≡ b ∷ ys → a ≡ b
+      same_item e f = cc

@@ -1,4 +1,4 @@
-pub mod DerivingLemmas
+pub mod DerivationLemmas
 pub mod ChoosingLemmas
 pub mod NodeLemmas
 pub mod RestLemmas

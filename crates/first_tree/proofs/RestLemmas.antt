@@ -15,8 +15,8 @@ use Rattle.binary_form.proofs.ItemLemmas.{drop_behind}
 use Rattle.tree_nodes.specs.declared.node.TreeNode.{TreeNode}
 use Rattle.tree_nodes.specs.TreeNodes.{preorder, forest_preorder}
 use Rattle.first_tree.specs.declared.rest.Rest.{Rest}
-use Rattle.first_tree.specs.Searching.{rest_behind, HasItemLeft, IsCut, IsLeastCut, AreFirst, AreNodesOf, AreNodesOfAll}
-use Rattle.first_tree.proofs.DerivingLemmas.{drop_all}
+use Rattle.first_tree.specs.Searching.{rest_behind, HasItemLeft, IsCut, IsLeastCut, AreFirst, AreNodesOf, AreNodesOfAll, KeepsRest}
+use Rattle.first_tree.proofs.DerivationLemmas.{drop_all}
 use Rattle.first_tree.proofs.ChoosingLemmas.{one_least_cut}
 
 module _ (rules : List Rule) (kinds : List (Option ℕ)) where
@@ -72,6 +72,22 @@ module _ (rules : List Rule) (kinds : List (Option ℕ)) where
           → forest_preorder ts ≡ []
       none_of no_trees items none firsts = refl
       none_of (trees t ts) items none firsts = absurd (cc)
+
+  -- so nothing is to be kept there
+  pub keeps_none :
+      (rest : Rest) (rule : Rule) (kept : List Rest) → slice_get rules rest.rule ≡ Some rule
+      → length rule.items ≤ rest.place → KeepsRest rules kinds rest kept kept
+  keeps_none rest rule kept is past = λ front back are all.
+    let none : front ≡ [] = no_nodes rest rule front is past are in
+    let P : List TreeNode → Type 0 = λ nodes. AreNodesOfAll rules kinds kept (nodes ++ back) in
+    subst P (sym none) all
+
+  -- and else it is kept last
+  pub keeps_some :
+      (rest : Rest) (rule : Rule) (kept : List Rest) → slice_get rules rest.rule ≡ Some rule
+      → rest.place < length rule.items → KeepsRest rules kinds rest kept (kept ++ rest ∷ [])
+  keeps_some rest rule kept is within = λ front back are all.
+    nodes_push kept rest front back are (rule, is, within) all
 
   -- what is left of a rule derives its span
   pub rest_derives :
@@ -172,3 +188,28 @@ module _ (rules : List Rule) (kinds : List (Option ℕ)) where
         are_first = x.3;
         same = refl;
       })
+
+  module _ (old before : List Rest) (rest : Rest) (nodes : List TreeNode) (popped : old ≡ before ++ rest ∷ []) (all : AreNodesOfAll rules kinds old nodes) where
+    -- what is kept last, and the nodes of it
+    popped_nodes : HasNodesLast before rest nodes
+    popped_nodes =
+        let P : List Rest → Type 0 = λ kept. AreNodesOfAll rules kinds kept nodes in
+        nodes_pop before rest nodes (subst P popped all)
+
+    -- its rule is one of the rules
+    pub last_rule : rest.rule < length rules
+    last_rule =
+        let left = popped_nodes.4 in slice_get_within rules rest.rule left.0 left.1
+
+    module _ (rule : Rule) (is : slice_get rules rest.rule ≡ Some rule) where
+      -- it has an item left
+      pub last_item : rest.place < length rule.items
+      last_item =
+          let left = popped_nodes.4 in
+          let same : left.0 ≡ rule = cc in
+          let P : Rule → Type 0 = λ x. rest.place < length x.items in
+          subst P same left.2
+
+      -- and what is left of it derives its span
+      pub last_derives : DerivesAll rules kinds (drop rest.place rule.items) rest.first rest.end
+      last_derives = rest_derives rest rule popped_nodes.0 is popped_nodes.3

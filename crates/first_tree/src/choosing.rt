@@ -1,18 +1,15 @@
 //! The least rule that derives a span, and the least place at which the first item of a rule ends.
-ghost use Rattle.std.specs.Prelude.{◌≡◌, ◌<◌, ◌≤◌, ◌↔◌, List, Some, IfSome, IsTrue};
-ghost use Rattle.std.specs.Prelude.{drop, length, slice_get};
-ghost use Rattle.spec_grammar.specs.declared.rule.Rule.{Rule};
+ghost use Rattle.std.specs.Prelude.{◌≡◌, ◌<◌, ◌≤◌, ◌↔◌, Some, IsTrue, drop, length, slice_get};
 ghost use Rattle.spec_grammar.specs.declared.rule.Symbol.TheVariants.{Category};
 ghost use Rattle.spec_grammar.specs.Derivation.{Derives, DerivesAll};
 ghost use Rattle.valiant.specs.Charts.{IsChartOf};
-ghost use Rattle.first_tree.specs.Searching.{AreKinds, CanDerive, EndsOnlyAt};
 ghost use Rattle.first_tree.specs.Searching.{GivesSpan, IsCut, IsLeastCut, IsLeastRule};
 
-use crate::deriving::{derives, items_derive};
+use crate::derivation::{derives, items_derive};
 use crate::rest::{Rest, next_item, rest_behind};
 use binary_form::Binary;
 use cell_sets::Cell;
-use numbered_grammar::{Grammar, Rule, Symbol};
+use numbered_grammar::{Grammar, Rule};
 use valiant::Chart;
 
 /// Whether the rule is one of the category, and derives the span.
@@ -67,38 +64,6 @@ pub(crate) fn least_rule<C: Cell>(
     unreachable!()
 }
 
-/// Whether the first token of the span is of the kind.
-fn begins_with<C: Cell>(chart: &Chart<C>, kind: u16, first: u32, end: u32) -> bool
-    requires within { first < end → end ≤ length chart.now.kinds }
-    ensures { first < end → slice_get chart.now.kinds first ≡ Some (Some kind) → IsTrue result }
-{
-    if end <= first {
-        return false;
-    }
-    match chart.kind_at(first) {
-        Some(found) => found == kind,
-        None => false,
-    }
-}
-
-/// Whether what is left of the rule can begin with the first token of its span: not where a kind
-/// comes next of which the token is not.
-fn can_begin<C: Cell>(chart: &Chart<C>, rule: &Rule, rest: Rest) -> bool
-    requires within { rest.first < rest.end → rest.end ≤ length chart.now.kinds }
-    ensures { (rules : List Rule)
-        → DerivesAll rules chart.now.kinds (drop rest.place rule.now.items) rest.first rest.end
-        → IsTrue result }
-{
-    let items = rule.items.as_slice();
-    if rest.place as usize >= items.len() {
-        return true;
-    }
-    match items[rest.place as usize] {
-        Symbol::Kind(kind) => begins_with(chart, kind, rest.first, rest.end),
-        Symbol::Category(_) => true,
-    }
-}
-
 /// Whether the next item can end at the place, and the others derive what is behind it.
 fn is_cut<C: Cell>(
     chart: &Chart<C>,
@@ -117,50 +82,14 @@ fn is_cut<C: Cell>(
         (drop rest.place rule.now.items) rest.first place rest.end }
 {
     let item = next_item(bin, rule, rest);
-    let behind = rest_behind(bin, rule, rest, place);
-    if !can_begin(chart, rule, behind) {
-        return false;
-    }
     if !derives(chart, bin, item, rest.first, place) {
         return false;
     }
-    items_derive(chart, bin, rule, behind)
+    items_derive(chart, bin, rule, rest_behind(bin, rule, rest, place))
 }
 
-/// Whether all of the items are kinds.
-fn are_kinds(items: &[Symbol]) -> bool
-    ensures { IsTrue result → AreKinds items.now }
-{
-    for item in items {
-        match item {
-            Symbol::Kind(_) => (),
-            Symbol::Category(_) => return false,
-        }
-    }
-    true
-}
-
-/// The end of the next item where one alone is possible: it is a kind, or behind it there are kinds
-/// alone or nothing.
-fn known_end(rule: &Rule, rest: Rest) -> Option<u32>
-    requires item { rest.place < length rule.now.items }
-    requires derives { CanDerive rule.now rest }
-    ensures { IfSome result (EndsOnlyAt rule.now rest) }
-{
-    let items = rule.items.as_slice();
-    match items[rest.place as usize] {
-        Symbol::Kind(_) => return Some(rest.first + 1),
-        Symbol::Category(_) => (),
-    }
-    let behind = &items[rest.place as usize + 1..];
-    if !are_kinds(behind) {
-        return None;
-    }
-    Some(rest.end - behind.len() as u32)
-}
-
-/// The least place at which the next item can end. Where more than one is possible, the places are
-/// tried from the first on.
+/// The least place at which the next item can end: the end of the span where it is the last item,
+/// and else the first place that is a cut.
 pub(crate) fn least_cut<C: Cell>(
     chart: &Chart<C>,
     bin: &Binary<C>,
@@ -175,8 +104,8 @@ pub(crate) fn least_cut<C: Cell>(
     ensures { IsLeastCut bin.now.rules chart.now.kinds
         (drop rest.place rule.now.items) rest.first rest.end result }
 {
-    if let Some(place) = known_end(rule, rest) {
-        return place;
+    if rest.place as usize + 1 >= rule.items.len() {
+        return rest.end;
     }
     for place in rest.first..rest.end {
         if is_cut(chart, bin, rule, rest, place) {

@@ -3,7 +3,7 @@
 
 mod answer;
 mod choosing;
-mod deriving;
+mod derivation;
 mod rest;
 mod search;
 #[cfg(test)]

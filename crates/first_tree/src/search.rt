@@ -11,7 +11,7 @@ ghost use Rattle.first_tree.specs.Searching.{AreNodesOfAll, Enters, GivesNode, H
 
 use crate::answer::First;
 use crate::choosing::{least_cut, least_rule};
-use crate::deriving::derives;
+use crate::derivation::derives;
 use crate::rest::{Part, Rest, keep, next_item, rest_behind};
 use binary_form::Binary;
 use cell_sets::Cell;

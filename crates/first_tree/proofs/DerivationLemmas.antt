@@ -1,14 +1,16 @@
 -- What a number tells of its symbol, over a span that is not empty and over one that is.
 use Rattle.std.proofs.Common.{◌≡◌, ◌↔◌, ℕ, ◌<◌, ◌≤◌, List, [], ◌∷◌, Option, Some, Bool, Contains, length, slice_get, drop, zero, suc, refl, sym, ◌∙◌, ap, subst, arith}
-use Rattle.std.specs.Prelude.{IsTrue}
+use Rattle.std.specs.Prelude.{IsTrue, nat_eq}
+use Rattle.std.proofs.lemmas.Bool.{eqb-true}
+use Rattle.std.proofs.lemmas.Bool.Decides.{nat_tests}
 use Rattle.spec_grammar.specs.declared.rule.Symbol.{Symbol}
 use Rattle.spec_grammar.specs.declared.rule.Rule.{Rule}
 use Rattle.spec_grammar.specs.Derivation.{DerivesAll}
-use Rattle.spec_grammar.specs.Grammars.{Grammar}
+use Rattle.spec_grammar.specs.Grammars.{Grammar, symbol_count}
 use Rattle.spec_grammar.proofs.DerivationLemmas.{nullable_derives, none_derive}
 use Rattle.binary_form.specs.Symbols.{BinarySymbol, plain, suffix, BinaryDerives}
 use Rattle.binary_form.specs.BinaryForm.{IsNumberOf, IsNullableNumber}
-use Rattle.binary_form.proofs.NumberLemmas.{numbers_differ}
+use Rattle.binary_form.proofs.NumberLemmas.{numbers_differ, count_within}
 use Rattle.binary_form.proofs.EmptySpanLemmas.{items_nullable, nullable_items}
 use Rattle.valiant.specs.Charts.{IsEntryOf}
 
@@ -88,3 +90,13 @@ module _ (g : Grammar) (kinds : List (Option ℕ)) where
         let P : List Symbol → Type 0 = λ items. IsTrue told ↔ DerivesAll g.rules kinds items i j in
         let here : P [] = ((λ yes. empty.1 (sym (tells.0 yes))), (λ d. tells.1 (sym (empty.0 d)))) in
         subst P (sym none) here
+
+-- a rule has no more items than its grammar has symbols
+pub items_within :
+    (g : Grammar) (r : ℕ) (rule : Rule)
+    → slice_get g.rules r ≡ Some rule → length rule.items ≤ symbol_count g
+items_within g r rule is = omega (arith, count_within g.rules r rule is)
+
+-- the test of two numbers tells whether they are the same
+pub same_tells : (i j : ℕ) → IsTrue (nat_eq i j) ↔ (i ≡ j)
+same_tells i j = ((λ yes. eqb-true i j yes), (λ same. rw same grind (arith, nat_tests)))
