@@ -211,12 +211,3 @@ next_def xs i x lt is =
 
 pub no_more_defs : (xs : List Def) (i : ℕ) → length xs ≤ i → differences_of (drop i xs) ≡ []
 no_more_defs xs i past = at_drop_all differences_of xs i past
-
--- the differences in the parts are no more than those in the form
-pub seq_few : (expr : Expr) (parts now : List Expr) (before : ℕ) → now ≡ parts → expr ≡ Seq parts
-    → before + length (differences_in (expression_of expr)) < 2 ^ 32 → before + length (differences_in_all now) < 2 ^ 32
-seq_few expr parts now before same is few = rw same (rw (is, seq_is parts) at few)
-
-pub alt_few : (expr : Expr) (parts now : List Expr) (before : ℕ) → now ≡ parts → expr ≡ Alt parts
-    → before + length (differences_in (expression_of expr)) < 2 ^ 32 → before + length (differences_in_all now) < 2 ^ 32
-alt_few expr parts now before same is few = rw same (rw (is, alt_is parts) at few)
