@@ -151,13 +151,14 @@ module _ (all rest xs ys : List Difference) (before number : ℕ) (looked : AreL
 pub ascii_name : (name : List ℕ) → IsUtf8 name → (alone : Bool) → MatchBool alone (IsAscii name) (IsNotAscii name)
     → IsTrue alone ↔ All (λ c. c < 128) (chars name)
 ascii_name name utf8 true ascii = (λ yes. rw (chars-IsAscii name ascii) (All-from_ascii name ascii), λ all. refl)
-ascii_name name utf8 false wide =
-    (λ no. absurd (false≢true no),
-    λ all.
+ascii_name name utf8 false wide = (
+  λ no. absurd (false≢true no),
+  λ all.
       let bytes : IsAscii (chars name) = IsAscii-from_all (chars name) all in
       let same : chars name ≡ name = sym (encodes-IsAscii (chars name) bytes) ∙ encodes-chars name utf8 in
       let ascii : IsAscii name = subst IsAscii same bytes in
-      absurd (omega (arith, wide.1, ascii wide.0)))
+      absurd (omega (arith, wide.1, ascii wide.0)),
+)
 
 -- a sequence is no class
 no_class : (parts : List Expression) → IsClass (all_in_turn parts) → ⊥
@@ -189,8 +190,8 @@ pub next_number : (left right : Expr) (before number : ℕ)
     → number ≡ before + length (differences_in (expression_of left)) → number + 1 < 2 ^ 32
 next_number left right before number few is =
     let size =
-        ap (λ e. length (differences_in e)) (expression-Minus left right)
-        ∙ length-append (differences_in (expression_of left)) ((expression_of left, expression_of right) ∷ differences_in (expression_of right)) in
+    ap (λ e. length (differences_in e)) (expression-Minus left right)
+    ∙ length-append (differences_in (expression_of left)) ((expression_of left, expression_of right) ∷ differences_in (expression_of right)) in
     omega (arith, few, is, size)
 
 -- the differences in the next one, and in those behind it
@@ -211,12 +212,3 @@ next_def xs i x lt is =
 
 pub no_more_defs : (xs : List Def) (i : ℕ) → length xs ≤ i → differences_of (drop i xs) ≡ []
 no_more_defs xs i past = at_drop_all differences_of xs i past
-
--- the differences in the parts are no more than those in the form
-pub seq_few : (expr : Expr) (parts now : List Expr) (before : ℕ) → now ≡ parts → expr ≡ Seq parts
-    → before + length (differences_in (expression_of expr)) < 2 ^ 32 → before + length (differences_in_all now) < 2 ^ 32
-seq_few expr parts now before same is few = rw same (rw (is, seq_is parts) at few)
-
-pub alt_few : (expr : Expr) (parts now : List Expr) (before : ℕ) → now ≡ parts → expr ≡ Alt parts
-    → before + length (differences_in (expression_of expr)) < 2 ^ 32 → before + length (differences_in_all now) < 2 ^ 32
-alt_few expr parts now before same is few = rw same (rw (is, alt_is parts) at few)

@@ -5,7 +5,7 @@ ghost use Rattle.spec_lexing.specs.Classes.{IsClass, IsAsciiClass, IsGoodDiffere
 ghost use Rattle.spec_lexing.specs.Expressions.{class, expression_of};
 ghost use Rattle.spec_lbnf.specs.Differences.{differences_in, differences_of_def, differences_of};
 ghost use Rattle.spec_lbnf.specs.Differences.{is_minus, minus_signs};
-ghost use Rattle.lbnf_text.specs.BadDifferences.{differences_in_all, Looks, FindsBad};
+ghost use Rattle.lbnf_text.specs.BadDifferences.{Looks, FindsBad};
 
 use crate::parser::is_sign;
 use spec_lbnf::{Def, FileToken, PlacedToken, Sign};
@@ -100,8 +100,6 @@ fn is_good(left: &Expr, right: &Expr) -> bool
 
 /// Looks at the differences in the expression, before which there are so many: how many there are
 /// up to its end, or the number of the first that is bad.
-#[cycle(look_at)]
-#[tactic(auto, using(crate::proofs::DifferenceLemmas::seq_few, crate::proofs::DifferenceLemmas::alt_few))]
 fn look_at(expr: &Expr, before: u32) -> Result<u32, u32>
     requires { before + length (differences_in (expression_of expr.now)) < 2 ^ 32 }
     ensures { Looks (differences_in (expression_of expr.now)) before result }
@@ -114,8 +112,20 @@ fn look_at(expr: &Expr, before: u32) -> Result<u32, u32>
             }
             look_at(right.get(), number + 1)
         }
-        Expr::Seq(parts) => look_at_all(parts.as_slice(), before),
-        Expr::Alt(parts) => look_at_all(parts.as_slice(), before),
+        Expr::Seq(parts) => {
+            let mut number = before;
+            for part in parts.as_slice() {
+                number = look_at(part, number)?;
+            }
+            Ok(number)
+        }
+        Expr::Alt(parts) => {
+            let mut number = before;
+            for part in parts.as_slice() {
+                number = look_at(part, number)?;
+            }
+            Ok(number)
+        }
         Expr::Star(part) => look_at(part.get(), before),
         Expr::Plus(part) => look_at(part.get(), before),
         Expr::Opt(part) => look_at(part.get(), before),
@@ -125,19 +135,6 @@ fn look_at(expr: &Expr, before: u32) -> Result<u32, u32>
         Expr::AnyOf(_) => Ok(before),
         Expr::Word(_) => Ok(before),
     }
-}
-
-/// Looks at the differences in the expressions likewise.
-#[cycle(look_at)]
-fn look_at_all(exprs: &[Expr], before: u32) -> Result<u32, u32>
-    requires { before + length (differences_in_all exprs.now) < 2 ^ 32 }
-    ensures { Looks (differences_in_all exprs.now) before result }
-{
-    let mut number = before;
-    for expr in exprs {
-        number = look_at(expr, number)?;
-    }
-    Ok(number)
 }
 
 /// Looks at the differences in the definition likewise.

@@ -252,11 +252,7 @@ fn atom_step(
 
 /// The state behind one token more.
 #[tactic(auto, unfolding(lbnf_readers::specs::ExpressionReading::step))]
-fn step(
-    alloc: Global,
-    state: ExpressionState,
-    token: &FileToken,
-) -> Result<ExpressionState, Stop>
+fn step(alloc: Global, state: ExpressionState, token: &FileToken) -> Result<ExpressionState, Stop>
     ensures { StepsTo (step state token.now) result }
 {
     let ExpressionState { outer, level, atom } = state;

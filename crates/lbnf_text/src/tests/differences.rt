@@ -29,8 +29,14 @@ const DIFFERENCES: &[(&str, &str)] = &[
     ("token T {\"a\"} - 'a' ;", "difference 14"),
     ("token T (char - eps)* ;", "difference 14"),
     ("token T ('a' (char - eps)?)+ ;", "difference 19"),
-    ("token T 'a' | 'b' - 'c' - eps | eps - 'd' ;", "difference 24"),
-    ("token T 'a' - 'b' ; A. S ::= \"-\" ; token U char - eps ;", "difference 48"),
+    (
+        "token T 'a' | 'b' - 'c' - eps | eps - 'd' ;",
+        "difference 24",
+    ),
+    (
+        "token T 'a' - 'b' ; A. S ::= \"-\" ; token U char - eps ;",
+        "difference 48",
+    ),
     ("token T eps - eps ; token U 'a' - char ;", "difference 12"),
     ("token T char - eps ; layout ;", "unsupported layout 21"),
     ("token T char - eps ; S S ;", "syntax 23"),

@@ -95,12 +95,18 @@ const EXPRESSIONS: &[(&str, &str)] = &[
     ("[\"a b\"]", " any a b"),
     ("{\"a b\"}", " word a b"),
     ("{\"\"}", " word "),
-    ("digit letter upper lower char eps", " seq6 digit letter upper lower char eps"),
+    (
+        "digit letter upper lower char eps",
+        " seq6 digit letter upper lower char eps",
+    ),
     ("('a')", " 'a"),
     ("(('a' 'b'))", " seq2 'a 'b"),
     ("'a' ('b' 'c') 'd'", " seq3 'a seq2 'b 'c 'd"),
     ("'a' | ('b' | 'c') | 'd'", " alt3 'a alt2 'b 'c 'd"),
-    ("'a' 'b' | 'c' - 'd' | 'e'*", " alt3 seq2 'a 'b - 'c 'd * 'e"),
+    (
+        "'a' 'b' | 'c' - 'd' | 'e'*",
+        " alt3 seq2 'a 'b - 'c 'd * 'e",
+    ),
     ("'a' 'b'* 'c'", " seq3 'a * 'b 'c"),
     ("('a' 'b')*", " * seq2 'a 'b"),
     ("'a'*+?", " ? + * 'a"),
@@ -110,7 +116,10 @@ const EXPRESSIONS: &[(&str, &str)] = &[
     ("(char - 'a')*", " * - char 'a"),
     ("char - 'a' | char - 'b'", " alt2 - char 'a - char 'b"),
     ("('a')('b')|eps", " alt2 seq2 'a 'b eps"),
-    ("[\"+-\"]? digit+ ({\"e\"} digit+)?", " seq3 ? any +- + digit ? seq2 word e + digit"),
+    (
+        "[\"+-\"]? digit+ ({\"e\"} digit+)?",
+        " seq3 ? any +- + digit ? seq2 word e + digit",
+    ),
 ];
 
 #[test]
@@ -180,7 +189,10 @@ const STOPS: &[(&str, &str)] = &[
     ("comment \" \" \" \" ;", "defs 1"),
     ("comment. S ::= ;", "syntax 7"),
     ("token T layout ;", "syntax 8"),
-    ("token Token char ; comment \"#\" ; position token T eps", "defs 3"),
+    (
+        "token Token char ; comment \"#\" ; position token T eps",
+        "defs 3",
+    ),
 ];
 
 #[test]
@@ -233,7 +245,11 @@ fn expressions_at_their_limits(rt: HostRuntime) -> Result<(), Fail> {
     for (before, atom, behind, count, want) in cases {
         let text = around(rt.alloc(), before, atom, behind, count)?;
         let answer = answer_to(rt.alloc(), text.as_slice())?;
-        assert_eq!(rt; answer.as_str(), want, "{count} of {before:?} and {behind:?}");
+        assert_eq!(rt;
+            answer.as_str(),
+            want,
+            "{count} of {before:?} and {behind:?}"
+        );
     }
     Ok(())
 }
