@@ -30,18 +30,26 @@ pub(crate) enum LanguageFault {
     Binary(BinaryFault),
 }
 
+/// The word is UTF-8, as all names are.
+fn know_word(kind: &KindDef)
+    requires { IsWordKind kind.now }
+    ensures { IsSoundDef kind.now }
+{
+    match kind {
+        KindDef::Word(word) => {
+            let _bytes = word.as_slice();
+        }
+        KindDef::Token { .. } => unreachable!(),
+    }
+}
+
 /// The words are UTF-8, as all names are.
 fn know_words(kinds: &[KindDef])
     requires { All IsWordKind kinds.now }
     ensures { All IsSoundDef kinds.now }
 {
     for kind in kinds {
-        match kind {
-            KindDef::Word(word) => {
-                let _bytes = word.as_slice();
-            }
-            KindDef::Token { .. } => {}
-        }
+        know_word(kind);
     }
 }
 

@@ -8,8 +8,8 @@ use lbnf_grammar::Grammar;
 use lbnf_regex::Automaton;
 use std::marker::Model;
 
-/// A grammar that was accepted, with the automaton of its kinds and its binary form over one type of
-/// cell, seen as the grammar.
+/// A grammar that was accepted, with the automaton of its kinds and its binary form over one type
+/// of cell, seen as the grammar.
 #[derive(Drop)]
 pub(crate) struct Language<C: Cell> {
     grammar: Grammar,

@@ -28,11 +28,7 @@ pub(crate) struct Version<C: Cell> {
 
 /// The text of these bytes under the language's grammar. They fit a text, and so do their tokens,
 /// which are no more.
-fn text_of<C: Cell>(
-    alloc: Global,
-    language: &Language<C>,
-    bytes: &[u8],
-) -> Result<Text, AllocError>
+fn text_of<C: Cell>(alloc: Global, language: &Language<C>, bytes: &[u8]) -> Result<Text, AllocError>
     requires ascii { IsAscii bytes.now }
     requires short { length bytes.now ≤ 4096 }
     ensures bytes { IfOk result (λ text. text.bytes ≡ bytes.now) }

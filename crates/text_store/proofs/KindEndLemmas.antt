@@ -78,12 +78,11 @@ DoesNotGoOn kind bytes rest =
 -- behind a line comment that goes to the end of its line
 line_goes_on : (opening bytes : List ℕ) (byte : ℕ) → MatchesKind (line_comment opening) bytes →
     nat_eq byte 10 ≡ false → MatchesKind (line_comment opening) (bytes ++ byte ∷ [])
-line_goes_on opening bytes byte (line, is, on_line) other =
-    (
-      line ++ byte ∷ [],
-      ap (λ (q : List ℕ). q ++ byte ∷ []) is ∙ append_assoc opening line (byte ∷ []),
-      All-push (λ b. nat_eq b 10 ≡ false) line byte on_line other,
-    )
+line_goes_on opening bytes byte (line, is, on_line) other = (
+  line ++ byte ∷ [],
+  ap (λ (q : List ℕ). q ++ byte ∷ []) is ∙ append_assoc opening line (byte ∷ []),
+  All-push (λ b. nat_eq b 10 ≡ false) line byte on_line other,
+)
 
 line_ends : (opening bytes rest : List ℕ) → IsUtf8 (bytes ++ rest) → MatchesKind (line_comment opening) bytes →
     DoesNotGoOn (line_comment opening) bytes rest → IsUtf8 rest

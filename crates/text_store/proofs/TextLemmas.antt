@@ -77,8 +77,7 @@ module _ (a : Machine) (text : List ℕ) (start : ℕ) (lexeme : Lexeme)
       let rest : List Token = behind.0 in
       let here : AreTokensBehind lexicon text start (kept ∷ rest) =
       subst (λ (token : Option Token). AreTokensBehind lexicon text start (cons_option token rest)) is_kept
-      ((is_lexeme lexicon is utf8).tokens rest behind.1) in
-      (
+      ((is_lexeme lexicon is utf8).tokens rest behind.1) in (
         old ++ kept ∷ rest,
         so_far lexicon is (kept ∷ rest) here,
         omega (arith, full, length-append old (kept ∷ rest)),
@@ -173,10 +172,10 @@ stops_full lexicon a bytes FullTokens many lexed =
       | inl more ↦ (all.0, all.1, more)
       | inr few ↦
           absurd (not_there lexed (λ is.
-              let h = many is in
-              let same : all.0 ≡ h.0 =
-              one_token_list MatchesKind token_kind (lex_kinds lexicon) bytes 0 all.0 h.0 all.1 h.1 in
-              omega (arith, h.2, few, ap length same)))
+          let h = many is in
+          let same : all.0 ≡ h.0 =
+          one_token_list MatchesKind token_kind (lex_kinds lexicon) bytes 0 all.0 h.0 all.1 h.1 in
+          omega (arith, h.2, few, ap length same)))
     ]
 
 -- and where it reads all tokens

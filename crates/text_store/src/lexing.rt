@@ -54,8 +54,9 @@ fn stray_at(text: &[u8], start: usize) -> Lexeme
     requires short { length text.now < 2 ^ 32 }
     requires start { start < length text.now }
     ensures { result ≡ record {
-        token = Some (record { kind = None; first = start; end = scalar_end text.now start });
-        end = scalar_end text.now start } }
+      token = Some (record { kind = None; first = start; end = scalar_end text.now start });
+      end = scalar_end text.now start;
+    } }
 {
     let end = text.len().min(start + scalar_len(text[start]));
     Lexeme {

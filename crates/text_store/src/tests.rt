@@ -151,7 +151,10 @@ fn bytes_that_are_no_text_are_refused(rt: HostRuntime) -> Result<(), Fail> {
         _ => return Err("too many bytes".into()),
     }
     let most = vec![in alloc; b' '; MAX_BYTES]?;
-    assert!(rt; open(alloc, &["a"], most.as_slice())?.is_ok(), "as many as fit");
+    assert!(rt;
+        open(alloc, &["a"], most.as_slice())?.is_ok(),
+        "as many as fit"
+    );
     Ok(())
 }
 
@@ -165,14 +168,15 @@ fn a_text_has_no_more_than_so_many_tokens(rt: HostRuntime) -> Result<(), Fail> {
     }
     let many = vec![in alloc; b'a'; 16_385]?;
     let refused = open(alloc, &["a"], many.as_slice())?;
-    assert!(rt; matches!(refused, Err(EditFault::FullTokens)), "one too many");
+    assert!(rt;
+        matches!(refused, Err(EditFault::FullTokens)),
+        "one too many"
+    );
     Ok(())
 }
 
 #[test]
-fn a_text_tells_the_kind_the_span_and_the_bytes_of_each_token(
-    rt: HostRuntime,
-) -> Result<(), Fail> {
+fn a_text_tells_the_kind_the_span_and_the_bytes_of_each_token(rt: HostRuntime) -> Result<(), Fail> {
     let alloc = rt.alloc();
     let text = opened(alloc, &["a", "ab"], " ab€a ")?.share(alloc)?;
     let expected = [

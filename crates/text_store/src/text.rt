@@ -58,10 +58,10 @@ impl Text {
     /// comments have none, and one scalar where nothing matches is a stray token.
     ///
     /// From each place it reads as far as some kind may still go on, which may be to the end of the
-    /// text; so the time grows with the bytes where kinds are decided soon, and with their square at
-    /// the worst, as under a kind `(digit+ '.')* '!'` in a text that has no exclamation mark, or
-    /// where comments that are never closed are opened at each place. At a text with too many tokens
-    /// it stops at the first one too many.
+    /// text. So the time grows with the bytes where kinds are decided soon, and with their square
+    /// at the worst, as under a kind `(digit+ '.')* '!'` in a text that has no exclamation mark, or
+    /// where comments that are never closed are opened at each place. It stops at the first token
+    /// that is one too many.
     pub fn open(alloc: Global, automaton: &Automaton, bytes: &[u8]) -> Result<Text, EditFault>
         requires lexed { (lexicon : Lexicon) × Lexes lexicon automaton.now }
         ensures bytes { OpensBytes bytes.now result }
