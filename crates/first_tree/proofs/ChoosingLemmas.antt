@@ -8,9 +8,8 @@ use Rattle.spec_grammar.specs.declared.rule.Rule.{Rule}
 use Rattle.spec_grammar.specs.Derivation.{Derives, DerivesAll}
 use Rattle.spec_grammar.proofs.DerivationLemmas.{derives_within, derives_all_within, kind_derives, category_derives, none_derive, some_derive}
 use Rattle.spec_trees.proofs.FirstTreeLemmas.{below_same_above}
-use Rattle.binary_form.proofs.ItemLemmas.{drop_at, drop_behind}
-use Rattle.first_tree.proofs.DerivationLemmas.{drop_all}
-use Rattle.first_tree.specs.Searching.{IsKind, AreKinds, GivesSpan, IsCut, IsLeastCut, IsLeastRule}
+use Rattle.binary_form.proofs.ItemLemmas.{drop_at}
+use Rattle.first_tree.specs.Searching.{IsKind, AreKinds, CanDerive, EndsOnlyAt, GivesSpan, IsCut, IsLeastCut, IsLeastRule}
 
 module _ (rules : List Rule) (kinds : List (Option ℕ)) where
   -- a rule of the category gives a span where its items derive it
@@ -196,20 +195,32 @@ module _ (rules : List Rule) (kinds : List (Option ℕ)) where
       let order = (derives_all_within rules kinds behind x.0 j x.2).0 in
       (token.0, omega (arith, token.1, order))
 
-  -- the last item ends where the span does
-  pub last_item_cut :
-      (items : List Symbol) (p i j : ℕ) → p < length items → length items ≤ suc p
-      → DerivesAll rules kinds (drop p items) i j
-      → IsLeastCut rules kinds (drop p items) i j j
-  last_item_cut items p i j within past d = only_cut items p i j j within d ends
-    where
-      ends : (k : ℕ) → IsCut rules kinds (drop p items) i k j → k ≡ j
-      ends k cut =
-          let none : drop (suc p) items ≡ [] = drop_all items (suc p) past in
-          let behind : drop (suc p) items ≡ cut.behind = drop_behind items p cut.item cut.behind cut.is in
-          let empty : cut.behind ≡ [] = sym behind ∙ none in
-          let P : List Symbol → Type 0 = λ xs. DerivesAll rules kinds xs k j in
-          sym ((none_derive rules kinds k j).0 (subst P empty cut.back))
+  -- what stands before kinds leaves them room
+  pub behind_fits :
+      (item : Symbol) (behind : List Symbol) (i j : ℕ) → AreKinds behind
+      → DerivesAll rules kinds (item ∷ behind) i j → length behind ≤ j
+  behind_fits item behind i j are d =
+      let x = (some_derive rules kinds item behind i j).0 d in
+      omega (arith, kinds_fill behind x.0 j are x.2)
+
+  module _ (items behind : List Symbol) (p : ℕ) (item : Symbol) (i j : ℕ) (next : drop p items ≡ item ∷ drop (p + 1) items) (is : behind ≡ drop (p + 1) items) (d : DerivesAll rules kinds (drop p items) i j) where
+    own : drop p items ≡ item ∷ behind
+    own = next ∙ ap (λ xs. item ∷ xs) (sym is)
+
+    -- the next item and those behind it derive what is left
+    pub next_derives : CanDerive (item ∷ behind) i j
+    next_derives =
+        let P : List Symbol → Type 0 = λ xs. DerivesAll rules kinds xs i j in
+        (rules, kinds, subst P own d)
+
+    -- the only place at which it can end is the least cut
+    pub known_cut :
+        (place : ℕ) → p < length items → EndsOnlyAt (item ∷ behind) i j place
+        → IsLeastCut rules kinds (drop p items) i j place
+    known_cut place within ends =
+        only_cut items p i j place within d (λ k cut.
+        let P : List Symbol → Type 0 = λ xs. IsCut rules kinds xs i k j in
+        ends rules kinds k (subst P own cut))
 
   -- the item of a cut derives the front of the span
   pub cut_derives :

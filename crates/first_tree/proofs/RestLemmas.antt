@@ -78,16 +78,16 @@ module _ (rules : List Rule) (kinds : List (Option ℕ)) where
       (rest : Rest) (rule : Rule) (kept : List Rest) → slice_get rules rest.rule ≡ Some rule
       → length rule.items ≤ rest.place → KeepsRest rules kinds rest kept kept
   keeps_none rest rule kept is past = λ front back are all.
-    let none : front ≡ [] = no_nodes rest rule front is past are in
-    let P : List TreeNode → Type 0 = λ nodes. AreNodesOfAll rules kinds kept (nodes ++ back) in
-    subst P (sym none) all
+      let none : front ≡ [] = no_nodes rest rule front is past are in
+      let P : List TreeNode → Type 0 = λ nodes. AreNodesOfAll rules kinds kept (nodes ++ back) in
+      subst P (sym none) all
 
   -- and else it is kept last
   pub keeps_some :
       (rest : Rest) (rule : Rule) (kept : List Rest) → slice_get rules rest.rule ≡ Some rule
       → rest.place < length rule.items → KeepsRest rules kinds rest kept (kept ++ rest ∷ [])
   keeps_some rest rule kept is within = λ front back are all.
-    nodes_push kept rest front back are (rule, is, within) all
+      nodes_push kept rest front back are (rule, is, within) all
 
   -- what is left of a rule derives its span
   pub rest_derives :
@@ -180,14 +180,19 @@ module _ (rules : List Rule) (kinds : List (Option ℕ)) where
       let P : Rule → Type 0 = λ x. AreFirst rules kinds are.forest (drop rest.place x.items) rest.first rest.end in
       let x =
       first_of are.forest (drop rest.place rule.items) item (drop (rest.place + 1) rule.items) rest.first place rest.end
-      next (subst P same are.are_first) cut in
-      (x.0, forest_preorder x.1, x.2, are.same ∙ x.4, record {
-        rule = rule;
-        is_rule = is;
-        forest = x.1;
-        are_first = x.3;
-        same = refl;
-      })
+      next (subst P same are.are_first) cut in (
+        x.0,
+        forest_preorder x.1,
+        x.2,
+        are.same ∙ x.4,
+        record {
+          rule = rule;
+          is_rule = is;
+          forest = x.1;
+          are_first = x.3;
+          same = refl;
+        },
+      )
 
   module _ (old before : List Rest) (rest : Rest) (nodes : List TreeNode) (popped : old ≡ before ++ rest ∷ []) (all : AreNodesOfAll rules kinds old nodes) where
     -- what is kept last, and the nodes of it

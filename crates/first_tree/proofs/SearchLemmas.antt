@@ -32,7 +32,7 @@ module _ (rules : List Rule) (kinds : List (Option ℕ)) where
       (k i j : ℕ) (kept : List Rest)
       → Enters rules kinds (part_of (Kind k) i j) kept kept (leaf_node k i j)
   enters_kind k i j kept = λ t nodes is all.
-    (nodes, ap (λ xs. xs ++ nodes) (leaf_nodes rules kinds k i j t is), all)
+      (nodes, ap (λ xs. xs ++ nodes) (leaf_nodes rules kinds k i j t is), all)
 
   -- a category by the node of its least rule, whose right side is kept
   pub enters_category :
@@ -41,25 +41,25 @@ module _ (rules : List Rule) (kinds : List (Option ℕ)) where
       → count ≡ length rule.items → KeepsRest rules kinds (whole_of r i j) old new
       → Enters rules kinds (part_of (Category c) i j) old new (rule_node r i j count)
   enters_category c i j r count rule old new least is_rule counted keeps = λ t nodes is all.
-    let x = rule_nodes rules kinds c i j r count rule t least is_rule counted is in
-    let are : AreNodesOf rules kinds (whole_of r i j) (forest_preorder x.0) = record {
-      rule = rule;
-      is_rule = is_rule;
-      forest = x.0;
-      are_first = x.2;
-      same = refl;
-    } in (
-      forest_preorder x.0 ++ nodes,
-      ap (λ xs. xs ++ nodes) x.1,
-      keeps (forest_preorder x.0) nodes are all,
-    )
+      let x = rule_nodes rules kinds c i j r count rule t least is_rule counted is in
+      let are : AreNodesOf rules kinds (whole_of r i j) (forest_preorder x.0) = record {
+        rule = rule;
+        is_rule = is_rule;
+        forest = x.0;
+        are_first = x.2;
+        same = refl;
+      } in (
+        forest_preorder x.0 ++ nodes,
+        ap (λ xs. xs ++ nodes) x.1,
+        keeps (forest_preorder x.0) nodes are all,
+      )
 
   -- nothing is given of nothing
   pub gives_none :
       (old new : List Rest) → old ≡ [] → GivesNode rules kinds old new None
   gives_none old new none = λ nodes all.
-    let P : List Rest → Type 0 = λ kept. AreNodesOfAll rules kinds kept nodes in
-    subst P none all
+      let P : List Rest → Type 0 = λ kept. AreNodesOfAll rules kinds kept nodes in
+      subst P none all
 
   -- what is kept last gives the node by which its next item is entered
   pub gives_next :
@@ -72,14 +72,14 @@ module _ (rules : List Rule) (kinds : List (Option ℕ)) where
       → Enters rules kinds (part_of item rest.first place) between new node
       → GivesNode rules kinds old new (Some node)
   gives_next old before between new rest rule item place node popped is next cut keeps enters = λ nodes all.
-    let P : List Rest → Type 0 = λ kept. AreNodesOfAll rules kinds kept nodes in
-    let x = nodes_pop rules kinds before rest nodes (subst P popped all) in
-    let y = next_nodes rules kinds rest rule item place x.0 is next cut x.3 in
-    let kept = keeps y.1 x.1 y.4 x.5 in
-    let w = enters y.0 (y.1 ++ x.1) y.2 kept in
-    let same : nodes ≡ node ∷ w.0 =
-    x.2 ∙ (ap (λ xs. xs ++ x.1) y.3 ∙ (append_assoc (preorder y.0) y.1 x.1 ∙ w.1)) in
-    (w.0, same, w.2)
+      let P : List Rest → Type 0 = λ kept. AreNodesOfAll rules kinds kept nodes in
+      let x = nodes_pop rules kinds before rest nodes (subst P popped all) in
+      let y = next_nodes rules kinds rest rule item place x.0 is next cut x.3 in
+      let kept = keeps y.1 x.1 y.4 x.5 in
+      let w = enters y.0 (y.1 ++ x.1) y.2 kept in
+      let same : nodes ≡ node ∷ w.0 =
+      x.2 ∙ (ap (λ xs. xs ++ x.1) y.3 ∙ (append_assoc (preorder y.0) y.1 x.1 ∙ w.1)) in
+      (w.0, same, w.2)
 
   module _ (s : Symbol) (i j : ℕ) where
     -- the first node is that of the whole

@@ -126,14 +126,14 @@ module _ (rules : List Rule) (kinds : List (Option ℕ)) where
     pub are_kept : AreNodesOfAll kept behind
     pub few : length nodes ≤ MAX_NODES
 
--- under some rules and kinds, what is left of the rule derives its span
-abbrev pub CanDerive : Rule → Rest → Type 0
-CanDerive rule rest =
-    (rules : List Rule) × (kinds : List (Option ℕ))
-    × DerivesAll rules kinds (drop rest.place rule.items) rest.first rest.end
+-- under some rules and kinds, the items derive the span i..j
+abbrev pub CanDerive : List Symbol → ℕ → ℕ → Type 0
+CanDerive items i j =
+    (rules : List Rule) × (kinds : List (Option ℕ)) × DerivesAll rules kinds items i j
 
--- under any rules and kinds, the next item ends nowhere but at the place
-abbrev pub EndsOnlyAt : Rule → Rest → ℕ → Type 0
-EndsOnlyAt rule rest place =
+-- under any rules and kinds, no place but this cuts the span i..j between the first item and the
+-- others
+abbrev pub EndsOnlyAt : List Symbol → ℕ → ℕ → ℕ → Type 0
+EndsOnlyAt items i j place =
     (rules : List Rule) (kinds : List (Option ℕ)) (k : ℕ)
-    → IsCut rules kinds (drop rest.place rule.items) rest.first k rest.end → k ≡ place
+    → IsCut rules kinds items i k j → k ≡ place

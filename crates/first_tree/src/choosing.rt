@@ -1,15 +1,17 @@
 //! The least rule that derives a span, and the least place at which the first item of a rule ends.
-ghost use Rattle.std.specs.Prelude.{◌≡◌, ◌<◌, ◌≤◌, ◌↔◌, Some, IsTrue, drop, length, slice_get};
+ghost use Rattle.std.specs.Prelude.{◌≡◌, ◌∷◌, ◌+◌, ◌<◌, ◌≤◌, ◌↔◌, Some, IfSome, IsTrue};
+ghost use Rattle.std.specs.Prelude.{drop, length, slice_get};
 ghost use Rattle.spec_grammar.specs.declared.rule.Symbol.TheVariants.{Category};
 ghost use Rattle.spec_grammar.specs.Derivation.{Derives, DerivesAll};
 ghost use Rattle.valiant.specs.Charts.{IsChartOf};
+ghost use Rattle.first_tree.specs.Searching.{AreKinds, CanDerive, EndsOnlyAt};
 ghost use Rattle.first_tree.specs.Searching.{GivesSpan, IsCut, IsLeastCut, IsLeastRule};
 
 use crate::derivation::{derives, items_derive};
 use crate::rest::{Rest, next_item, rest_behind};
 use binary_form::Binary;
 use cell_sets::Cell;
-use numbered_grammar::{Grammar, Rule};
+use numbered_grammar::{Grammar, Rule, Symbol};
 use valiant::Chart;
 
 /// Whether the rule is one of the category, and derives the span.
@@ -65,13 +67,7 @@ pub(crate) fn least_rule<C: Cell>(
 }
 
 /// Whether the next item can end at the place, and the others derive what is behind it.
-fn is_cut<C: Cell>(
-    chart: &Chart<C>,
-    bin: &Binary<C>,
-    rule: &Rule,
-    rest: Rest,
-    place: u32,
-) -> bool
+fn is_cut<C: Cell>(chart: &Chart<C>, bin: &Binary<C>, rule: &Rule, rest: Rest, place: u32) -> bool
     requires chart { IsChartOf bin.now chart.now.kinds chart.now }
     requires rule { slice_get bin.now.rules rest.rule ≡ Some rule.now }
     requires item { rest.place < length rule.now.items }
@@ -88,14 +84,46 @@ fn is_cut<C: Cell>(
     items_derive(chart, bin, rule, rest_behind(bin, rule, rest, place))
 }
 
-/// The least place at which the next item can end: the end of the span where it is the last item,
-/// and else the first place that is a cut.
-pub(crate) fn least_cut<C: Cell>(
-    chart: &Chart<C>,
-    bin: &Binary<C>,
-    rule: &Rule,
-    rest: Rest,
-) -> u32
+/// The items behind the one at the place.
+fn items_behind(rule: &Rule, place: u16) -> &[Symbol]
+    requires { place < length rule.now.items }
+    ensures { result.now ≡ drop (place + 1) rule.now.items }
+{
+    &rule.items.as_slice()[place as usize + 1..]
+}
+
+/// Whether all of the items are kinds.
+fn are_kinds(items: &[Symbol]) -> bool
+    ensures { IsTrue result → AreKinds items.now }
+{
+    for item in items {
+        match item {
+            Symbol::Kind(_) => (),
+            Symbol::Category(_) => return false,
+        }
+    }
+    true
+}
+
+/// The end of the item, before these others, where one alone is possible: it is a kind, or the
+/// others are kinds alone or none.
+fn known_end(item: Symbol, behind: &[Symbol], first: u32, end: u32) -> Option<u32>
+    requires { CanDerive (item ∷ behind.now) first end }
+    ensures { IfSome result (EndsOnlyAt (item ∷ behind.now) first end) }
+{
+    match item {
+        Symbol::Kind(_) => return Some(first + 1),
+        Symbol::Category(_) => (),
+    }
+    if !are_kinds(behind) {
+        return None;
+    }
+    Some(end - behind.len() as u32)
+}
+
+/// The least place at which the next item can end. Where more than one is possible, the places are
+/// tried from the first on.
+pub(crate) fn least_cut<C: Cell>(chart: &Chart<C>, bin: &Binary<C>, rule: &Rule, rest: Rest) -> u32
     requires chart { IsChartOf bin.now chart.now.kinds chart.now }
     requires rule { slice_get bin.now.rules rest.rule ≡ Some rule.now }
     requires item { rest.place < length rule.now.items }
@@ -104,8 +132,10 @@ pub(crate) fn least_cut<C: Cell>(
     ensures { IsLeastCut bin.now.rules chart.now.kinds
         (drop rest.place rule.now.items) rest.first rest.end result }
 {
-    if rest.place as usize + 1 >= rule.items.len() {
-        return rest.end;
+    let item = next_item(bin, rule, rest);
+    let behind = items_behind(rule, rest.place);
+    if let Some(place) = known_end(item, behind, rest.first, rest.end) {
+        return place;
     }
     for place in rest.first..rest.end {
         if is_cut(chart, bin, rule, rest, place) {

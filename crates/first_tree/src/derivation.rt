@@ -14,13 +14,7 @@ use valiant::Chart;
 
 /// Whether the symbol of this number derives the span: one that is not empty by its entry, an empty
 /// one where the symbol is nullable.
-fn is_derived<C: Cell>(
-    chart: &Chart<C>,
-    bin: &Binary<C>,
-    number: u16,
-    first: u32,
-    end: u32,
-) -> bool
+fn is_derived<C: Cell>(chart: &Chart<C>, bin: &Binary<C>, number: u16, first: u32, end: u32) -> bool
     requires chart { IsChartOf bin.now chart.now.kinds chart.now }
     requires number { number < symbol_count bin.now }
     requires order { first ≤ end }

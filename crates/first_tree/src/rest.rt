@@ -56,11 +56,7 @@ pub(crate) fn rest_behind<C: Cell>(bin: &Binary<C>, rule: &Rule, rest: Rest, pla
 }
 
 /// Keeps what is left of a rule behind what is kept, unless it is nothing.
-pub(crate) fn keep(
-    kept: &mut Vec<Rest>,
-    grammar: &Grammar,
-    rest: Rest,
-) -> Result<(), AllocError>
+pub(crate) fn keep(kept: &mut Vec<Rest>, grammar: &Grammar, rest: Rest) -> Result<(), AllocError>
     requires { rest.rule < length grammar.now.rules }
     ensures { OnOk result ((kinds : List (Option ℕ))
         → KeepsRest grammar.now.rules kinds rest kept.old.items kept.new.items) }

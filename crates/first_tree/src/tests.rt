@@ -8,7 +8,7 @@ use crate::{First, first};
 use binary_form::{Binary, binary};
 use cell_sets::ListCell;
 use numbered_grammar::{Grammar, Symbol};
-use samples::{LISTS, PAIRS, SUMS, Sample, TRIPLES, TWINS, doubling, grammar_of};
+use samples::{LISTS, PAIRS, SUMS, Sample, TRIPLES, TWINS, grammar_of};
 use std::alloc::Global;
 use std::test::*;
 use valiant::Chart;
@@ -75,23 +75,58 @@ const NUMBER: Option<u16> = Some(4);
 #[test]
 fn a_derived_span_has_its_first_tree(rt: HostRuntime) -> Result<(), Fail> {
     let cases: [(Sample, &[Option<u16>], Question, &[Node]); 8] = [
-        (TWINS, &[FIRST, FIRST, FIRST, FIRST], (S, 0, 4), NESTED_TO_THE_RIGHT),
-        (TRIPLES, &[FIRST, FIRST, FIRST, FIRST, FIRST], (S, 0, 5), LAST_OF_THREE),
-        (PAIRS, &[FIRST], (S, 1, 1), &[
-            (Some(0), 0, 1, 1, 2),
-            (Some(1), 0, 1, 1, 0),
-            (Some(2), 0, 1, 1, 0),
-        ]),
-        (PAIRS, &[FIRST], (S, 0, 1), &[
-            (Some(0), 0, 0, 1, 2),
-            (Some(3), 0, 0, 1, 1),
-            (None, 0, 0, 1, 0),
-            (Some(2), 0, 1, 1, 0),
-        ]),
+        (
+            TWINS,
+            &[FIRST, FIRST, FIRST, FIRST],
+            (S, 0, 4),
+            NESTED_TO_THE_RIGHT,
+        ),
+        (
+            TRIPLES,
+            &[FIRST, FIRST, FIRST, FIRST, FIRST],
+            (S, 0, 5),
+            LAST_OF_THREE,
+        ),
+        (
+            PAIRS,
+            &[FIRST],
+            (S, 1, 1),
+            &[
+                (Some(0), 0, 1, 1, 2),
+                (Some(1), 0, 1, 1, 0),
+                (Some(2), 0, 1, 1, 0),
+            ],
+        ),
+        (
+            PAIRS,
+            &[FIRST],
+            (S, 0, 1),
+            &[
+                (Some(0), 0, 0, 1, 2),
+                (Some(3), 0, 0, 1, 1),
+                (None, 0, 0, 1, 0),
+                (Some(2), 0, 1, 1, 0),
+            ],
+        ),
         (LISTS, &[], (A, 0, 0), &[(Some(1), 0, 0, 0, 0)]),
-        (LISTS, &[FIRST, SECOND, FIRST, SECOND], (A, 0, 4), TWO_STATEMENTS),
-        (SUMS, &[NUMBER, FIRST, NUMBER, SECOND, NUMBER], (S, 0, 5), PRODUCT_IN_A_SUM),
-        (SUMS, &[NUMBER, FIRST], (Symbol::Kind(0), 1, 2), &[(None, 0, 1, 2, 0)]),
+        (
+            LISTS,
+            &[FIRST, SECOND, FIRST, SECOND],
+            (A, 0, 4),
+            TWO_STATEMENTS,
+        ),
+        (
+            SUMS,
+            &[NUMBER, FIRST, NUMBER, SECOND, NUMBER],
+            (S, 0, 5),
+            PRODUCT_IN_A_SUM,
+        ),
+        (
+            SUMS,
+            &[NUMBER, FIRST],
+            (Symbol::Kind(0), 1, 2),
+            &[(None, 0, 1, 2, 0)],
+        ),
     ];
     for (sample, kinds, question, wanted) in cases {
         let grammar = grammar_of(rt.alloc(), sample).ok_or("a grammar")?;
@@ -173,20 +208,10 @@ fn a_span_that_is_not_derived_has_none(rt: HostRuntime) -> Result<(), Fail> {
     for (sample, kinds, question) in cases {
         let grammar = grammar_of(rt.alloc(), sample).ok_or("a grammar")?;
         let answer = answer_of(rt.alloc(), &grammar, kinds, question).ok_or("an answer")?;
-        assert!(rt; matches!(answer, First::Nothing), "at {sample:?}, {question:?}");
+        assert!(rt;
+            matches!(answer, First::Nothing),
+            "at {sample:?}, {question:?}"
+        );
     }
-    Ok(())
-}
-
-#[test]
-fn a_tree_has_at_most_so_many_nodes(rt: HostRuntime) -> Result<(), Fail> {
-    let grammar = doubling(rt.alloc()).ok_or("a grammar")?;
-    let most = answer_of(rt.alloc(), &grammar, &[], (Symbol::Category(1), 0, 0));
-    let First::Tree(tree) = most.ok_or("an answer")? else {
-        return Err(Fail::from("a tree"));
-    };
-    assert_eq!(rt; tree.nodes().len(), 4_194_304);
-    let more = answer_of(rt.alloc(), &grammar, &[], (Symbol::Category(0), 0, 0));
-    assert!(rt; matches!(more.ok_or("an answer")?, First::Large));
     Ok(())
 }

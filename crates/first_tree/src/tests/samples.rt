@@ -83,17 +83,3 @@ pub fn grammar_of(alloc: Global, sample: Sample) -> Option<Grammar> {
     let names = names(alloc, categories)?;
     Grammar::of_rules(alloc, rules, names, words(alloc, kinds)?).ok()?
 }
-
-/// Category 2 is two of the next, and so on up to category 23, which is nothing: its tree has
-/// 2^22 - 1 nodes. Category 1 is that category alone, and category 0 is category 1 alone.
-pub fn doubling(alloc: Global) -> Option<Grammar> {
-    let mut rules = Vec::new(alloc);
-    for category in 0..23 {
-        let next = Symbol::Category(category + 1);
-        let items = [next, next];
-        let count = if category < 2 { 1 } else { 2 };
-        rules.push(rule_of(alloc, category, &items[..count])?).ok()?;
-    }
-    rules.push(rule_of(alloc, 23, &[])?).ok()?;
-    Grammar::of_rules(alloc, rules, names(alloc, 24)?, Vec::new(alloc)).ok()?
-}

@@ -1,15 +1,21 @@
--- The last item ends with the span; no cut is before the span; and some place in it is one.
-use Rattle.std.proofs.Common.{arith}
+-- A known end is the least; no cut is before the span; and some place in it is one.
+use Rattle.std.proofs.Common.{drop, arith}
 use Rattle.spec_grammar.proofs.DerivationLemmas.{derives_all_within}
-use Rattle.std.proofs.Common.{drop}
-use Rattle.first_tree.proofs.ChoosingLemmas.{no_cut_before, last_cut, last_item_cut}
+use Rattle.first_tree.proofs.ChoosingLemmas.{no_cut_before, last_cut, next_derives, known_cut}
 use Rattle.first_tree.proofs.choosing.least_cut.Goals as goal
 
-pub returns-then-rest-len : goal.returns-then-rest-len
-returns-then-rest-len g c =
+pub known_end-requires : goal.known_end-requires
+known_end-requires g c =
     let rest = c.args.rest in
-    last_item_cut (c.args.bin.now).rules (c.args.chart.now).kinds (c.args.rule.now).items rest.place rest.first rest.end
-    c.requires.item (omega (arith, c.if-rest-len.true, c.len.ensures)) c.requires.derives
+    next_derives (c.args.bin.now).rules (c.args.chart.now).kinds (c.args.rule.now).items c.items_behind-behind.result.now rest.place
+    c.next_item-item.result rest.first rest.end c.next_item-item.ensures.item c.items_behind-behind.ensures c.requires.derives
+
+pub returns-in-Some : goal.returns-in-Some
+returns-in-Some g c =
+    let rest = c.args.rest in
+    known_cut (c.args.bin.now).rules (c.args.chart.now).kinds (c.args.rule.now).items c.items_behind-behind.result.now rest.place
+    c.next_item-item.result rest.first rest.end c.next_item-item.ensures.item c.items_behind-behind.ensures c.requires.derives
+    c.in-Some.place c.requires.item c.in-Some.ensures
 
 pub loop-place-init : goal.loop-place-init
 loop-place-init g c = λ k before cut.

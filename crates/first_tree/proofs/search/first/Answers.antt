@@ -44,7 +44,7 @@ pub of-requires : goal.of-requires
 of-requires g c = (
   c.loop-nodes.invariant.tree,
   all_nodes (c.args.bin.now).rules (c.args.chart.now).kinds c.args.symbol c.args.i c.args.j c.loop-nodes.nodes.items
-  c.loop-nodes.kept.items c.next_node.new.kept.items c.loop-nodes.invariant (rw c.in_default.is at c.in_ok-node.ensures),
+      c.loop-nodes.kept.items c.next_node.new.kept.items c.loop-nodes.invariant (rw c.in_default.is at c.in_ok-node.ensures),
 )
 
 pub returns : goal.returns
