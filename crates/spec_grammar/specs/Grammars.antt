@@ -2,6 +2,8 @@
 use Rattle.std.specs.Prelude.{◌≡◌, ℕ, ◌+◌, ◌<◌, List, length, Option, Some, All, slice_get}
 use Rattle.std.specs.Prelude.{bytes_eq}
 use Rattle.std.specs.List.{position_or_len, sum_by}
+use Rattle.spec_lexing.specs.declared.kind_def.KindDef.{KindDef}
+use Rattle.spec_lexing.specs.declared.kind_def.KindDef.TheVariants.{Word, Token}
 use Rattle.spec_lexing.specs.Lexicon.{Lexicon}
 use Rattle.spec_grammar.specs.declared.rule.Label.TheVariants.{Wild}
 use Rattle.spec_grammar.specs.declared.rule.Symbol.{Symbol}
@@ -49,3 +51,19 @@ name_number names name = position_or_len (bytes_eq name) names
 -- the category of this text
 abbrev pub category_symbol : List (List ℕ) → List ℕ → Symbol
 category_symbol categories text = Category (name_number categories text)
+
+-- the kind of token is no word, and has this name
+abbrev pub IsTokenNamed : KindDef → List ℕ → Type 0
+IsTokenNamed (Word word) name = ⊥
+IsTokenNamed (Token own expr) name = own ≡ name
+
+-- the symbol has this name: a category its text, a kind of token that is no word its own name
+abbrev pub HasName : Grammar → Symbol → List ℕ → Type 0
+HasName g (Category c) name = slice_get g.categories c ≡ Some name
+HasName g (Kind k) name =
+    (kind : KindDef) × (slice_get g.lexicon.kinds k ≡ Some kind) × IsTokenNamed kind name
+
+-- no two symbols have one name
+abbrev pub HasDistinctNames : Grammar → Type 0
+HasDistinctNames g =
+    (s t : Symbol) (name : List ℕ) → HasName g s name → HasName g t name → s ≡ t

@@ -1,3 +1,4 @@
 mod GrammarExample
 mod ExamplesLemmas
 mod SessionExamples
+mod TokenCases
