@@ -59,8 +59,8 @@ PREDEFINED = [
     (b'[]. [Ident] ::= ;', b'rules 1 categories 1 kinds 0'),
     (b'internal []. [Ident] ::= ;', b'rules 0 categories 1 kinds 0'),
     (b'terminator [Ident] ";" ;', b'refused category [Ident] 0'),
-    (b'separator String "," ;', b'refused unbuilt 0'),
-    (b'entrypoints Integer ;', b'refused unbuilt 0'),
+    (b'separator String "," ;', b'rules 3 categories 1 kinds 2'),
+    (b'entrypoints Integer ;', b'rules 0 categories 0 kinds 1'),
 ]
 # What macros, internal rules and entry points stand for.
 MACROS = [
@@ -104,9 +104,9 @@ TOKENS = [
     (b'A. S ::= ' + b'[' * 300 + b'C] ::= ;', b'refused syntax 312'),
     (b'A. S ::= "a\tb" ;', b'rules 1 categories 1 kinds 1'),
     (b'S. S ::= "\\"" "\\\'" "\\\\" "\\n" "\\t" ;', b'rules 1 categories 1 kinds 5'),
-    (b'token. S ::= "a" ;', b'refused unbuilt 0'),
-    (b'position', b'refused unbuilt 0'),
-    (b'comment "a', b'refused unbuilt 0'),
+    (b'token. S ::= "a" ;', b'refused syntax 5'),
+    (b'position', b'refused syntax 8'),
+    (b'comment "a', b'refused syntax 8'),
     (b'internal terminator S "a" ;', b'refused unsupported terminator 9'),
     (b'internal define. S ::= ;', b'refused unsupported define 9'),
     (b'internal [] ( ;', b'refused syntax 12'),
@@ -120,6 +120,38 @@ TOKENS = [
     (b'\xed\xbf\xbf', b'refused utf8 0'),
     (b'\xf4\x8f\xbf\xbf', b'refused syntax 0'),
 ]
+# Kinds of tokens, and comments.
+TOKEN_DEFINITIONS = [
+    (b"token T 'a' ; A. S ::= T ;", b'rules 1 categories 1 kinds 1'),
+    (b"A. S ::= T ; position token T 'a' ;", b'rules 1 categories 1 kinds 1'),
+    (b"token T 'a' ; token U 'b' ; A. S ::= T Ident \"x\" ;", b'rules 1 categories 1 kinds 4'),
+    (b'token Ident letter+ ; A. S ::= Ident Integer ;', b'rules 1 categories 1 kinds 2'),
+    (b'comment "//" ; comment "/*" "*/" ; A. S ::= "a" ;', b'rules 1 categories 1 kinds 1'),
+    (b' ; ;; A. S ::= "a" ; \n; token T \'a\' ;', b'rules 1 categories 1 kinds 2'),
+    (b'A. S ::= "a" ; B. S ::= S Char ;', b'rules 2 categories 1 kinds 2'),
+    (b"token T 'a' ; token T 'b' ;", b'refused token T'),
+    (b"token T 'a' ; A. T ::= ;", b'refused token T'),
+    (b"internal A. T ::= ; token T 'a' ; token T 'b' ;", b'refused token T'),
+    (b"token T ('a' 'b') - 'a' ;", b'refused difference 18'),
+    (b"token T ('a' 'b') - (char - '\xc3\xa9') ;", b'refused difference 18'),
+    (b'token T digit - char ; A. S ::= U ;', b'refused difference 14'),
+    (b'token T digit - char ; S S ;', b'refused syntax 25'),
+    (b'token T char - ["\\"\\\\"] ;', b'rules 0 categories 0 kinds 1'),
+    (b'token T ' + b'(' * 64 + b"'a'" + b')' * 64 + b' ;', b'rules 0 categories 0 kinds 1'),
+    (b'token T ' + b'(' * 65 + b"'a'" + b')' * 65 + b' ;', b'refused syntax 72'),
+    (b"token T 'a'" + b'+' * 8 + b' ;', b'rules 0 categories 0 kinds 1'),
+    (b"token T 'a'" + b'+' * 9 + b' ;', b'refused syntax 19'),
+    (b'token T char' + b" - 'a'" * 8 + b' ;', b'rules 0 categories 0 kinds 1'),
+    (b'token T char' + b" - 'a'" * 9 + b' ;', b'refused syntax 61'),
+    (b'token T other ;', b'refused syntax 8'),
+    (b'token T "a" ;', b'refused syntax 8'),
+    (b'token T () ;', b'refused syntax 9'),
+    (b"token t 'a' ;", b'refused syntax 6'),
+    (b"position T 'a' ;", b'refused syntax 9'),
+    (b'comment "" ;', b'refused syntax 8'),
+    (b'comment "a" "" ;', b'refused syntax 12'),
+    (b'comment "a" "b" "c" ;', b'refused syntax 16'),
+]
 # Two faults, of which the one that is looked for first is told.
 TWO_FAULTS = [
     (b'_. E ::= ; \xff', b'refused utf8 11'),
@@ -132,21 +164,21 @@ TWO_FAULTS = [
     (b'A. Integer ::= ; rules ;', b'refused unsupported rules 17'),
     (b'S. S ::= T ; define ;', b'refused unsupported define 13'),
     (b'coercions E 0 ; F (', b'refused unsupported ( 18'),
-    (b'token T ; layout ;', b'refused unbuilt 0'),
+    (b'token T ; layout ;', b'refused syntax 8'),
     (b'layout ; token T ;', b'refused unsupported layout 0'),
-    (b'token T ; S S ;', b'refused unbuilt 0'),
-    (b'_. E ::= ; token T ;', b'refused unbuilt 1'),
-    (b'A. [E] ::= ; comment "#" ;', b'refused unbuilt 1'),
-    (b'coercions E 9999 ; token T ;', b'refused unbuilt 1'),
-    (b'A. Integer ::= ; token T ;', b'refused unbuilt 1'),
-    (b'A. S ::= T ; token T ;', b'refused unbuilt 1'),
-    (b'A. S ::= S ; token T ;', b'refused unbuilt 1'),
+    (b'token T ; S S ;', b'refused syntax 8'),
+    (b'_. E ::= ; token T ;', b'refused syntax 19'),
+    (b'A. [E] ::= ; comment "#" ;', b'refused list 0'),
+    (b'coercions E 9999 ; token T ;', b'refused syntax 27'),
+    (b'A. Integer ::= ; token T ;', b'refused syntax 25'),
+    (b'A. S ::= T ; token T ;', b'refused syntax 21'),
+    (b'A. S ::= S ; token T ;', b'refused syntax 21'),
     (b'S. S ::= Ident ; A. [E] ::= ;', b'refused list 1'),
-    (b'A. S ::= Ident ; B. S ::= T ;', b'refused unbuilt 0'),
+    (b'A. S ::= Ident ; B. S ::= T ;', b'refused category T 1'),
     (b'_. S ::= ' + S2048 + b';', b'refused coercion 0'),
     (b'A. [S] ::= ' + b'[S] ' * 2048 + b';', b'refused list 0'),
     (b'A. Integer ::= ' + b'Integer ' * 2048 + b';', b'refused token Integer'),
-    (b'A. S ::= ' + S2048 + b'Char ;', b'refused unbuilt 0'),
+    (b'A. S ::= ' + S2048 + b'Char ;', b'refused symbols 2051'),
 ]
 
 # Each refusal of a file that is read, or not, by one small file.
@@ -167,7 +199,8 @@ REFUSED = [
     (b'coercions E 1024 ;', b'refused rules 1025'),
 ]
 
-ROWS = REFUSED + LISTS_PAST_128 + LISTS + PREDEFINED + MACROS + TOKENS + TWO_FAULTS
+ROWS = REFUSED + LISTS_PAST_128 + LISTS + PREDEFINED + MACROS + TOKENS
+ROWS += TOKEN_DEFINITIONS + TWO_FAULTS
 
 # Grammars with a text, questions and their answers: the file, its line, the text and its number of
 # tokens, the questions, the answers.

@@ -16,7 +16,9 @@ TOKENS = [
 LONGEST = {'name': 64, 'number': 4}
 ESCAPES = {'n': '\n', 't': '\t'}
 PREDEFINED = ['Integer', 'Double', 'Ident', 'String', 'Char']
-NOT_BUILT = ['token', 'position', 'comment']
+CLASSES = ['digit', 'letter', 'upper', 'lower', 'char']
+FIRST_WORDS = ['internal', 'terminator', 'separator', 'coercions', 'entrypoints', 'token', 'position', 'comment']
+OPEN, SIGNS, DIFFERENCES = 64, 8, 8          # the most brackets that are open, signs and differences in a row
 
 
 class Refused(Exception):
@@ -120,6 +122,65 @@ class Definition:
     def words(self):
         return [('word', word) for word in self.sort('string').split(' ') if word]
 
+    def atom(self, opened):
+        """An atom of a token expression, with so many brackets open around it."""
+        sort, text = self.next()
+        if sort == 'character':
+            return 'character', self.sort('character')
+        if sort == 'name':
+            if text not in CLASSES + ['eps']:
+                raise Stuck(self.at)
+            return self.sort('name'),
+        if (sort, text) == ('sign', '(') and opened == OPEN:
+            raise Stuck(self.at)
+        sign = self.take('(', '[', '{')
+        if sign == 0:
+            inside = self.alternatives(opened + 1)
+            self.take(')')
+            return inside
+        string = self.sort('string')
+        self.take('?]}'[sign])
+        return ('any', string) if sign == 1 else ('text', string)
+
+    def factor(self, opened):
+        read, signs = self.atom(opened), 0
+        while self.next()[0] == 'sign' and self.next()[1] in '*+?':
+            if signs == SIGNS:
+                raise Stuck(self.at)
+            read, signs = (self.sort('sign'), read), signs + 1
+        return read
+
+    def sequence(self, opened):
+        factors = [self.factor(opened)]
+        while self.next()[0] in ('character', 'name') or self.next() in (('sign', '('), ('sign', '['), ('sign', '{')):
+            factors.append(self.factor(opened))
+        return ('sequence', factors) if factors[1:] else factors[0]
+
+    def differences(self, opened):
+        read, signs = self.sequence(opened), 0
+        while self.next() == ('sign', '-'):
+            if signs == DIFFERENCES:
+                raise Stuck(self.at)
+            sign, signs = self.at, signs + 1
+            self.sort('sign')
+            read = ('difference', read, self.sequence(opened), self.tokens[sign][2])
+        return read
+
+    def alternatives(self, opened):
+        parts = [self.differences(opened)]
+        while self.next() == ('sign', '|'):
+            self.sort('sign')
+            parts.append(self.differences(opened))
+        return ('alternatives', parts) if parts[1:] else parts[0]
+
+    def comment(self):
+        words = []
+        while not words or len(words) == 1 and self.at < len(self.tokens):
+            if self.next() == ('string', ''):
+                raise Stuck(self.at)
+            words.append(self.sort('string'))
+        return words
+
     def rule(self):
         label = self.label()
         self.take('.')
@@ -135,8 +196,14 @@ class Definition:
 
     def read(self):
         first = self.next()[1] if self.next()[0] == 'name' else ''
-        if first in ('internal', 'terminator', 'separator', 'coercions', 'entrypoints'):
+        if first in FIRST_WORDS:
             self.at = 1
+        if first == 'position':
+            self.take('token')
+        if first in ('token', 'position'):
+            return 'token', self.upper(), self.alternatives(0)
+        if first == 'comment':
+            return 'comment', self.comment()
         if first == 'internal':
             return 'internal', self.rule()
         if first in ('terminator', 'separator'):
@@ -160,19 +227,47 @@ class Definition:
         return read
 
 
-def fault(front, token, number):
+def fault(front, token):
     """The line of a token at which a definition that began with these cannot go on."""
     sort, text, place = token
     names = [part[1] for part in front if part[0] == 'name']
     lower = sort == 'name' and text[0].islower()
     if not front and lower:
-        return f'unbuilt {number}' if text in NOT_BUILT else f'unsupported {text} {place}'
+        return f'unsupported {text} {place}'
     if lower and names == ['internal'] and len(front) == 1:
         return f'unsupported {text} {place}'
     labels = names[1:] if names[:1] == ['internal'] else names
     if (sort, text) == ('sign', '(') and len(front) == len(names) and len(labels) == 1 and labels[0][0].isupper():
         return f'unsupported ( {place}'
     return f'syntax {place}'
+
+
+def is_class(read):
+    if read[0] == 'alternatives':
+        return all(is_class(part) for part in read[1])
+    return read[0] in CLASSES + ['character', 'any', 'difference']
+
+
+def is_ascii_class(read):
+    if read[0] == 'alternatives':
+        return all(is_ascii_class(part) for part in read[1])
+    if read[0] == 'difference':
+        return is_ascii_class(read[1])
+    if read[0] in ('character', 'any'):
+        return read[1].isascii()
+    return read[0] in CLASSES and read[0] != 'char'
+
+
+def bad_differences(read):
+    """The places of the signs of bad differences, those inside before those around them."""
+    if read[0] in ('alternatives', 'sequence'):
+        return [place for part in read[1] for place in bad_differences(part)]
+    if read[0] in '*+?':
+        return bad_differences(read[1])
+    if read[0] == 'difference':
+        bad = not (is_class(read[1]) and is_ascii_class(read[2]))
+        return bad_differences(read[1]) + bad_differences(read[2]) + [read[3]] * bad
+    return []
 
 
 def definitions_of(data):
@@ -194,12 +289,15 @@ def definitions_of(data):
                 definitions.append(Definition(piece).whole())
             except Stuck as stuck:
                 at = stuck.args[0]
-                raise Refused(fault(piece[:at], (piece + [token])[at], len(definitions))) from None
+                raise Refused(fault(piece[:at], (piece + [token])[at])) from None
             except TooLong as long:
                 raise Refused(f'syntax {piece[long.args[0]][2]}') from None
         piece = []
     if stop < len(data):
         raise Refused(f'syntax {stop}')
+    bad = [place for read in definitions if read[0] == 'token' for place in bad_differences(read[2])]
+    if bad:
+        raise Refused(f'difference {min(bad)}')
     return definitions
 
 
@@ -259,7 +357,7 @@ def first_cycle(rules, categories):
     for _, category, items in rules:
         for k, (sort, text) in enumerate(items):
             others = items[:k] + items[k + 1:]
-            if sort == 'category' and all(other[0] == 'category' and other[1] in empty for other in others):
+            if sort == 'category' and text in steps and all(other[0] == 'category' and other[1] in empty for other in others):
                 steps[category].add(text)
     for category in categories:
         reached, new = set(), set(steps[category])
@@ -282,24 +380,35 @@ def grammar_of(definitions):
     count = sum(definition[2] + 1 if definition[0] == 'coercions' else len(rules_of(definition)) for definition in definitions)
     if count > 1024:
         raise Refused(f'rules {count}')
+    tokens = [definition[1] for definition in definitions if definition[0] == 'token']
     internal = [definition[1] for definition in definitions if definition[0] == 'internal']
     own = [[definition[1]] if definition[0] == 'internal' else rules_of(definition) for definition in definitions]
-    for rule in sum(own, []):
-        if rule[1] in PREDEFINED:
-            raise Refused(f'token {rule[1]}')
+    defined = set()
+    for definition, rules in zip(definitions, own):
+        if definition[0] == 'token' and definition[1] in defined:
+            raise Refused(f'token {definition[1]}')
+        defined |= {definition[1]} if definition[0] == 'token' else set()
+        for rule in rules:
+            if rule[1] in PREDEFINED + tokens:
+                raise Refused(f'token {rule[1]}')
     known = {rule[1] for rules in own for rule in rules}
+    asked = []
     for number, definition in enumerate(definitions):
         named = [text for rule in rules_of(definition) for text in categories_in(rule[2])]
-        for text in definition[1] if definition[0] == 'entrypoints' else named:
-            if text not in known:
-                raise Refused(f'unbuilt {number}' if text in PREDEFINED else f'category {text} {number}')
+        named = definition[1] if definition[0] == 'entrypoints' else named
+        asked += named
+        for text in named:
+            if text not in known and text not in PREDEFINED + tokens:
+                raise Refused(f'category {text} {number}')
+    kinds_by_name = tokens + [name for name in PREDEFINED if name in asked and name not in tokens]
     rules = [rule for definition in definitions for rule in rules_of(definition)]
-    met = [text for rule in rules for text in [rule[1]] + categories_in(rule[2])]
+    met = [text for rule in rules for text in [rule[1]] + categories_in(rule[2]) if text not in kinds_by_name]
     categories = list(dict.fromkeys(met + [rule[1] for rule in internal]))
     cycle = first_cycle(rules, categories)
     if cycle:
         raise Refused(f'cyclic {cycle}')
-    kinds = {text for rule in rules for sort, text in rule[2] if sort == 'word'}
+    words = {text for rule in rules for sort, text in rule[2] if sort == 'word'}
+    kinds = list(words) + kinds_by_name
     symbols = len(categories) + len(kinds) + sum(len(rule[2]) for rule in rules)
     if symbols > 2048:
         raise Refused(f'symbols {symbols}')

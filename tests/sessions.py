@@ -441,6 +441,14 @@ for name, grammar, counted, text, tokens, questions, answers in [
 
 N64 = b'A' * 64
 N65 = b'A' * 65
+
+
+def words(count):
+    """The words 0, 1, .., so many. Each front of one is another, so they have a state each, and with
+    the start and white space there are two more."""
+    return b''.join(b'"%d" ' % k for k in range(count))
+
+
 for name, grammar, wanted in [
     ('no last semicolon', b'One. S ::= "a"', counts(1, 1, 1)),
     ('no white byte', b'One.S::="a"', counts(1, 1, 1)),
@@ -481,7 +489,9 @@ for name, grammar, wanted in [
     ('2,048 symbols, one of them a kind', b'A. S ::= ' + b'"a" ' * 2046 + b';', counts(1, 1, 1)),
     ('2,048 symbols of many rules', b'A. S ::= "a" S ;' * 1023, counts(1023, 1, 1)),
     ('2,048 symbols by one macro', b'coercions E 1021 ;', counts(1022, 1022, 2)),
-    ('2,047 symbols, 1,023 of them kinds', b'A. S ::= ' + b''.join(b'"%d" ' % k for k in range(1023)) + b';', counts(1, 1, 1023)),
+    ('2,047 symbols and 1,023 states, of 1,021 kinds', b'A. S ::= ' + words(1021) + b'"0" ' * 4 + b';', counts(1, 1, 1021)),
+    ('1,023 states of one word', b'A. S ::= "' + b'x' * 1021 + b'" ;', counts(1, 1, 1)),
+    ('1,023 states of two words', b'A. S ::= "' + b'x' * 500 + b'" "y' + b'x' * 520 + b'" ;', counts(1, 1, 2)),
     ('an empty string', b'A. S ::= "" ;', counts(1, 1, 0)),
     ('two words in a string', b'A. S ::= "a b" ;', counts(1, 1, 2)),
     ('a backslash in a word', b'A. S ::= "\\\\" ;', counts(1, 1, 1)),
@@ -503,10 +513,6 @@ def refused(*reason):
     return b'grammar refused ' + b' '.join(words) + b'\n'
 
 
-def unbuilt(number):
-    return refused(b'unbuilt', number)
-
-
 def syntax(at):
     return refused(b'syntax', at)
 
@@ -523,6 +529,9 @@ def symbols(number):
     return refused(b'symbols', number)
 
 
+STATES = refused(b'states')
+
+
 for name, grammar, wanted in [
     ('a label of 65 bytes', N65 + b'. S ::= "a" ;', syntax(0)),
     ('a category of 65 bytes', b'One. ' + N65 + b' ::= "a" ;', syntax(5)),
@@ -536,7 +545,6 @@ for name, grammar, wanted in [
     ('a name for a list', b'A. [S] ::= "a" ;', refused(b'list', 0)),
     ('a list label for no list', b'[]. S ::= "a" ;', refused(b'list', 0)),
     ('a predefined name for a category', b'A. Integer ::= "a" ;', refused(b'token Integer')),
-    ('a predefined name among the items', b'A. S ::= "a" ; B. S ::= S Char ;', unbuilt(1)),
     ('a quote in a word', b'A. S ::= "a"b" ;', syntax(12)),
     ('the byte FF in a word', b'A. S ::= "\xff" ;', refused(b'utf8', 10)),
     ('the byte FF behind a rule', b'A. S ::= "a" \xff', refused(b'utf8', 13)),
@@ -550,9 +558,6 @@ for name, grammar, wanted in [
     ('a token behind a word', b'A. S ::= "a" . ;', syntax(13)),
     ('a token behind two categories', b'A. S ::= S S . ;', syntax(13)),
     ('a zero byte between tokens', b'A.\x00S ::= "a" ;', syntax(2)),
-    ('empty definitions are not counted', b' ; ;; A. S ::= "a" ; \n; token T \'a\' ;', unbuilt(1)),
-    ('a comment of the language is not built', b'comment "//" ; A. S ::= "a" ;', unbuilt(0)),
-    ('a token with its place is not built', b'A. S ::= "a" ; position token T \'a\' ;', unbuilt(1)),
     ('the first of two faults', b'A. S ::= "a" ; B. S ::= s ; C. S ::= t ;', syntax(24)),
     ('1,025 rules', b'A. S ::= "a" ;' * 1025, refused(b'rules', 1025)),
     ('1,030 rules', b'A. S ::= "a" ;' * 1030, refused(b'rules', 1030)),
@@ -597,7 +602,12 @@ for name, grammar, wanted in [
     ('a cycle with 2,049 symbols', b'A. S ::= ' + b'S ' * 2048 + b'; B. S ::= ;', cyclic(b'S')),
     ('2,049 symbols of one rule', b'A. S ::= ' + b'S ' * 2048 + b';', symbols(2049)),
     ('2,049 symbols, one of them a kind', b'A. S ::= ' + b'"a" ' * 2047 + b';', symbols(2049)),
-    ('2,049 symbols, 1,024 of them kinds', b'A. S ::= ' + b''.join(b'"%d" ' % k for k in range(1024)) + b';', symbols(2049)),
+    ('1,024 states of 1,022 kinds', b'A. S ::= ' + words(1022) + b';', STATES),
+    ('1,024 states of one word', b'A. S ::= "' + b'x' * 1022 + b'" ;', STATES),
+    ('1,024 states of two words', b'A. S ::= "' + b'x' * 500 + b'" "y' + b'x' * 521 + b'" ;', STATES),
+    ('1,026 states, and 2,049 symbols', b'A. S ::= ' + words(1024) + b';', STATES),
+    ('1,024 states, and an unknown category', b'A. S ::= "' + b'x' * 1022 + b'" ; B. S ::= T ;', unknown(b'T', 1)),
+    ('1,024 states, and a cycle', b'A. S ::= "' + b'x' * 1022 + b'" ; B. S ::= S ;', cyclic(b'S')),
     ('2,050 symbols of many rules', b'A. S ::= "a" S ;' * 1024, symbols(2050)),
 ]:
     case('refused: ' + name, with_grammar(grammar, b'open 0\n\nend\n'), wanted, 2)

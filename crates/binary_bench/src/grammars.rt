@@ -1,5 +1,5 @@
-//! The grammars that are measured. Their categories and kinds have no names.
-use numbered_grammar::{Grammar, Items, KindDef, Label, Name, Rule, Symbol};
+//! The grammars that are measured. Their categories have numbers for names.
+use numbered_grammar::{Grammar, Items, KindDef, Label, LexiconParts, Name, Rule, Symbol};
 use std::alloc::{AllocError, Global};
 
 fn unnamed(alloc: Global) -> Name {
@@ -8,18 +8,19 @@ fn unnamed(alloc: Global) -> Name {
 
 fn categories(alloc: Global, count: usize) -> Result<Vec<Name>, AllocError> {
     let mut names = Vec::with_capacity(alloc, count)?;
-    for _ in 0..count {
-        names.push(unnamed(alloc))?;
+    for number in 0..count as u32 {
+        let text = format!(in alloc; "{number}")?;
+        names.push(Name::of(Vec::from_slice(alloc, text.as_str().as_bytes())?))?;
     }
     Ok(names)
 }
 
-fn kinds(alloc: Global, count: usize) -> Result<Vec<KindDef>, AllocError> {
+fn kinds(alloc: Global, count: usize) -> Result<LexiconParts, AllocError> {
     let mut words = Vec::with_capacity(alloc, count)?;
     for _ in 0..count {
         words.push(KindDef::Word(unnamed(alloc)))?;
     }
-    Ok(words)
+    Ok(LexiconParts::of_kinds(alloc, words))
 }
 
 fn rule(alloc: Global, category: u16, items: &[Symbol]) -> Result<Rule, AllocError> {

@@ -3,16 +3,11 @@ use Rattle.std.proofs.Common.{◌≡◌, ℕ, ◌<◌, ◌≤◌, ◌↔◌, Lis
 use Rattle.std.proofs.Common.{Result, Ok, Err, IfOk, String, string_bytes}
 use Rattle.std.specs.declared.alloc.Global.{Global}
 use Rattle.std.proofs.lemmas.List.{length-map}
-use Rattle.std.proofs.lemmas.Option.{slice_get_within, get_or_from_slice_get}
 use Rattle.spec_grammar.specs.declared.rule.Symbol.{Symbol}
-use Rattle.spec_grammar.specs.declared.rule.Symbol.TheVariants.{Category, Kind}
 use Rattle.spec_grammar.specs.Derivation.{Derives}
-use Rattle.spec_grammar.specs.Grammars.{Grammar, IsSymbolOf, IsTokenNamed, HasName, HasDistinctNames}
+use Rattle.spec_grammar.specs.Grammars.{Grammar, IsSymbolOf, HasDistinctNames}
 use Rattle.spec_grammar.proofs.DerivationLemmas.{nullable_derives}
-use Rattle.spec_lexing.specs.declared.kind_def.KindDef.{KindDef}
-use Rattle.spec_lexing.specs.declared.kind_def.KindDef.TheVariants.{Word, Token as TokenDef}
 use Rattle.spec_lexing.specs.declared.token.Token.{Token}
-use Rattle.spec_lexing.specs.Kinds.{IsWordKind}
 use Rattle.spec_lexing.specs.Tokens.{kinds_of}
 use Rattle.cell_sets.specs.Grids.{entry}
 use Rattle.binary_form.specs.Symbols.{BinarySymbol, plain, BinaryDerives, symbol_number}
@@ -23,7 +18,6 @@ use Rattle.spec_script.specs.Script.{Constituent, Query}
 use Rattle.spec_script.specs.declared.question.Constituent.TheVariants.{EntryWhole, NamedWhole, NamedSpan}
 use Rattle.spec_session.specs.Questions.{IsOfSymbol, first_of, end_of, IsWithin}
 use Rattle.spec_session.specs.Answers.{IsAnswer, IsHasAnswer, yes_line, no_line, yes, no}
-use Rattle.chart_service.specs.Languages.{HasNamesAndWords}
 use Rattle.chart_service.specs.Sessions.{IsOpened}
 
 module _ (g : Grammar) (chart : ChartValue) (text : List ℕ) (tokens : List Token)
@@ -66,30 +60,12 @@ module _ (g : Grammar) (chart : ChartValue) (text : List ℕ) (tokens : List Tok
         (λ d. h.1 (plain s, is_its, nullable.1 (subst P (sym same) d))),
       )
 
--- no word is a named kind
-no_word_named : (kind : KindDef) (name : List ℕ) → IsWordKind kind → IsTokenNamed kind name → ⊥
-no_word_named (Word word) name is named = named
-no_word_named (TokenDef own expr) name is named = is
-
--- so a grammar of words has one symbol at most of each name
-module _ (g : Grammar) (names : HasNamesAndWords g) where
-  no_kind_named : (k : ℕ) (name : List ℕ) → HasName g (Kind k) name → ⊥
-  no_kind_named k name (kind, is, named) =
-      let word = (names.words).words k kind (slice_get_within g.lexicon.kinds k kind is) in
-      no_word_named kind name
-      (subst IsWordKind (get_or_from_slice_get g.lexicon.kinds k kind kind is) word) named
-
-  names_apart : HasDistinctNames g
-  names_apart (Category c) (Category d) name is other = ap Category (names.distinct c d name is other)
-  names_apart (Category c) (Kind k) name is other = absurd (no_kind_named k name other)
-  names_apart (Kind k) t name is other = absurd (no_kind_named k name is)
-
-  -- and a constituent is of one symbol
-  one_symbol : (constituent : Constituent) (s t : Symbol) → IsOfSymbol g constituent s → IsOfSymbol g constituent t
-      → s ≡ t
-  one_symbol EntryWhole s t is other = cc
-  one_symbol (NamedWhole name) s t is other = names_apart s t name is other
-  one_symbol (NamedSpan name first end) s t is other = names_apart s t name is other
+-- a constituent is of one symbol
+one_symbol : (g : Grammar) → HasDistinctNames g → (constituent : Constituent) (s t : Symbol)
+    → IsOfSymbol g constituent s → IsOfSymbol g constituent t → s ≡ t
+one_symbol g names EntryWhole s t is other = cc
+one_symbol g names (NamedWhole name) s t is other = names s t name is other
+one_symbol g names (NamedSpan name first end) s t is other = names s t name is other
 
 -- the answer on a constituent of a symbol within the text, by whether the symbol derives it
 module _ (g : Grammar) (chart : ChartValue) (text : List ℕ) (tokens : List Token)

@@ -1,10 +1,17 @@
 -- The reply of a session to a text and to a question, and the state that it is in then.
 use Rattle.std.proofs.Common.{◌≡◌, ℕ, ◌+◌, List, [], ◌∷◌, length, Option, Some, IsTrue, is_some, MatchOption}
-use Rattle.std.proofs.Common.{Result, Ok, Err, IfOk, String, string_bytes, refl, sym, ◌∙◌, ap, subst, arith, length-append}
+use Rattle.std.proofs.Common.{Result, Ok, Err, IfOk, String, string_bytes, ◌≤◌, refl, sym, ◌∙◌, ap, subst, arith, length-append}
+use Rattle.std.specs.Str.{IsAscii}
+use Rattle.std.proofs.lemmas.Str.{IsUtf8-from_ascii, utf8_valid_len-IsUtf8}
 use Rattle.std.specs.declared.alloc.Global.{Global}
 use Rattle.spec_grammar.specs.Grammars.{Grammar}
 use Rattle.spec_lexing.specs.declared.token.Token.{Token}
+use Rattle.spec_lexing.specs.Kinds.{MatchesKind, token_kind, lex_kinds}
+use Rattle.spec_lexing.specs.Lexicon.{Lexicon}
 use Rattle.spec_lexing.specs.Tokens.{AreTokensOf}
+use Rattle.spec_lexing.proofs.TokensLemmas.{few_tokens}
+use Rattle.text_store.specs.TextStore.{OpensBytes, OpensTokens}
+use Rattle.text_store.specs.declared.fault.EditFault.TheVariants.{NotUtf8, FullTokens}
 use Rattle.spec_script.specs.Script.{Command, Query, opens, ask}
 use Rattle.spec_session.specs.Answers.{IsAnswer}
 use Rattle.spec_session.specs.Steps.{State, with_text, IsCurrent, IsReply, version_reply}
@@ -16,6 +23,17 @@ use Rattle.chart_service.specs.declared.session.Version.{Version}
 pub if_ok : {T E : Type 0} → (P Q : T → Type 0) → ((x : T) → P x → Q x) → (r : Result T E) → IfOk r P → IfOk r Q
 if_ok P Q f (Ok x) h = f x h
 if_ok P Q f (Err e) h = h
+
+-- bytes of a script's text fit a text
+pub fits_text : (bytes : List ℕ) (at : ℕ) → IsAscii bytes → OpensBytes bytes (Err (NotUtf8 at)) → ⊥
+fits_text bytes at ascii h =
+    omega (arith, h.1, h.2, utf8_valid_len-IsUtf8 bytes (IsUtf8-from_ascii bytes ascii))
+
+-- and so do its tokens, which are no more
+pub fit_tokens : (lexicon : Lexicon) (bytes : List ℕ) → length bytes ≤ 4096
+    → OpensTokens lexicon bytes (Err FullTokens) → ⊥
+fit_tokens lexicon bytes short h =
+    omega (arith, short, h.2, few_tokens MatchesKind token_kind (lex_kinds lexicon) bytes 0 h.0 h.1)
 
 -- a text is opened
 pub opened_in : {C : Type 0} → (old new : Session C) (state : State) (text line : List ℕ) (version : Version C)

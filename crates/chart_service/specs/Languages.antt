@@ -1,44 +1,56 @@
--- Serves the proofs alone: what is known of a grammar that was accepted with its binary form, and
--- the line of each fault for which there is none.
-use Rattle.std.specs.Prelude.{◌≡◌, ℕ, ◌≤◌, List, slice_get, Some, Option, None, Err}
-use Rattle.spec_lexing.specs.Kinds.{HasWordsAlone}
+-- What a caller sees of a grammar that was accepted, with its automaton and its binary form, or
+-- refused; and the line of each fault for which there is none.
+use Rattle.std.specs.Prelude.{◌≡◌, ℕ, ◌≤◌, List, slice_get, Some, Option, None, Result, Ok, Err}
+use Rattle.spec_lexing.specs.Lexicon.{Lexicon}
+use Rattle.spec_automata.specs.States.{HasTooManyStates}
 use Rattle.spec_lbnf.specs.declared.definition.Def.{Def}
 use Rattle.spec_lbnf.specs.declared.fault.TextFault.TheVariants.{Memory as TextMemory}
 use Rattle.spec_lbnf.specs.declared.fault.GrammarFault.TheVariants.{Memory as GrammarMemory}
 use Rattle.spec_lbnf.specs.Expansion.{expansion_of}
 use Rattle.spec_lbnf.specs.Faults.{Spells}
 use Rattle.spec_lbnf.specs.Checks.{AreFit}
-use Rattle.spec_grammar.specs.Grammars.{Grammar, symbol_count}
+use Rattle.spec_grammar.specs.Grammars.{Grammar, HasDistinctNames, symbol_count}
 use Rattle.spec_session.specs.GrammarReplies.{fault_reason, unfit_reason}
-use Rattle.spec_session.specs.GrammarReplies.{symbols_reason, refusal_line}
+use Rattle.spec_session.specs.GrammarReplies.{states_reason, symbols_reason, refusal_line}
 use Rattle.lbnf_text.specs.Reading.{ReadsDefs}
 use Rattle.lbnf_grammar.specs.Grammars.{Expands}
+use Rattle.lbnf_regex.specs.Automata.{Machine}
+use Rattle.lbnf_regex.specs.declared.lex_fault.LexFault.{LexFault}
+use Rattle.lbnf_regex.specs.declared.lex_fault.LexFault.TheVariants.{Memory as LexMemory}
+use Rattle.lbnf_regex.specs.declared.lex_fault.LexFault.TheVariants.{TooManyStates}
+use Rattle.text_store.specs.TextStore.{Lexes}
 use Rattle.binary_form.specs.BinaryForm.{MakesBinary}
 use Rattle.binary_form.specs.declared.fault.BinaryFault.TheVariants.{Memory as BinaryMemory}
 use Rattle.binary_form.specs.declared.fault.BinaryFault.TheVariants.{TooManySymbols}
 use Rattle.chart_service.specs.declared.accepting.LanguageFault.{LanguageFault}
-use Rattle.chart_service.specs.declared.accepting.LanguageFault.TheVariants.{Text, Binary}
+use Rattle.chart_service.specs.declared.accepting.LanguageFault.TheVariants.{Text, Lex, Binary}
 use Rattle.chart_service.specs.declared.accepting.LanguageFault.TheVariants.{Grammar as Unfit}
 
--- no category's text stands twice, and the grammar's kinds are words
-pub record HasNamesAndWords (g : Grammar) : Type 0 where
-  pub distinct : (c d : ℕ) (name : List ℕ) → slice_get g.categories c ≡ Some name
-      → slice_get g.categories d ≡ Some name → c ≡ d
-  pub words : HasWordsAlone g.lexicon
-
--- texts can be opened under the grammar, over cells with this room: it has names and words, and its
+-- texts can be opened under the grammar, over cells with this room: its names are distinct, and its
 -- symbols have room
 pub record CanOpen (room : ℕ) (g : Grammar) : Type 0 where
-  pub names : HasNamesAndWords g
+  pub names : HasDistinctNames g
   pub few : symbol_count g ≤ room
 
+-- an automaton is made that lexes texts as the lexicon does, where there are not too many states;
+-- or there are, or there is no memory for it
+abbrev pub MakesLexer : Lexicon → Result Machine LexFault → Type 0
+MakesLexer lexicon (Ok a) = (HasTooManyStates lexicon → ⊥) × Lexes lexicon a
+MakesLexer lexicon (Err LexMemory) = Unit {0}
+MakesLexer lexicon (Err TooManyStates) = HasTooManyStates lexicon
+
 -- the block has no grammar for this fault of the first layer that gives none: of reading the file,
--- of expanding what it spells, or of making its binary form; each layer may want memory
+-- of expanding what it spells, of making its automaton, or of making its binary form; each layer
+-- may want memory
 abbrev pub IsFaultOf : List ℕ → LanguageFault → Type 0
 IsFaultOf block (Text fault) = ReadsDefs block (Err fault)
 IsFaultOf block (Unfit fault) = (defs : List Def) × Spells block defs × Expands defs (Err fault)
+IsFaultOf block (Lex fault) =
+    (defs : List Def) × Spells block defs × AreFit defs
+    × MakesLexer (expansion_of defs).lexicon (Err fault)
 IsFaultOf block (Binary fault) =
     (defs : List Def) × Spells block defs × AreFit defs
+    × (HasTooManyStates (expansion_of defs).lexicon → ⊥)
     × MakesBinary (expansion_of defs) (Err fault)
 
 -- the reason that is told of a fault, and None for want of memory
@@ -47,6 +59,8 @@ reason_of (Text TextMemory) = None
 reason_of (Text fault) = Some (fault_reason fault)
 reason_of (Unfit GrammarMemory) = None
 reason_of (Unfit fault) = Some (unfit_reason fault)
+reason_of (Lex LexMemory) = None
+reason_of (Lex TooManyStates) = Some states_reason
 reason_of (Binary BinaryMemory) = None
 reason_of (Binary (TooManySymbols count)) = Some (symbols_reason count)
 

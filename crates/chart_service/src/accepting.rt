@@ -1,17 +1,20 @@
-//! The grammar of a block, accepted with its binary form.
-ghost use Rattle.std.specs.Prelude.{◌≡◌, ◌≤◌, ℕ, List, IfOk, MatchResult};
+//! The grammar of a block, accepted with its automaton and its binary form.
+ghost use Rattle.std.specs.Prelude.{◌≡◌, ◌≤◌, ℕ, List, All, IfOk, MatchResult};
 ghost use Rattle.spec_text.specs.declared.limits.TheConstants.{MAX_SYMBOLS};
-ghost use Rattle.binary_form.specs.BinaryForm.{MakesBinary};
+ghost use Rattle.spec_lexing.specs.Classes.{IsSoundDef};
+ghost use Rattle.spec_lexing.specs.Kinds.{IsWordKind, HasWordsAlone};
 ghost use Rattle.spec_session.specs.GrammarReplies.{IsAccepted};
 ghost use Rattle.script_reader.specs.Reading.{IsBlock};
-ghost use Rattle.chart_service.specs.Languages.{CanOpen, HasNamesAndWords, IsFaultOf};
+ghost use Rattle.chart_service.specs.Languages.{CanOpen, IsFaultOf, MakesLexer};
 
 use crate::language::Language;
 use binary_form::{BinaryFault, binary};
 use cell_sets::Cell;
 use lbnf_grammar::{Grammar, GrammarFault, expand};
+use lbnf_regex::{Automaton, LexFault, automaton};
 use lbnf_text::{TextFault, read_defs};
 use script_reader::Block;
+use spec_lexing::KindDef;
 use std::alloc::Global;
 
 /// Why a grammar is refused.
@@ -21,19 +24,35 @@ pub(crate) enum LanguageFault {
     Text(TextFault),
     /// Its definitions are no grammar.
     Grammar(GrammarFault),
+    /// The grammar's kinds have no automaton.
+    Lex(LexFault),
     /// The grammar has no binary form.
     Binary(BinaryFault),
 }
 
-/// The grammar with its binary form, or that it has too many symbols.
-fn language_of<C: Cell>(alloc: Global, grammar: Grammar) -> Result<Language<C>, BinaryFault>
-    requires room { MAX_SYMBOLS ≤ C.ROOM }
-    requires names { HasNamesAndWords grammar }
-    ensures ok { MakesBinary grammar result }
-    ensures can { IfOk result (CanOpen C.ROOM) }
+/// The words are UTF-8, as all names are.
+fn know_words(kinds: &[KindDef])
+    requires { All IsWordKind kinds.now }
+    ensures { All IsSoundDef kinds.now }
 {
-    let binary = binary::<C>(alloc, &grammar)?;
-    Ok(Language::of(grammar, binary))
+    for kind in kinds {
+        match kind {
+            KindDef::Word(word) => {
+                let _bytes = word.as_slice();
+            }
+            KindDef::Token { .. } => {}
+        }
+    }
+}
+
+/// The automaton that recognises the kinds of the grammar.
+fn automaton_of(alloc: Global, grammar: &Grammar) -> Result<Automaton, LexFault>
+    requires words { HasWordsAlone (grammar.now).lexicon }
+    ensures { MakesLexer (grammar.now).lexicon result }
+{
+    let kinds = grammar.kinds();
+    know_words(kinds);
+    automaton(alloc, &[], &[], kinds)
 }
 
 /// The language of the grammar that the bytes spell.
@@ -50,10 +69,15 @@ fn read_language<C: Cell>(alloc: Global, block: &[u8]) -> Result<Language<C>, La
         Ok(grammar) => grammar,
         Err(fault) => return Err(LanguageFault::Grammar(fault)),
     };
-    match language_of(alloc, grammar) {
-        Ok(language) => Ok(language),
-        Err(fault) => Err(LanguageFault::Binary(fault)),
-    }
+    let automaton = match automaton_of(alloc, &grammar) {
+        Ok(automaton) => automaton,
+        Err(fault) => return Err(LanguageFault::Lex(fault)),
+    };
+    let binary = match binary::<C>(alloc, &grammar) {
+        Ok(binary) => binary,
+        Err(fault) => return Err(LanguageFault::Binary(fault)),
+    };
+    Ok(Language::of(grammar, automaton, binary))
 }
 
 /// The language of the grammar that the block spells, where the block is not too long.

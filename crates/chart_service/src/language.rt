@@ -1,15 +1,19 @@
-//! A grammar that was accepted, and its binary form.
+//! A grammar that was accepted, with its automaton and its binary form.
 ghost use Rattle.std.specs.Prelude.{◌≡◌};
+ghost use Rattle.text_store.specs.TextStore.{Lexes};
 
 use binary_form::Binary;
 use cell_sets::Cell;
 use lbnf_grammar::Grammar;
+use lbnf_regex::Automaton;
 use std::marker::Model;
 
-/// A grammar that was accepted, with its binary form over one type of cell, seen as the grammar.
+/// A grammar that was accepted, with the automaton of its kinds and its binary form over one type of
+/// cell, seen as the grammar.
 #[derive(Drop)]
 pub(crate) struct Language<C: Cell> {
     grammar: Grammar,
+    automaton: Automaton,
     binary: Binary<C>,
 }
 
@@ -18,6 +22,7 @@ impl<C: Cell> Model for Language<C> {
     ghost use Rattle.spec_grammar.specs.Grammars.{Grammar};
     ghost use Rattle.std.specs.Coded.{codes};
     ghost use Rattle.spec_lexing.specs.contracts.expression.Expr as expr;
+    ghost use Rattle.text_store.specs.TextStore.{Lexes};
 
     ghost Value = { Grammar };
 
@@ -25,16 +30,21 @@ impl<C: Cell> Model for Language<C> {
 
     ghost view = { λ l. l.grammar };
 
-    ghost invariant = { λ l. l.binary ≡ l.grammar };
+    ghost invariant = { λ l. (l.binary ≡ l.grammar) × Lexes (l.grammar).lexicon l.automaton };
 }
 
 impl<C: Cell> Language<C> {
-    /// The grammar with its binary form.
-    pub(crate) fn of(grammar: Grammar, binary: Binary<C>) -> Language<C>
-        requires { binary ≡ grammar }
+    /// The grammar with its automaton and its binary form.
+    pub(crate) fn of(grammar: Grammar, automaton: Automaton, binary: Binary<C>) -> Language<C>
+        requires lexes { Lexes grammar.lexicon automaton }
+        requires binary { binary ≡ grammar }
         ensures { result ≡ grammar }
     {
-        Language { grammar, binary }
+        Language {
+            grammar,
+            automaton,
+            binary,
+        }
     }
 
     /// The grammar. It takes no memory.
@@ -42,6 +52,13 @@ impl<C: Cell> Language<C> {
         ensures { result.now ≡ self.now }
     {
         &self.grammar
+    }
+
+    /// The automaton of its kinds. It takes no memory.
+    pub(crate) fn automaton(&self) -> &Automaton
+        ensures { Lexes (self.now).lexicon result.now }
+    {
+        &self.automaton
     }
 
     /// Its binary form. It takes no memory.

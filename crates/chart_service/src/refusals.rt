@@ -5,6 +5,7 @@ ghost use Rattle.chart_service.specs.Languages.{reason_of, IsRefusal};
 use crate::accepting::LanguageFault;
 use binary_form::BinaryFault;
 use lbnf_grammar::GrammarFault;
+use lbnf_regex::LexFault;
 use lbnf_text::TextFault;
 use std::alloc::{AllocError, Global};
 
@@ -13,7 +14,7 @@ fn reason(alloc: Global, fault: &LanguageFault) -> Result<String, AllocError>
     ensures { IfOk result (λ text. reason_of fault.now ≡ Some (string_bytes text)) }
 {
     use GrammarFault as Unfit;
-    use LanguageFault::{Binary, Grammar, Text};
+    use LanguageFault::{Binary, Grammar, Lex, Text};
     match fault {
         Text(TextFault::Memory) => Err(AllocError),
         Text(TextFault::TooLarge { count }) => format!(in alloc; "large {count}"),
@@ -33,6 +34,8 @@ fn reason(alloc: Global, fault: &LanguageFault) -> Result<String, AllocError>
         }
         Grammar(Unfit::Unbuilt { def }) => format!(in alloc; "unbuilt {def}"),
         Grammar(Unfit::Cyclic { name }) => format!(in alloc; "cyclic {}", name.as_str()),
+        Lex(LexFault::Memory) => Err(AllocError),
+        Lex(LexFault::TooManyStates) => format!(in alloc; "states"),
         Binary(BinaryFault::Memory) => Err(AllocError),
         Binary(BinaryFault::TooManySymbols { count }) => format!(in alloc; "symbols {count}"),
     }

@@ -5,7 +5,7 @@ ghost use Rattle.spec_text.specs.declared.limits.TheConstants.{MAX_SYMBOLS};
 ghost use Rattle.spec_script.specs.Script.{ended, broken};
 ghost use Rattle.spec_session.specs.Sessions.{last_line};
 ghost use Rattle.cyk_io.specs.Causes.{HasCause};
-ghost use Rattle.cyk_io.specs.Streams.{IsAtEnd, coming};
+ghost use Rattle.cyk_io.specs.Streams.{coming};
 ghost use Rattle.chart_service.specs.Serving.{AreAllowed, WritesSession, IsStatus};
 ghost use Rattle.chart_service.specs.Languages.{CanOpen};
 ghost use Rattle.chart_service.specs.Progress.{Running, HasEnded, EndsEarly, Ends, HasAccepted};
@@ -38,7 +38,6 @@ fn accept<S: Source, C: Cell>(
 ) -> Result<Session<C>, EarlyEnd>
     requires room { MAX_SYMBOLS ≤ C.ROOM }
     requires start { ahead.old.offset ≡ 0 }
-    requires end { IsTrue ahead.old.ended → IsAtEnd (S.left source.old) }
     ensures ok { (input : List ℕ) → coming ahead.old (S.left source.old) ≡ Some input
         → IfOk result (λ session. HasAccepted input (coming ahead.new (S.left source.new))
         ahead.new.offset session.language) }
@@ -48,7 +47,6 @@ fn accept<S: Source, C: Cell>(
     ensures read { HasCause (S.faults source.old) (S.faults source.new)
         (IsErrOf result (Stopped (Fault IoFault.Read))) }
     ensures write { IsErrOf result (Stopped (Fault IoFault.Write)) → ⊥ }
-    ensures end { IsTrue ahead.new.ended → IsAtEnd (S.left source.new) }
     ensures range { OnOk result (ahead.new.offset < 2 ^ 50) }
 {
     read_header(source, ahead, line)?;
@@ -71,7 +69,6 @@ fn begin<S: Source, K: Sink, C: Cell>(
     requires room { MAX_SYMBOLS ≤ C.ROOM }
     requires start { ahead.old.offset ≡ 0 }
     requires none { replies.old ≡ [] }
-    requires end { IsTrue ahead.old.ended → IsAtEnd (S.left source.old) }
     ensures ok { (input before : List ℕ) → coming ahead.old (S.left source.old) ≡ Some input
         → K.written sink.old ≡ Some before
         → IfOk result (Running input before (coming ahead.new (S.left source.new))
@@ -84,7 +81,6 @@ fn begin<S: Source, K: Sink, C: Cell>(
         (IsErrOf result (Stopped (Fault IoFault.Read))) }
     ensures write { HasCause (K.faults sink.old) (K.faults sink.new)
         (IsErrOf result (Stopped (Fault IoFault.Write))) }
-    ensures end { IsTrue ahead.new.ended → IsAtEnd (S.left source.new) }
     ensures range { OnOk result (ahead.new.offset < 2 ^ 50) }
 {
     let session: Session<C> = accept(alloc, source, ahead, line)?;
@@ -114,7 +110,6 @@ fn turn<S: Source, K: Sink, C: Cell>(
     requires can { CanOpen C.ROOM session.old.language }
     requires few { session.old.texts ≤ ahead.old.offset }
     requires early { ahead.old.offset < 2 ^ 50 }
-    requires end { IsTrue ahead.old.ended → IsAtEnd (S.left source.old) }
     ensures ok { (input before : List ℕ)
         → Running input before (coming ahead.old (S.left source.old)) ahead.old.offset
         (K.written sink.old) replies.old session.old
@@ -128,7 +123,6 @@ fn turn<S: Source, K: Sink, C: Cell>(
         (IsErrOf result (Stopped (Fault IoFault.Read))) }
     ensures write { HasCause (K.faults sink.old) (K.faults sink.new)
         (IsErrOf result (Stopped (Fault IoFault.Write))) }
-    ensures end { IsTrue ahead.new.ended → IsAtEnd (S.left source.new) }
     ensures range { OnOk result
         ((ahead.old.offset < ahead.new.offset) × (ahead.new.offset < 2 ^ 50)) }
     ensures few { OnOk result (session.new.texts ≤ ahead.new.offset) }
@@ -156,7 +150,6 @@ fn reply_all<S: Source, K: Sink, C: Cell>(
     requires can { CanOpen C.ROOM session.old.language }
     requires few { session.old.texts ≤ ahead.old.offset }
     requires early { ahead.old.offset < 2 ^ 50 }
-    requires end { IsTrue ahead.old.ended → IsAtEnd (S.left source.old) }
     ensures ok { (input before : List ℕ)
         → Running input before (coming ahead.old (S.left source.old)) ahead.old.offset
         (K.written sink.old) replies.old session.old

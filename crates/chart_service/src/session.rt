@@ -1,6 +1,8 @@
 //! A session behind its grammar: the texts that were opened, and the replies to commands.
 ghost use Rattle.std.specs.Prelude.{◌≡◌, ℕ, ◌+◌, ◌<◌, ◌≤◌, ◌^◌, List, length, IfOk, IsErr, IsTrue};
 ghost use Rattle.std.specs.Prelude.{IsFalse, IsAscii, string_bytes};
+ghost use Rattle.spec_text.specs.declared.limits.TheConstants.{MAX_TOKENS};
+ghost use Rattle.spec_lexing.specs.Tokens.{AreTokensOf};
 ghost use Rattle.spec_script.specs.Script.{Command as ScriptCommand, opens, ask};
 ghost use Rattle.spec_session.specs.GrammarReplies.{grammar_reply};
 ghost use Rattle.spec_session.specs.Steps.{State, no_texts, IsReply, version_reply};
@@ -14,7 +16,7 @@ use crate::language::Language;
 use cell_sets::Cell;
 use script_reader::{Command, Query};
 use std::alloc::{AllocError, Global};
-use text_store::Text;
+use text_store::{EditFault, Text};
 use valiant::Chart;
 
 /// A text that was opened, and the chart of its tokens.
@@ -22,6 +24,30 @@ use valiant::Chart;
 pub(crate) struct Version<C: Cell> {
     pub(crate) text: Text,
     pub(crate) chart: Chart<C>,
+}
+
+/// The text of these bytes under the language's grammar. They fit a text, and so do their tokens,
+/// which are no more.
+fn text_of<C: Cell>(
+    alloc: Global,
+    language: &Language<C>,
+    bytes: &[u8],
+) -> Result<Text, AllocError>
+    requires ascii { IsAscii bytes.now }
+    requires short { length bytes.now ≤ 4096 }
+    ensures bytes { IfOk result (λ text. text.bytes ≡ bytes.now) }
+    ensures tokens { IfOk result
+        (λ text. AreTokensOf (language.now).lexicon bytes.now text.tokens) }
+    ensures most { IfOk result (λ text. length text.tokens ≤ MAX_TOKENS) }
+{
+    match Text::open(alloc, language.automaton(), bytes) {
+        Ok(text) => Ok(text),
+        Err(EditFault::Memory) => Err(AllocError),
+        Err(EditFault::Range { .. }) => unreachable!(),
+        Err(EditFault::FullText { .. }) => unreachable!(),
+        Err(EditFault::NotUtf8 { .. }) => unreachable!(),
+        Err(EditFault::FullTokens) => unreachable!(),
+    }
 }
 
 /// The version of the text under the language's grammar.
@@ -35,7 +61,7 @@ fn version_of<C: Cell>(
     requires short { length text.now ≤ 4096 }
     ensures { IfOk result (IsVersionOf language.now text.now) }
 {
-    let opened = Text::open(alloc, language.grammar().kinds(), text)?;
+    let opened = text_of(alloc, language, text)?;
     let kinds = opened.kinds(alloc)?;
     let chart = Chart::of_kinds(alloc, language.binary(), kinds.as_slice())?;
     Ok(Version {

@@ -1,7 +1,7 @@
 -- What a caller sees of a source and of a sink: the bytes that are left in the one and those that
 -- are written to the other, where they are told, and what is read ahead of a source.
 use Rattle.std.specs.Prelude.{◌≡◌, ℕ, ◌<◌, ◌≤◌, List, [], ◌++◌, length, take, Option, Some, Result}
-use Rattle.std.specs.Prelude.{Bool, MatchResult}
+use Rattle.std.specs.Prelude.{MatchResult}
 use Rattle.std.specs.Option.{option_map}
 
 -- told bytes begin with these and lose them
@@ -39,11 +39,10 @@ Writes old new result from = MatchResult result
     (λ n. (n ≤ length from) × (0 < length from → 0 < n) × Grows old new (take n from))
     (λ _. Stays old new)
 
--- the bytes read ahead, the offset of the byte that comes next, and whether the end was seen
+-- the bytes read ahead, and the offset of the byte that comes next
 pub record ReadAhead : Type 0 where
   pub held : List ℕ
   pub offset : ℕ
-  pub ended : Bool
 
 -- the bytes that come: those read ahead, and then those that the source has left
 abbrev pub coming : ReadAhead → Option (List ℕ) → Option (List ℕ)

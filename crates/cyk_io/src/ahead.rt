@@ -1,6 +1,6 @@
 //! Bytes that were read ahead of what was asked for, and the offset of the byte that comes next. A
 //! source is read only where none of them is left, so that after a fault none is held.
-ghost use Rattle.std.specs.Prelude.{◌≡◌, ℕ, ◌+◌, ◌-◌, ◌<◌, ◌≤◌, ◌^◌, ◌↔◌, [], ◌∷◌, IsTrue, IsFalse};
+ghost use Rattle.std.specs.Prelude.{◌≡◌, ℕ, ◌+◌, ◌-◌, ◌<◌, ◌≤◌, ◌^◌, ◌↔◌, [], ◌∷◌, IsTrue};
 ghost use Rattle.std.specs.Prelude.{IsErr, OnOk, OnErr, MatchOption, MatchResult, Contains, drop};
 ghost use Rattle.std.specs.Prelude.{length};
 ghost use Rattle.cyk_io.specs.Causes.{HasCause};
@@ -13,15 +13,14 @@ use std::marker::Model;
 /// How many bytes are read ahead at most.
 const MAX_AHEAD: usize = 4096;
 
-/// Up to 4,096 bytes that were read ahead of a source, the offset of the next byte in the input,
-/// and whether the end of the input was seen. One belongs to one source.
+/// Up to 4,096 bytes that were read ahead of a source, and the offset of the next byte in the input.
+/// One belongs to one source.
 #[derive(Drop)]
 pub struct Ahead {
     buffer: [u8; MAX_AHEAD],
     start: usize,
     end: usize,
     offset: u64,
-    ended: bool,
 }
 
 impl Model for Ahead {
@@ -34,7 +33,6 @@ impl Model for Ahead {
     ghost view = { λ a. record {
       held = take (a.end - a.start) (drop a.start a.buffer);
       offset = a.offset;
-      ended = a.ended;
     } };
 
     ghost invariant = { λ a. (a.start ≤ a.end) × (a.end ≤ MAX_AHEAD) };
@@ -45,14 +43,12 @@ impl Ahead {
     pub fn new() -> Ahead
         ensures held { result.held ≡ [] }
         ensures offset { result.offset ≡ 0 }
-        ensures ended { IsFalse result.ended }
     {
         Ahead {
             buffer: [0; MAX_AHEAD],
             start: 0,
             end: 0,
             offset: 0,
-            ended: false,
         }
     }
 
@@ -90,7 +86,6 @@ impl Ahead {
         requires room { self.old.offset + count < 2 ^ 64 }
         ensures held { self.new.held ≡ drop count self.old.held }
         ensures offset { self.new.offset ≡ self.old.offset + count }
-        ensures ended { self.new.ended ≡ self.old.ended }
     {
         self.start += count;
         self.offset += count as u64;
@@ -101,7 +96,6 @@ impl Ahead {
         requires room { self.old.offset + 1 < 2 ^ 64 }
         ensures held { self.old.held ≡ result ∷ self.new.held }
         ensures offset { self.new.offset ≡ self.old.offset + 1 }
-        ensures ended { self.new.ended ≡ self.old.ended }
     {
         let byte = self.buffer[self.start];
         self.start += 1;
@@ -112,36 +106,28 @@ impl Ahead {
 
 fn fill<S: Source>(source: &mut S, ahead: &mut Ahead) -> Result<(), Failed>
     requires held { ahead.old.held ≡ [] }
-    requires end { IsTrue ahead.old.ended → IsAtEnd (S.left source.old) }
     ensures cause { HasCause (S.faults source.old) (S.faults source.new) (IsErr result) }
-    ensures end { IsTrue ahead.new.ended → IsAtEnd (S.left source.new) }
     ensures bytes { Stays (coming ahead.old (S.left source.old))
         (coming ahead.new (S.left source.new)) }
     ensures offset { ahead.new.offset ≡ ahead.old.offset }
-    ensures ok { OnOk result (ahead.new.held ≡ [] → IsTrue ahead.new.ended) }
+    ensures ok { OnOk result (ahead.new.held ≡ [] → IsAtEnd (S.left source.new)) }
     ensures err { OnErr result (ahead.new.held ≡ []) }
 {
-    if ahead.ended {
-        return Ok(());
-    }
     ahead.start = 0;
     ahead.end = 0;
     let count = source.read(&mut ahead.buffer)?;
     ahead.end = count;
-    ahead.ended = count == 0;
     Ok(())
 }
 
 /// Reads ahead where nothing is held. Nothing is held behind it only at the end, or where the read
 /// failed.
 pub(crate) fn refill<S: Source>(source: &mut S, ahead: &mut Ahead) -> Result<(), Failed>
-    requires end { IsTrue ahead.old.ended → IsAtEnd (S.left source.old) }
     ensures cause { HasCause (S.faults source.old) (S.faults source.new) (IsErr result) }
-    ensures end { IsTrue ahead.new.ended → IsAtEnd (S.left source.new) }
     ensures bytes { Stays (coming ahead.old (S.left source.old))
         (coming ahead.new (S.left source.new)) }
     ensures offset { ahead.new.offset ≡ ahead.old.offset }
-    ensures ok { OnOk result (ahead.new.held ≡ [] → IsTrue ahead.new.ended) }
+    ensures ok { OnOk result (ahead.new.held ≡ [] → IsAtEnd (S.left source.new)) }
     ensures err { OnErr result (ahead.new.held ≡ []) }
 {
     if ahead.is_empty() {
@@ -153,9 +139,7 @@ pub(crate) fn refill<S: Source>(source: &mut S, ahead: &mut Ahead) -> Result<(),
 /// Takes the next byte, or nothing at the end.
 pub(crate) fn next_byte<S: Source>(source: &mut S, ahead: &mut Ahead) -> Result<Option<u8>, Failed>
     requires room { ahead.old.offset + 1 < 2 ^ 64 }
-    requires end { IsTrue ahead.old.ended → IsAtEnd (S.left source.old) }
     ensures cause { HasCause (S.faults source.old) (S.faults source.new) (IsErr result) }
-    ensures end { IsTrue ahead.new.ended → IsAtEnd (S.left source.new) }
     ensures bytes { MatchResult result
         (λ next. TakesNext (coming ahead.old (S.left source.old))
         (coming ahead.new (S.left source.new)) next)

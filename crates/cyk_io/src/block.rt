@@ -3,7 +3,7 @@ ghost use Rattle.std.specs.Prelude.{◌≡◌, ℕ, ◌+◌, ◌-◌, ◌<◌, �
 ghost use Rattle.std.specs.Prelude.{IsErrOf, take, drop, length, vec_capacity, vec_len};
 ghost use Rattle.cyk_io.specs.Blocks.{BlockReads, BlockFails};
 ghost use Rattle.cyk_io.specs.Causes.{HasCause};
-ghost use Rattle.cyk_io.specs.Streams.{IsAtEnd, coming};
+ghost use Rattle.cyk_io.specs.Streams.{coming};
 ghost use Rattle.cyk_io.specs.KeptBytes.{kept_more};
 
 use crate::ahead::refill;
@@ -28,7 +28,6 @@ fn take_held(ahead: &mut Ahead, most: usize, kept: bool, into: &mut Vec<u8>) -> 
     ensures count { (0 < result) × (result ≤ most) × (result ≤ length ahead.old.held) }
     ensures held { ahead.new.held ≡ drop result ahead.old.held }
     ensures offset { ahead.new.offset ≡ ahead.old.offset + result }
-    ensures ended { ahead.new.ended ≡ ahead.old.ended }
     ensures items { into.new.items ≡ kept_more kept into.old.items (take result ahead.old.held) }
     ensures fits { IsTrue kept → vec_len into.new + (most - result) ≤ vec_capacity into.new }
 {
@@ -53,7 +52,6 @@ pub fn read_exact_n<S: Source>(
     into: &mut Vec<u8>,
 ) -> Result<ReadBlock, IoFault>
     requires room { ahead.old.offset + count < 2 ^ 63 }
-    requires end { IsTrue ahead.old.ended → IsAtEnd (S.left source.old) }
     ensures ok { IfOk result (BlockReads count keep ahead.old.offset ahead.new.offset
         (coming ahead.old (S.left source.old)) (coming ahead.new (S.left source.new))
         into.new.items) }
@@ -62,7 +60,6 @@ pub fn read_exact_n<S: Source>(
         (S.left source.new)) }
     ensures cause { HasCause (S.faults source.old) (S.faults source.new)
         (IsErrOf result IoFault.Read) }
-    ensures end { IsTrue ahead.new.ended → IsAtEnd (S.left source.new) }
 {
     into.clear();
     let kept = count <= keep;

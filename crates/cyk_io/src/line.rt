@@ -1,9 +1,9 @@
 //! A line of at most `N` bytes, and the call that reads one.
-ghost use Rattle.std.specs.Prelude.{◌≡◌, ℕ, ◌+◌, ◌<◌, ◌≤◌, ◌^◌, [], ◌∷◌, ◌++◌, IsTrue, IsErr, IfOk};
+ghost use Rattle.std.specs.Prelude.{◌≡◌, ℕ, ◌+◌, ◌<◌, ◌≤◌, ◌^◌, [], ◌∷◌, ◌++◌, IsErr, IfOk};
 ghost use Rattle.std.specs.Prelude.{IfErr, length};
 ghost use Rattle.cyk_io.specs.Causes.{HasCause};
 ghost use Rattle.cyk_io.specs.Lines.{LineReads, LineFails};
-ghost use Rattle.cyk_io.specs.Streams.{IsAtEnd, coming};
+ghost use Rattle.cyk_io.specs.Streams.{coming};
 
 use crate::ahead::next_byte;
 use crate::{Ahead, IoFault, Source};
@@ -80,13 +80,11 @@ pub fn read_line<S: Source, const N: usize>(
     line: &mut Line<N>,
 ) -> Result<ReadLine, IoFault>
     requires room { ahead.old.offset + N < 2 ^ 63 }
-    requires end { IsTrue ahead.old.ended → IsAtEnd (S.left source.old) }
     ensures ok { IfOk result (LineReads N ahead.old.offset ahead.new.offset
         (coming ahead.old (S.left source.old)) (coming ahead.new (S.left source.new)) line.new) }
     ensures err { IfErr result (LineFails N ahead.old.offset ahead.new
         (coming ahead.old (S.left source.old)) (S.left source.new) line.new) }
     ensures cause { HasCause (S.faults source.old) (S.faults source.new) (IsErr result) }
-    ensures end { IsTrue ahead.new.ended → IsAtEnd (S.left source.new) }
 {
     let start = ahead.offset();
     line.clear();

@@ -5,7 +5,7 @@ use Rattle.std.proofs.lemmas.Grind.{flat_map-append}
 use Rattle.std.proofs.lemmas.List.{drop_more, take-append-drop}
 use Rattle.std.proofs.lemmas.Option.{slice_get_within, get_or_from_slice_get}
 use Rattle.spec_lbnf.specs.declared.definition.Def.{Def}
-use Rattle.spec_lbnf.specs.declared.definition.Def.TheVariants.{Rule, Internal, Terminator, Separator, Coercions, Entry}
+use Rattle.spec_lbnf.specs.declared.definition.Def.TheVariants.{Rule, Internal, Terminator, Separator, Coercions, Entry, Token, LineComment, BlockComment}
 use Rattle.spec_lbnf.specs.declared.definition.RawRule.{RawRule}
 use Rattle.spec_lbnf.specs.Expansion.{first_entry, first_category, rules_of, rules_of_def}
 use Rattle.lbnf_grammar.proofs.LabelLemmas.{take_next}
@@ -21,6 +21,9 @@ first_entry-append (Internal rule ∷ defs) others = first_entry-append defs oth
 first_entry-append (Terminator nonempty cat word ∷ defs) others = first_entry-append defs others
 first_entry-append (Separator nonempty cat word ∷ defs) others = first_entry-append defs others
 first_entry-append (Coercions name levels ∷ defs) others = first_entry-append defs others
+first_entry-append (Token name expr ∷ defs) others = first_entry-append defs others
+first_entry-append (LineComment opening ∷ defs) others = first_entry-append defs others
+first_entry-append (BlockComment opening closing ∷ defs) others = first_entry-append defs others
 
 -- the category of the first rule of definitions
 abbrev pub first_rule_category : List Def → Option (List ℕ)

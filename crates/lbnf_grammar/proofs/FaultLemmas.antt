@@ -5,13 +5,20 @@ use Rattle.spec_lbnf.specs.declared.definition.Def.{Def}
 use Rattle.spec_grammar.specs.Grammars.{Grammar}
 use Rattle.spec_lbnf.specs.Expansion.{expansion_of}
 use Rattle.spec_lbnf.specs.declared.fault.GrammarFault.{GrammarFault}
-use Rattle.spec_lbnf.specs.Checks.{AtUnknown, IsWellLabelled, HasFewRules, HasOwnNames, AreAllKnown, IsFirstUnknown, unknown_fault}
+use Rattle.spec_lbnf.specs.declared.fault.GrammarFault.TheVariants.{RepeatedToken, UnknownCategory}
+use Rattle.spec_lbnf.specs.Checks.{AtOwnName, AtUnknown, IsWellLabelled, HasFewRules, HasOwnNames, AreAllKnown, IsFirstRepeated, IsFirstUnknown}
 use Rattle.lbnf_grammar.specs.Grammars.{IsSuchOrMemory, Expands}
 use Rattle.lbnf_grammar.specs.Checking.{AtCycleOf, PassesCycles}
 
+-- a fault that tells of the first repeated name tells that it is at fault
+pub repeated_tells : (defs : List Def) (name : List ℕ) → IsFirstRepeated defs name
+    → (fault : GrammarFault) → IsSuchOrMemory (λ why. why ≡ RepeatedToken name) fault → IsSuchOrMemory (AtOwnName defs) fault
+repeated_tells defs name first fault (inl memory) = inl memory
+repeated_tells defs name first fault (inr is) = inr (name, first, is)
+
 -- a fault that tells of the first unknown category tells that one is at fault
 pub unknown_tells : (defs : List Def) (name : List ℕ) (number : ℕ) → IsFirstUnknown defs name number
-    → (fault : GrammarFault) → IsSuchOrMemory (λ why. why ≡ unknown_fault name number) fault → IsSuchOrMemory (AtUnknown defs) fault
+    → (fault : GrammarFault) → IsSuchOrMemory (λ why. why ≡ UnknownCategory name number) fault → IsSuchOrMemory (AtUnknown defs) fault
 unknown_tells defs name number first fault (inl memory) = inl memory
 unknown_tells defs name number first fault (inr is) = inr (name, number, first, is)
 

@@ -4,6 +4,7 @@ pub mod DistinctLemmas
 pub mod RuleLemmas
 pub mod TableLemmas
 pub mod CheckingLemmas
+pub mod PredefinedLemmas
 pub mod CountLemmas
 pub mod LabelLemmas
 pub mod FaultLemmas

@@ -3,3 +3,4 @@ pub mod MadeRules
 pub mod Numbering
 pub mod Tables
 pub mod Checking
+pub mod PredefinedKinds

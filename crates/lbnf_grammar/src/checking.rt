@@ -1,48 +1,41 @@
-//! The checks of names: no predefined name has rules, and each category that is named has some.
-ghost use Rattle.std.specs.Prelude.{◌≡◌, ◌≤◌, [], flat_map, bytes_eq, All, MatchOption};
-ghost use Rattle.std.specs.List.{list_any};
+//! The checks of names: no name is repeated, and each category that is named is known.
+ghost use Rattle.std.specs.Prelude.{◌≡◌, ◌≤◌, [], All, MatchOption};
 ghost use Rattle.spec_lbnf.specs.Limits.{size_of};
-ghost use Rattle.spec_lbnf.specs.Checks.{predefined_names};
-ghost use Rattle.spec_lbnf.specs.Checks.{own_categories, IsFirstName, IsPredefined, IsFree};
-ghost use Rattle.spec_lbnf.specs.Checks.{unknown_fault, HasOwnNames};
+ghost use Rattle.spec_lbnf.specs.Expansion.{kind_names};
+ghost use Rattle.spec_lbnf.specs.Checks.{known_names, IsFirstName, HasOwnNames};
 ghost use Rattle.spec_lbnf.specs.Checks.{AtOwnName, AreAllKnown, AtUnknown};
+ghost use Rattle.spec_lbnf.specs.declared.fault.GrammarFault.TheVariants.{UnknownCategory};
+ghost use Rattle.spec_lbnf.specs.declared.fault.GrammarFault.TheVariants.{RepeatedToken};
 ghost use Rattle.lbnf_grammar.specs.Grammars.{IsSuchOrMemory};
 ghost use Rattle.lbnf_grammar.specs.Numbering.{with_new_names};
-ghost use Rattle.lbnf_grammar.specs.Checking.{Checks, IsListed, IsUnlisted};
+ghost use Rattle.lbnf_grammar.specs.Checking.{Checks, IsListed, IsUnlisted, HasTaken, used_names};
 
 use crate::expanded_def::ExpandedDef;
 use crate::names::Names;
-use crate::naming::{all_own_categories, named_categories};
+use crate::naming::{add_token_name, known_names, named_categories, own_names};
 use crate::texts::CategoryText;
-use spec_lbnf::GrammarFault;
+use spec_lbnf::{Def, GrammarFault};
 use std::alloc::Global;
 
-fn is_predefined(text: &[u8]) -> bool
-    ensures { result ≡ list_any (bytes_eq text.now) predefined_names }
-{
-    text == b"Integer".as_slice()
-        || text == b"Double".as_slice()
-        || text == b"Ident".as_slice()
-        || text == b"String".as_slice()
-        || text == b"Char".as_slice()
-}
-
-/// The first of the names that is predefined.
-fn first_predefined<'a, 'n>(names: &'a [CategoryText<'n>]) -> Option<&'a CategoryText<'n>>
-    ensures { MatchOption result (All IsFree names.now)
-        (λ name. IsFirstName IsPredefined names.now name.now) }
+/// The first of the names that is listed.
+fn first_listed<'a, 'n>(
+    known: &Names,
+    names: &'a [CategoryText<'n>],
+) -> Option<&'a CategoryText<'n>>
+    ensures { MatchOption result (All (IsUnlisted known.now) names.now)
+        (λ name. IsFirstName (IsListed known.now) names.now name.now) }
 {
     for name in names {
-        if is_predefined(name.as_str().as_bytes()) {
+        if known.has(name.as_str()) {
             return Some(name);
         }
     }
     None
 }
 
-/// That rules are given for the predefined name, or that memory ran out.
+/// That the name is repeated, or that memory ran out.
 fn repeated(alloc: Global, name: &CategoryText<'_>) -> GrammarFault
-    ensures { IsSuchOrMemory (λ why. why ≡ GrammarFault.RepeatedToken name.now) result }
+    ensures { IsSuchOrMemory (λ why. why ≡ RepeatedToken name.now) result }
 {
     match name.to_name(alloc) {
         Ok(name) => GrammarFault::RepeatedToken { name },
@@ -50,27 +43,40 @@ fn repeated(alloc: Global, name: &CategoryText<'_>) -> GrammarFault
     }
 }
 
-/// The categories that the definitions give rules for, or the first of them that is predefined.
+/// The names that the definition may not take: the earlier ones if it is a token definition, and
+/// else those of all kinds.
+fn taken<'a>(def: &Def, earlier: &'a Names, kinds: &'a Names) -> &'a Names
+    ensures { HasTaken earlier.now kinds.now def.now result.now }
+{
+    if let Def::Token { .. } = def {
+        earlier
+    } else {
+        kinds
+    }
+}
+
+/// Tells the first name that a definition repeats.
 pub(crate) fn check_own_names(
     alloc: Global,
     defs: &[ExpandedDef<'_>],
-) -> Result<Names, GrammarFault>
-    ensures { Checks
-        (λ known. HasOwnNames defs.now
-        × (known ≡ with_new_names [] (flat_map own_categories defs.now)))
-        (AtOwnName defs.now) result }
+    kinds: &Names,
+) -> Result<(), GrammarFault>
+    requires kinds { kinds.now ≡ kind_names defs.now }
+    ensures { Checks (λ done. HasOwnNames defs.now) (AtOwnName defs.now) result }
 {
-    let Ok(list) = all_own_categories(alloc, defs) else {
-        return Err(GrammarFault::Memory);
-    };
-    if let Some(name) = first_predefined(list.as_slice()) {
-        return Err(repeated(alloc, name));
+    let mut earlier = Names::new(alloc);
+    for def in defs {
+        let Ok(names) = own_names(alloc, def) else {
+            return Err(GrammarFault::Memory);
+        };
+        if let Some(name) = first_listed(taken(def.def(), &earlier, kinds), names.as_slice()) {
+            return Err(repeated(alloc, name));
+        }
+        let Ok(()) = add_token_name(alloc, &mut earlier, def.def()) else {
+            return Err(GrammarFault::Memory);
+        };
     }
-    let mut known = Names::new(alloc);
-    match known.add_all(alloc, list.as_slice()) {
-        Ok(()) => Ok(known),
-        Err(_) => Err(GrammarFault::Memory),
-    }
+    Ok(())
 }
 
 /// The first of the names that is not listed.
@@ -89,29 +95,29 @@ fn first_unlisted<'a, 'n>(
     None
 }
 
-/// That the definition names an unknown category, or a predefined one, or that memory ran out.
+/// That the definition names an unknown category, or that memory ran out.
 fn unknown(alloc: Global, name: &CategoryText<'_>, def: u32) -> GrammarFault
-    ensures { IsSuchOrMemory (λ why. why ≡ unknown_fault name.now def) result }
+    ensures { IsSuchOrMemory (λ why. why ≡ UnknownCategory name.now def) result }
 {
-    if is_predefined(name.as_str().as_bytes()) {
-        return GrammarFault::Unbuilt { def };
-    }
     match name.to_name(alloc) {
         Ok(name) => GrammarFault::UnknownCategory { name, def },
         Err(_) => GrammarFault::Memory,
     }
 }
 
-/// Tells the first category that is named and that no rule has.
-pub(crate) fn check_named(
+/// The kinds among the names that the definitions name, or the first of these that is not known.
+fn check_named_by(
     alloc: Global,
     defs: &[ExpandedDef<'_>],
+    kinds: &Names,
     known: &Names,
-) -> Result<(), GrammarFault>
+) -> Result<Names, GrammarFault>
     requires few { size_of defs.now ≤ 32768 }
-    requires listed { known.now ≡ with_new_names [] (flat_map own_categories defs.now) }
-    ensures { Checks (λ done. AreAllKnown defs.now) (AtUnknown defs.now) result }
+    requires listed { known.now ≡ with_new_names [] (known_names defs.now) }
+    ensures { Checks (λ used. AreAllKnown defs.now × (used ≡ used_names kinds.now defs.now))
+        (AtUnknown defs.now) result }
 {
+    let mut used = Names::new(alloc);
     for (number, def) in defs.iter().enumerate() {
         let Ok(names) = named_categories(alloc, def) else {
             return Err(GrammarFault::Memory);
@@ -119,6 +125,26 @@ pub(crate) fn check_named(
         if let Some(name) = first_unlisted(known, names.as_slice()) {
             return Err(unknown(alloc, name, number as u32));
         }
+        let Ok(()) = used.add_listed(alloc, kinds, names.as_slice()) else {
+            return Err(GrammarFault::Memory);
+        };
     }
-    Ok(())
+    Ok(used)
+}
+
+/// The kinds among the names that the definitions name, or the first of these that is no category
+/// of a rule and no kind.
+pub(crate) fn check_named(
+    alloc: Global,
+    defs: &[ExpandedDef<'_>],
+    kinds: &Names,
+) -> Result<Names, GrammarFault>
+    requires few { size_of defs.now ≤ 32768 }
+    ensures { Checks (λ used. AreAllKnown defs.now × (used ≡ used_names kinds.now defs.now))
+        (AtUnknown defs.now) result }
+{
+    let Ok(known) = known_names(alloc, defs) else {
+        return Err(GrammarFault::Memory);
+    };
+    check_named_by(alloc, defs, kinds, &known)
 }

@@ -38,6 +38,9 @@ fn def_rule_count(def: &Def) -> usize
         Def::Coercions { levels, .. } => *levels as usize + 1,
         Def::Internal(_) => 0,
         Def::Entry(_) => 0,
+        Def::Token { .. } => 0,
+        Def::LineComment(_) => 0,
+        Def::BlockComment(_, _) => 0,
     }
 }
 

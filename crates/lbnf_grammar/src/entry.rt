@@ -1,12 +1,13 @@
 //! The symbol that is asked for where none is named.
-ghost use Rattle.std.specs.Prelude.{◌≡◌, ◌<◌, ◌^◌, [], ◌∷◌, length, IfOk};
+ghost use Rattle.std.specs.Prelude.{◌≡◌, ◌<◌, ◌^◌, ◌+◌, [], ◌∷◌, length, IfOk};
 ghost use Rattle.std.specs.Option.{option_map};
 ghost use Rattle.spec_lbnf.specs.Expansion.{category_text, rules_of};
-ghost use Rattle.spec_grammar.specs.Grammars.{category_symbol};
 ghost use Rattle.spec_lbnf.specs.Expansion.{first_entry, first_category, entry_text};
+ghost use Rattle.spec_lbnf.specs.Expansion.{named_symbol};
+ghost use Rattle.lbnf_grammar.specs.Tables.{shown};
 
 use crate::expanded_def::ExpandedDef;
-use crate::numbering::category_number;
+use crate::numbering::category_symbol;
 use crate::tables::Tables;
 use spec_grammar::Symbol;
 use spec_lbnf::{CatName, Def, RawRule};
@@ -72,13 +73,13 @@ pub(crate) fn entry_symbol(
     tables: &Tables,
     defs: &[ExpandedDef<'_>],
 ) -> Result<Option<Symbol>, AllocError>
-    requires { length tables.now.categories < 2 ^ 16 }
+    requires categories { length tables.now.categories < 2 ^ 16 }
+    requires kinds { length tables.now.words + length tables.now.tokens < 2 ^ 16 }
     ensures { IfOk result (λ entry. entry
-        ≡ option_map (category_symbol tables.now.categories) (entry_text defs.now)) }
+        ≡ option_map (named_symbol (shown tables.now)) (entry_text defs.now)) }
 {
     let Some(cat) = entry_category(defs) else {
         return Ok(None);
     };
-    let number = category_number(alloc, tables, cat)?;
-    Ok(Some(Symbol::Category(number)))
+    Ok(Some(category_symbol(alloc, tables, cat)?))
 }

@@ -22,7 +22,12 @@ impl<'a> Model for ExpandedDef<'a> {
     ghost use Rattle.spec_lbnf.specs.declared.definition.Def.{Def};
     ghost use Rattle.lbnf_grammar.specs.MadeRules.{made_rules};
 
+    ghost use Rattle.std.specs.Coded.{codes};
+    ghost use Rattle.spec_lexing.specs.contracts.expression.Expr as expr;
+
     ghost Value = { Def };
+
+    ghost coded = { Prim.hlevel (codes, expr.the_row.coded) };
 
     ghost view = { λ expanded. expanded.def.now };
 

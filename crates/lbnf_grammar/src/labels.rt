@@ -141,6 +141,9 @@ fn label_fault(def: &Def) -> Option<LabelFault>
         Def::Terminator { .. } => None,
         Def::Separator { .. } => None,
         Def::Entry(_) => None,
+        Def::Token { .. } => None,
+        Def::LineComment(_) => None,
+        Def::BlockComment(_, _) => None,
     }
 }
 

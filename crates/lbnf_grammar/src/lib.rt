@@ -7,10 +7,12 @@ mod entry;
 mod expanded_def;
 mod expanding;
 mod labels;
+mod lexicon;
 mod macros;
 mod names;
 mod naming;
 mod numbering;
+mod predefined;
 mod tables;
 mod texts;
 

@@ -186,6 +186,11 @@ pub(crate) fn made_rules(alloc: Global, def: &Def) -> Result<Vec<RawRule>, Alloc
             word,
         } => separator_rules(alloc, *nonempty, cat, words(alloc, word)?.as_slice()),
         Def::Coercions { name, levels } => coercion_rules(alloc, name, *levels),
-        Def::Rule(_) | Def::Internal(_) | Def::Entry(_) => Ok(Vec::new(alloc)),
+        Def::Rule(_) => Ok(Vec::new(alloc)),
+        Def::Internal(_) => Ok(Vec::new(alloc)),
+        Def::Entry(_) => Ok(Vec::new(alloc)),
+        Def::Token { .. } => Ok(Vec::new(alloc)),
+        Def::LineComment(_) => Ok(Vec::new(alloc)),
+        Def::BlockComment(_, _) => Ok(Vec::new(alloc)),
     }
 }

@@ -1,7 +1,9 @@
 //! Names in the order in which they are first met.
-ghost use Rattle.std.specs.Prelude.{◌≡◌, [], ◌≤◌, length, OnOk, IfOk, bytes_eq};
+ghost use Rattle.std.specs.Prelude.{◌≡◌, [], ◌≤◌, length, filter, cond, OnOk};
+ghost use Rattle.std.specs.Prelude.{IfOk, bytes_eq};
 ghost use Rattle.std.specs.List.{list_any};
 ghost use Rattle.spec_grammar.specs.Grammars.{name_number};
+ghost use Rattle.spec_lbnf.specs.Expansion.{is_among};
 ghost use Rattle.lbnf_grammar.specs.Numbering.{with_new_name, with_new_names};
 
 use crate::texts::{CategoryText, name_of};
@@ -32,6 +34,13 @@ impl Names {
         Names {
             set: IndexSet::new(alloc),
         }
+    }
+
+    /// How many names there are.
+    pub(crate) fn len(&self) -> usize
+        ensures { result ≡ length self.now }
+    {
+        self.set.len()
     }
 
     /// Whether this is one of the names.
@@ -71,6 +80,38 @@ impl Names {
     {
         for name in names {
             self.add(alloc, name.as_str())?;
+        }
+        Ok(())
+    }
+
+    /// Adds the name, if it is new, and among these others.
+    fn add_if_listed(
+        &mut self,
+        alloc: Global,
+        others: &Names,
+        name: &str,
+    ) -> Result<(), AllocError>
+        ensures { OnOk result (self.new
+            ≡ cond (is_among others.now name.now) (with_new_name self.old name.now) self.old) }
+    {
+        if others.has(name) {
+            return self.add(alloc, name);
+        }
+        Ok(())
+    }
+
+    /// Adds those of the names that are new, and among these others.
+    pub(crate) fn add_listed(
+        &mut self,
+        alloc: Global,
+        others: &Names,
+        names: &[CategoryText<'_>],
+    ) -> Result<(), AllocError>
+        ensures { OnOk result
+            (self.new ≡ with_new_names self.old (filter (is_among others.now) names.now)) }
+    {
+        for name in names {
+            self.add_if_listed(alloc, others, name.as_str())?;
         }
         Ok(())
     }

@@ -2,11 +2,16 @@
 ghost use Rattle.std.specs.Prelude.{◌≡◌, [], ◌∷◌, ◌++◌, map, flat_map, option_to_list, IfOk, OnOk};
 ghost use Rattle.std.specs.Option.{option_map};
 ghost use Rattle.spec_lbnf.specs.declared.definition.RawRule.{RawRule};
+ghost use Rattle.spec_lexing.specs.Predefined.{predefined_names};
 ghost use Rattle.spec_lbnf.specs.Expansion.{category_text, item_categories, internal_category};
-ghost use Rattle.spec_lbnf.specs.Checks.{own_categories, named_categories};
+ghost use Rattle.spec_lbnf.specs.Expansion.{named_categories, names_in, token_in, token_names};
+ghost use Rattle.spec_lbnf.specs.Expansion.{kind_names};
+ghost use Rattle.spec_lbnf.specs.Checks.{own_categories, own_names, known_names};
+ghost use Rattle.lbnf_grammar.specs.Numbering.{with_new_names};
 
 use crate::expanded_def::ExpandedDef;
-use crate::texts::{CategoryText, category_text};
+use crate::names::Names;
+use crate::texts::{CategoryText, category_text, plain_text};
 use spec_lbnf::{CatName, Def, RawItem, RawRule};
 use std::alloc::{AllocError, Global};
 
@@ -46,8 +51,83 @@ fn own_categories<'a, 'd>(
     Ok(names)
 }
 
+/// The names that the definition takes: that of a token, or the categories that it gives rules for.
+pub(crate) fn own_names<'a, 'd>(
+    alloc: Global,
+    def: &'a ExpandedDef<'d>,
+) -> Result<Vec<CategoryText<'a>>, AllocError>
+    ensures { IfOk result (λ names. names.items ≡ own_names def.now) }
+{
+    if let Def::Token { name, .. } = def.def() {
+        return Ok(vec![in alloc; plain_text(name)]?);
+    }
+    own_categories(alloc, def)
+}
+
+/// Adds the name of the token that the definition defines, if it defines one.
+pub(crate) fn add_token_name(
+    alloc: Global,
+    names: &mut Names,
+    def: &Def,
+) -> Result<(), AllocError>
+    ensures { OnOk result
+        (names.new ≡ with_new_names names.old (names_in (token_in def.now))) }
+{
+    if let Def::Token { name, .. } = def {
+        return names.add(alloc, name.as_str());
+    }
+    Ok(())
+}
+
+/// Adds the names of the token definitions.
+pub(crate) fn add_token_names(
+    alloc: Global,
+    names: &mut Names,
+    defs: &[ExpandedDef<'_>],
+) -> Result<(), AllocError>
+    ensures { OnOk result (names.new ≡ with_new_names names.old (token_names defs.now)) }
+{
+    for def in defs {
+        add_token_name(alloc, names, def.def())?;
+    }
+    Ok(())
+}
+
+/// Adds the predefined names.
+fn add_predefined_names(alloc: Global, names: &mut Names) -> Result<(), AllocError>
+    ensures { OnOk result (names.new ≡ with_new_names names.old predefined_names) }
+{
+    names.add(alloc, "Integer")?;
+    names.add(alloc, "Double")?;
+    names.add(alloc, "Ident")?;
+    names.add(alloc, "String")?;
+    names.add(alloc, "Char")
+}
+
+/// The names that are no category's.
+pub(crate) fn kind_names(alloc: Global, defs: &[ExpandedDef<'_>]) -> Result<Names, AllocError>
+    ensures { IfOk result (λ names. names ≡ kind_names defs.now) }
+{
+    let mut names = Names::new(alloc);
+    add_token_names(alloc, &mut names, defs)?;
+    add_predefined_names(alloc, &mut names)?;
+    Ok(names)
+}
+
+/// The names that may be named: categories of rules, and names of kinds.
+pub(crate) fn known_names(alloc: Global, defs: &[ExpandedDef<'_>]) -> Result<Names, AllocError>
+    ensures { IfOk result (λ names. names ≡ with_new_names [] (known_names defs.now)) }
+{
+    let list = all_own_categories(alloc, defs)?;
+    let mut names = Names::new(alloc);
+    names.add_all(alloc, list.as_slice())?;
+    add_token_names(alloc, &mut names, defs)?;
+    add_predefined_names(alloc, &mut names)?;
+    Ok(names)
+}
+
 /// The categories that the definitions give rules for, with repetitions.
-pub(crate) fn all_own_categories<'a, 'd>(
+fn all_own_categories<'a, 'd>(
     alloc: Global,
     defs: &'a [ExpandedDef<'d>],
 ) -> Result<Vec<CategoryText<'a>>, AllocError>

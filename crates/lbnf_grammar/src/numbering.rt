@@ -1,7 +1,9 @@
 //! The numbers of a rule's symbols.
-ghost use Rattle.std.specs.Prelude.{◌≡◌, ◌<◌, ◌^◌, ◌++◌, map, length, IfOk, OnOk};
+ghost use Rattle.std.specs.Prelude.{◌≡◌, ◌<◌, ◌^◌, ◌+◌, ◌++◌, map, length, IfOk, OnOk};
 ghost use Rattle.spec_grammar.specs.Grammars.{name_number};
-ghost use Rattle.spec_lbnf.specs.Expansion.{category_text, item_symbol, numbered_rule, rules_of};
+ghost use Rattle.spec_lbnf.specs.Expansion.{category_text, named_symbol, item_symbol};
+ghost use Rattle.spec_lbnf.specs.Expansion.{numbered_rule, rules_of};
+ghost use Rattle.lbnf_grammar.specs.Tables.{shown};
 
 use crate::expanded_def::ExpandedDef;
 use crate::tables::Tables;
@@ -11,12 +13,37 @@ use spec_lbnf::{CatName, RawItem, RawRule};
 use sqlite_items::Items;
 use std::alloc::{AllocError, Global};
 
-/// The number of the category.
-pub(crate) fn category_number(
+/// The symbol of the name: the kind of the token of this name, if there is one, and else the
+/// category.
+fn named_symbol(tables: &Tables, name: &str) -> Symbol
+    requires categories { length tables.now.categories < 2 ^ 16 }
+    requires kinds { length tables.now.words + length tables.now.tokens < 2 ^ 16 }
+    ensures { result ≡ named_symbol (shown tables.now) name.now }
+{
+    if tables.tokens.has(name) {
+        let number = tables.words.len() + tables.tokens.number(name);
+        return Symbol::Kind(number as u16);
+    }
+    Symbol::Category(tables.categories.number(name) as u16)
+}
+
+/// The symbol of the category's text.
+pub(crate) fn category_symbol(
     alloc: Global,
     tables: &Tables,
     cat: &CatName,
-) -> Result<u16, AllocError>
+) -> Result<Symbol, AllocError>
+    requires categories { length tables.now.categories < 2 ^ 16 }
+    requires kinds { length tables.now.words + length tables.now.tokens < 2 ^ 16 }
+    ensures { IfOk result
+        (λ symbol. symbol ≡ named_symbol (shown tables.now) (category_text cat.now)) }
+{
+    let text = category_text(alloc, cat)?;
+    Ok(named_symbol(tables, text.as_str()))
+}
+
+/// The number of the category.
+fn category_number(alloc: Global, tables: &Tables, cat: &CatName) -> Result<u16, AllocError>
     requires { length tables.now.categories < 2 ^ 16 }
     ensures { IfOk result
         (λ number. number ≡ name_number tables.now.categories (category_text cat.now)) }
@@ -27,12 +54,11 @@ pub(crate) fn category_number(
 
 fn item_symbol(alloc: Global, tables: &Tables, item: &RawItem) -> Result<Symbol, AllocError>
     requires categories { length tables.now.categories < 2 ^ 16 }
-    requires words { length tables.now.words < 2 ^ 16 }
-    ensures { IfOk result
-        (λ symbol. symbol ≡ item_symbol tables.now.categories tables.now.words item.now) }
+    requires kinds { length tables.now.words + length tables.now.tokens < 2 ^ 16 }
+    ensures { IfOk result (λ symbol. symbol ≡ item_symbol (shown tables.now) item.now) }
 {
     match item {
-        RawItem::Cat(cat) => Ok(Symbol::Category(category_number(alloc, tables, cat)?)),
+        RawItem::Cat(cat) => category_symbol(alloc, tables, cat),
         RawItem::Word(word) => {
             let number = tables.words.number(word.as_str());
             Ok(Symbol::Kind(number as u16))
@@ -46,9 +72,9 @@ fn symbols_of(
     items: &[RawItem],
 ) -> Result<Items<Symbol>, AllocError>
     requires categories { length tables.now.categories < 2 ^ 16 }
-    requires words { length tables.now.words < 2 ^ 16 }
+    requires kinds { length tables.now.words + length tables.now.tokens < 2 ^ 16 }
     ensures { IfOk result (λ symbols.
-        symbols ≡ map (item_symbol tables.now.categories tables.now.words) items.now) }
+        symbols ≡ map (item_symbol (shown tables.now)) items.now) }
 {
     let mut symbols = Vec::with_capacity(alloc, items.len())?;
     for item in items {
@@ -59,9 +85,9 @@ fn symbols_of(
 
 fn numbered_rule(alloc: Global, tables: &Tables, rule: &RawRule) -> Result<Rule, AllocError>
     requires categories { length tables.now.categories < 2 ^ 16 }
-    requires words { length tables.now.words < 2 ^ 16 }
+    requires kinds { length tables.now.words + length tables.now.tokens < 2 ^ 16 }
     ensures { IfOk result (λ numbered.
-        numbered ≡ numbered_rule tables.now.categories tables.now.words rule.now) }
+        numbered ≡ numbered_rule (shown tables.now) rule.now) }
 {
     let category = category_number(alloc, tables, &rule.cat)?;
     let label = copy_label(alloc, &rule.label)?;
@@ -81,9 +107,9 @@ fn add_rules(
     rules: &[RawRule],
 ) -> Result<(), AllocError>
     requires categories { length tables.now.categories < 2 ^ 16 }
-    requires words { length tables.now.words < 2 ^ 16 }
+    requires kinds { length tables.now.words + length tables.now.tokens < 2 ^ 16 }
     ensures { OnOk result (numbered.new.items ≡ numbered.old.items
-        ++ map (numbered_rule tables.now.categories tables.now.words) rules.now) }
+        ++ map (numbered_rule (shown tables.now)) rules.now) }
 {
     for rule in rules {
         numbered.push(numbered_rule(alloc, tables, rule)?)?;
@@ -98,9 +124,9 @@ pub(crate) fn numbered_rules(
     defs: &[ExpandedDef<'_>],
 ) -> Result<Vec<Rule>, AllocError>
     requires categories { length tables.now.categories < 2 ^ 16 }
-    requires words { length tables.now.words < 2 ^ 16 }
+    requires kinds { length tables.now.words + length tables.now.tokens < 2 ^ 16 }
     ensures { IfOk result (λ numbered. numbered.items
-        ≡ map (numbered_rule tables.now.categories tables.now.words) (rules_of defs.now)) }
+        ≡ map (numbered_rule (shown tables.now)) (rules_of defs.now)) }
 {
     let mut numbered = Vec::new(alloc);
     for def in defs {

@@ -1,56 +1,73 @@
-//! The tables of categories and of words.
-ghost use Rattle.std.specs.Prelude.{◌≡◌, [], fold, flat_map, IfOk, OnOk};
-ghost use Rattle.spec_lbnf.specs.declared.definition.RawItem.TheVariants.{Cat};
-ghost use Rattle.spec_lbnf.specs.Expansion.{met_categories, rules_of, categories_of, words_of};
-ghost use Rattle.lbnf_grammar.specs.Tables.{with_item, with_rule, with_internal};
+//! The names by which symbols are numbered.
+ghost use Rattle.std.specs.Prelude.{◌≡◌, [], fold, flat_map, map, IfOk, OnOk};
+ghost use Rattle.spec_lbnf.specs.Expansion.{category_text, met_categories, rules_of};
+ghost use Rattle.spec_lbnf.specs.Expansion.{categories_of, words_of, kind_names, tables_of};
+ghost use Rattle.spec_lbnf.specs.Expansion.{names_in, tokens_of, active_kinds};
+ghost use Rattle.spec_lbnf.specs.Checks.{HasOwnNames};
+ghost use Rattle.lbnf_grammar.specs.PredefinedKinds.{predefined_token};
+ghost use Rattle.lbnf_grammar.specs.Tables.{with_category, with_item, with_rule, with_internal};
+ghost use Rattle.lbnf_grammar.specs.Tables.{shown};
 ghost use Rattle.lbnf_grammar.specs.Numbering.{with_new_names};
 
 use crate::expanded_def::ExpandedDef;
 use crate::names::Names;
-use crate::naming::internal_category;
+use crate::naming::{add_token_names, internal_category};
+use crate::predefined::Predefined;
 use crate::texts::category_text;
 use spec_lbnf::{CatName, RawItem, RawRule};
 use std::alloc::{AllocError, Global};
 
 /// The categories and the words of a grammar, each in the order in which its rules meet them.
 #[derive(Drop)]
-pub(crate) struct Tables {
-    pub(crate) categories: Names,
-    pub(crate) words: Names,
+pub(crate) struct MetNames {
+    categories: Names,
+    words: Names,
 }
 
-impl Tables {
+impl MetNames {
     fn add_category(&mut self, alloc: Global, cat: &CatName) -> Result<(), AllocError>
-        ensures { OnOk result (self.new ≡ with_item self.old (Cat cat.now)) }
+        ensures { OnOk result (self.new ≡ with_category self.old (category_text cat.now)) }
     {
         let text = category_text(alloc, cat)?;
         self.categories.add(alloc, text.as_str())
     }
 
-    fn add_item(&mut self, alloc: Global, item: &RawItem) -> Result<(), AllocError>
-        ensures { OnOk result (self.new ≡ with_item self.old item.now) }
+    /// Adds the item, if it is no kind.
+    fn add_item(&mut self, alloc: Global, kinds: &Names, item: &RawItem) -> Result<(), AllocError>
+        ensures { OnOk result (self.new ≡ with_item kinds.now self.old item.now) }
     {
         match item {
-            RawItem::Cat(cat) => self.add_category(alloc, cat),
+            RawItem::Cat(cat) => {
+                let text = category_text(alloc, cat)?;
+                if kinds.has(text.as_str()) {
+                    return Ok(());
+                }
+                self.categories.add(alloc, text.as_str())
+            }
             RawItem::Word(word) => self.words.add(alloc, word.as_str()),
         }
     }
 
-    fn add_rule(&mut self, alloc: Global, rule: &RawRule) -> Result<(), AllocError>
-        ensures { OnOk result (self.new ≡ with_rule self.old rule.now) }
+    fn add_rule(&mut self, alloc: Global, kinds: &Names, rule: &RawRule) -> Result<(), AllocError>
+        ensures { OnOk result (self.new ≡ with_rule kinds.now self.old rule.now) }
     {
         self.add_category(alloc, &rule.cat)?;
         for item in rule.items.as_slice() {
-            self.add_item(alloc, item)?;
+            self.add_item(alloc, kinds, item)?;
         }
         Ok(())
     }
 
-    fn add_rules(&mut self, alloc: Global, rules: &[RawRule]) -> Result<(), AllocError>
-        ensures { OnOk result (self.new ≡ fold with_rule self.old rules.now) }
+    fn add_rules(
+        &mut self,
+        alloc: Global,
+        kinds: &Names,
+        rules: &[RawRule],
+    ) -> Result<(), AllocError>
+        ensures { OnOk result (self.new ≡ fold (with_rule kinds.now) self.old rules.now) }
     {
         for rule in rules {
-            self.add_rule(alloc, rule)?;
+            self.add_rule(alloc, kinds, rule)?;
         }
         Ok(())
     }
@@ -65,31 +82,88 @@ impl Tables {
     }
 }
 
-/// The tables of what the rules of the definitions meet.
-fn rule_tables(alloc: Global, defs: &[ExpandedDef<'_>]) -> Result<Tables, AllocError>
-    ensures categories { IfOk result (λ tables.
-        tables.categories ≡ with_new_names [] (flat_map met_categories (rules_of defs.now))) }
-    ensures words { IfOk result (λ tables. tables.words ≡ words_of (rules_of defs.now)) }
+/// The names that the rules of the definitions meet.
+fn rule_names(
+    alloc: Global,
+    defs: &[ExpandedDef<'_>],
+    kinds: &Names,
+) -> Result<MetNames, AllocError>
+    ensures categories { IfOk result (λ met. met.categories
+        ≡ with_new_names [] (flat_map (met_categories kinds.now) (rules_of defs.now))) }
+    ensures words { IfOk result (λ met. met.words ≡ words_of (rules_of defs.now)) }
 {
-    let mut tables = Tables {
+    let mut met = MetNames {
         categories: Names::new(alloc),
         words: Names::new(alloc),
     };
     for def in defs {
-        tables.add_rules(alloc, def.rules())?;
+        met.add_rules(alloc, kinds, def.rules())?;
     }
-    Ok(tables)
+    Ok(met)
 }
 
-/// The tables of what the rules of the definitions meet, and of their internal categories behind
-/// it.
-pub(crate) fn tables_of(alloc: Global, defs: &[ExpandedDef<'_>]) -> Result<Tables, AllocError>
-    ensures categories { IfOk result (λ tables. tables.categories ≡ categories_of defs.now) }
-    ensures words { IfOk result (λ tables. tables.words ≡ words_of (rules_of defs.now)) }
+/// The names that the rules of the definitions meet, and their internal categories behind these.
+fn met_names(
+    alloc: Global,
+    defs: &[ExpandedDef<'_>],
+    kinds: &Names,
+) -> Result<MetNames, AllocError>
+    requires { kinds.now ≡ kind_names defs.now }
+    ensures categories { IfOk result (λ met. met.categories ≡ categories_of defs.now) }
+    ensures words { IfOk result (λ met. met.words ≡ words_of (rules_of defs.now)) }
 {
-    let mut tables = rule_tables(alloc, defs)?;
+    let mut met = rule_names(alloc, defs, kinds)?;
     for def in defs {
-        tables.add_internal(alloc, def)?;
+        met.add_internal(alloc, def)?;
     }
-    Ok(tables)
+    Ok(met)
+}
+
+/// The names by which symbols are numbered.
+#[derive(Drop)]
+pub(crate) struct Tables {
+    pub(crate) categories: Names,
+    pub(crate) words: Names,
+    /// The names of token definitions and, behind these, of active predefined kinds.
+    pub(crate) tokens: Names,
+}
+
+/// The names of the token definitions and, behind these, of the active predefined kinds.
+fn token_table(
+    alloc: Global,
+    defs: &[ExpandedDef<'_>],
+    active: &[Predefined],
+) -> Result<Names, AllocError>
+    requires own { HasOwnNames defs.now }
+    requires active { map predefined_token active.now ≡ active_kinds defs.now }
+    ensures { IfOk result (λ names. names ≡ names_in (tokens_of defs.now)) }
+{
+    let mut names = Names::new(alloc);
+    add_token_names(alloc, &mut names, defs)?;
+    for kind in active {
+        names.add(alloc, kind.name())?;
+    }
+    Ok(names)
+}
+
+/// The names of the grammar that the definitions stand for, of which these predefined kinds are
+/// active.
+pub(crate) fn tables_of(
+    alloc: Global,
+    defs: &[ExpandedDef<'_>],
+    kinds: &Names,
+    active: &[Predefined],
+) -> Result<Tables, AllocError>
+    requires kinds { kinds.now ≡ kind_names defs.now }
+    requires own { HasOwnNames defs.now }
+    requires active { map predefined_token active.now ≡ active_kinds defs.now }
+    ensures { IfOk result (λ tables. shown tables ≡ tables_of defs.now) }
+{
+    let MetNames { categories, words } = met_names(alloc, defs, kinds)?;
+    let tokens = token_table(alloc, defs, active)?;
+    Ok(Tables {
+        categories,
+        words,
+        tokens,
+    })
 }

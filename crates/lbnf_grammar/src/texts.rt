@@ -46,15 +46,26 @@ impl<'a> CategoryText<'a> {
     }
 }
 
-/// The category's name in its brackets.
+/// The name as it is, as a category without brackets has it.
+pub(crate) fn plain_text(name: &Name) -> CategoryText<'_>
+    ensures { result ≡ name.now }
+{
+    CategoryText {
+        name: name.as_str(),
+        bracketed: None,
+    }
+}
+
+/// The category's name in its brackets, made in one piece.
 fn bracketed(alloc: Global, cat: &CatName) -> Result<Name, AllocError>
     ensures { IfOk result (λ text. text ≡ category_text cat.now) }
 {
     let depth = cat.depth as usize;
-    let mut text = vec![in alloc; b'['; depth]?;
-    let closing = vec![in alloc; b']'; depth]?;
-    text.extend_from_slice(cat.name.as_slice())?;
-    text.extend_from_slice(closing.as_slice())?;
+    let name = cat.name.as_slice();
+    let mut text = Vec::with_capacity(alloc, name.len() + 2 * depth)?;
+    text.resize(depth, b'[')?;
+    text.extend_from_slice(name)?;
+    text.resize(name.len() + 2 * depth, b']')?;
     Ok(Name::of(text))
 }
 

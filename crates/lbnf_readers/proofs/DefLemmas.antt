@@ -1,5 +1,6 @@
 -- The reader of a definition tells of the definition that the tokens spell.
-use Rattle.std.proofs.Common.{◌≡◌, ℕ, List, [], ◌∷◌, ◌++◌, cond, Bool, true, false, codes, refl, sym, ap, subst, ◌∙◌, arith}
+use Rattle.std.proofs.Common.{◌≡◌, ℕ, ◌<◌, List, [], ◌∷◌, ◌++◌, length, cond, inl, inr, Bool, true, false, codes, refl, sym, ap, subst, ◌∙◌, arith}
+use Rattle.std.specs.List.{AllByRecursion}
 use Rattle.std.specs.Str.{bytes_eq}
 use Rattle.std.proofs.lemmas.Bool.{false≢true}
 use Rattle.std.proofs.lemmas.List.Elements.{All-from_recursion, recursion_from_All}
@@ -8,19 +9,21 @@ use Rattle.spec_grammar.specs.declared.rule.Label.{Label}
 use Rattle.spec_grammar.specs.declared.rule.Label.TheVariants.{Named, Wild, Nil, Cons, One}
 use Rattle.spec_lbnf.specs.declared.definition.CatName.{CatName}
 use Rattle.spec_lbnf.specs.declared.definition.Def.{Def}
-use Rattle.spec_lbnf.specs.declared.definition.Def.TheVariants.{Rule, Internal, Terminator, Separator, Coercions, Entry}
+use Rattle.spec_lbnf.specs.declared.definition.Def.TheVariants.{Rule, Internal, Terminator, Separator, Coercions, Entry, Token, LineComment, BlockComment}
 use Rattle.spec_lbnf.specs.declared.token.Sign.TheVariants.{OpenBracket, OpenParen, Underscore}
 use Rattle.spec_lbnf.specs.declared.token.FileToken.{FileToken}
 use Rattle.spec_lbnf.specs.declared.token.FileToken.TheVariants.{Identifier, Number, Text, Character}
 use Rattle.spec_lbnf.specs.declared.token.FileToken.TheVariants.{Sign as SignToken}
 use Rattle.spec_lbnf.specs.declared.token.PlacedToken.{PlacedToken}
 use Rattle.spec_lbnf.specs.GrammarFile.{starts_upper}
-use Rattle.spec_lbnf.specs.GrammarFile.{IsCategory, IsLabel, IsUpperName, label_tokens, category_tokens, entry_tokens, nonempty_tokens, keyword, SpellsRule, SpellsDef}
-use Rattle.lbnf_readers.specs.FileReading.{Read, next_on, ◌>>=◌, pure, to_end, is_word, rule_at, list_macro_at, coercions_at, entries_at, def_by, def_at}
-use Rattle.lbnf_readers.proofs.TokenTestLemmas.{word_true}
+use Rattle.spec_lbnf.specs.GrammarFile.{IsCategory, IsLabel, IsUpperName, label_tokens, category_tokens, entry_tokens, nonempty_tokens, position_tokens, keyword, SpellsRule, SpellsDef}
+use Rattle.spec_lbnf.specs.TokenExpressions.{SpellsExpr}
+use Rattle.lbnf_readers.specs.FileReading.{Read, next_on, ◌>>=◌, pure, to_end, is_word, rule_at, list_macro_at, coercions_at, entries_at, token_at, position_at, comment_at, def_by, def_at}
+use Rattle.lbnf_readers.proofs.TokenTestLemmas.{word_true, upper_some, upper_has}
 use Rattle.lbnf_readers.proofs.ReaderLemmas.{Spelling, IsNothing, GoesOn, Tells, Then, Gives, AtEnd, HaveShortNames, nothing_front, stuck_here, change_tells, then_tells, then_got, gives_tells, end_some, end_tells, to_end_tells, one_token}
 use Rattle.lbnf_readers.proofs.RuleLemmas.{RuleOf, one_rule, some_rule, rule_tells}
 use Rattle.lbnf_readers.proofs.FormLemmas.{WordOf, word_got, word_of, ListMacroOf, one_list_macro, list_macro_tells, CoercionsOf, one_coercions, coercions_tell, EntriesOf, one_entries, entries_tell}
+use Rattle.lbnf_readers.proofs.ExpressionLemmas.{one_expression, TokenRest, token_rest_tells, PositionRest, position_rest_tells, filled_some, filled_is, CommentEnd, CommentRest, comment_rest_tells}
 
 -- the tokens are a definition, and nothing is behind it
 abbrev pub DefOf : Spelling Def
@@ -34,6 +37,9 @@ def_kind (Terminator nonempty cat word) = 2
 def_kind (Separator nonempty cat word) = 3
 def_kind (Coercions name levels) = 4
 def_kind (Entry cats) = 5
+def_kind (Token name expr) = 6
+def_kind (LineComment opening) = 7
+def_kind (BlockComment opening closing) = 7
 
 -- the number of the form that begins with this word
 abbrev word_kind : List ℕ → ℕ
@@ -42,7 +48,10 @@ word_kind word =
     (cond (bytes_eq word (codes "terminator")) 2
     (cond (bytes_eq word (codes "separator")) 3
     (cond (bytes_eq word (codes "coercions")) 4
-    (cond (bytes_eq word (codes "entrypoints")) 5 0))))
+    (cond (bytes_eq word (codes "entrypoints")) 5
+    (cond (bytes_eq word (codes "token")) 6
+    (cond (bytes_eq word (codes "position")) 6
+    (cond (bytes_eq word (codes "comment")) 7 0)))))))
 
 -- the number of the form that begins with this token
 abbrev token_kind : FileToken → ℕ
@@ -68,6 +77,9 @@ upper_kind name upper =
       upper_differs name (codes "separator") upper refl,
       upper_differs name (codes "coercions") upper refl,
       upper_differs name (codes "entrypoints") upper refl,
+      upper_differs name (codes "token") upper refl,
+      upper_differs name (codes "position") upper refl,
+      upper_differs name (codes "comment") upper refl,
     ) refl
 
 -- a label begins a rule
@@ -96,6 +108,13 @@ def_some (Terminator nonempty cat word) is = cc is.1
 def_some (Separator nonempty cat word) is = cc is.1
 def_some (Coercions name levels) is = cc is.1
 def_some (Entry cats) is = cc is.2
+def_some (Token name expr) is = by is.position is.whole
+  where
+    by : (position : Bool) → [] ≡ position_tokens position ++ (keyword (codes "token") ∷ Identifier name ∷ is.own) → ⊥
+    by true e = cc e
+    by false e = cc e
+def_some (LineComment opening) is = cc is.1
+def_some (BlockComment opening closing) is = cc is.2
 
 -- the first token of a definition tells its form
 spelled_kind : (def : Def) (tokens more : List FileToken) (token : FileToken) → SpellsDef def tokens → tokens ≡ token ∷ more
@@ -111,6 +130,16 @@ spelled_kind (Coercions name levels) tokens more token is e =
     let same : token ≡ keyword (codes "coercions") = cc (is.1, e) in ap token_kind same
 spelled_kind (Entry cats) tokens more token is e =
     let same : token ≡ keyword (codes "entrypoints") = cc (is.2, e) in ap token_kind same
+spelled_kind (Token name expr) tokens more token is e = by is.position (sym e ∙ is.whole)
+  where
+    by : (position : Bool) → token ∷ more ≡ position_tokens position ++ (keyword (codes "token") ∷ Identifier name ∷ is.own)
+        → token_kind token ≡ 6
+    by true e = let same : token ≡ keyword (codes "position") = cc e in ap token_kind same
+    by false e = let same : token ≡ keyword (codes "token") = cc e in ap token_kind same
+spelled_kind (LineComment opening) tokens more token is e =
+    let same : token ≡ keyword (codes "comment") = cc (is.1, e) in ap token_kind same
+spelled_kind (BlockComment opening closing) tokens more token is e =
+    let same : token ≡ keyword (codes "comment") = cc (is.2, e) in ap token_kind same
 
 -- behind `internal`: a rule
 abbrev InternalRest : Spelling Def
@@ -239,6 +268,95 @@ entry_back (Entry cats) more rest is =
     (cats, refl, (is.0.0, recursion_from_All IsCategory cats is.0.1, cc is.0.2, is.1))
 entry_back def more rest is = absurd (omega (arith, kind_of_word def (codes "entrypoints") more rest is))
 
+-- a kind of token is the word, a name and an expression
+token_forth : IsBehind (codes "token") TokenRest
+token_forth def more rest is =
+    let Are : Def → Type 0 = λ d. DefOf d (keyword (codes "token") ∷ more) rest in
+    let upper = upper_some is.2.0 is.0 is.2.1 in
+    subst Are (sym is.3.1) (
+      record {
+        is_name = upper.1;
+        position = false;
+        own = is.1;
+        spelled = is.3.2.0;
+        whole = ap (λ zs. keyword (codes "token") ∷ zs) (is.2.2 ∙ ap (λ t. t ∷ is.1) upper.0);
+      },
+      is.3.2.1,
+    )
+
+-- nothing else is a kind of token
+token_back : HasBehind (codes "token") TokenRest
+token_back (Token name expr) more rest is = by is.0.position is.0.whole
+  where
+    by : (position : Bool)
+        → keyword (codes "token") ∷ more ≡ position_tokens position ++ (keyword (codes "token") ∷ Identifier name ∷ is.0.own)
+        → TokenRest (Token name expr) more rest
+    by true e = absurd (cc e)
+    by false e =
+        (name, is.0.own, (Identifier name, upper_has name is.0.is_name, cc e), (expr, refl, (is.0.spelled, is.1)))
+token_back def more rest is = absurd (omega (arith, kind_of_word def (codes "token") more rest is))
+
+-- and so is `position` before it
+position_forth : IsBehind (codes "position") PositionRest
+position_forth def more rest is =
+    let Are : Def → Type 0 = λ d. DefOf d (keyword (codes "position") ∷ more) rest in
+    let inner = is.3 in
+    let word = word_of (codes "token") is.2.0 is.0 is.2.1 in
+    let upper = upper_some inner.2.0 inner.0 inner.2.1 in
+    let tokens : is.1 ≡ Identifier inner.0 ∷ inner.1 = inner.2.2 ∙ ap (λ t. t ∷ inner.1) upper.0 in
+    subst Are (sym inner.3.1) (
+      record {
+        is_name = upper.1;
+        position = true;
+        own = inner.1;
+        spelled = inner.3.2.0;
+        whole = ap (λ zs. keyword (codes "position") ∷ zs) (is.2.2 ∙ (λ i. word i ∷ tokens i));
+      },
+      inner.3.2.1,
+    )
+
+-- nothing else begins so
+position_back : HasBehind (codes "position") PositionRest
+position_back (Token name expr) more rest is = by is.0.position is.0.whole
+  where
+    by : (position : Bool)
+        → keyword (codes "position") ∷ more ≡ position_tokens position ++ (keyword (codes "token") ∷ Identifier name ∷ is.0.own)
+        → PositionRest (Token name expr) more rest
+    by true e = (
+      tt,
+      Identifier name ∷ is.0.own,
+      (keyword (codes "token"), refl, cc e),
+      (name, is.0.own, (Identifier name, upper_has name is.0.is_name, refl), (expr, refl, (is.0.spelled, is.1))),
+    )
+    by false e = absurd (cc e)
+position_back def more rest is = absurd (omega (arith, kind_of_word def (codes "position") more rest is))
+
+-- a comment is the word and one text or two
+comment_forth : IsBehind (codes "comment") CommentRest
+comment_forth def more rest is = by is.3
+  where
+    Are : Def → Type 0
+    Are d = DefOf d (keyword (codes "comment") ∷ more) rest
+
+    opening : (is.2.0 ≡ Text is.0) × (0 < length is.0)
+    opening = filled_some is.2.0 is.0 is.2.1
+
+    by : CommentEnd is.0 def is.1 rest → DefOf def (keyword (codes "comment") ∷ more) rest
+    by (inl line) =
+        let whole : more ≡ Text is.0 ∷ [] = is.2.2 ∙ (λ i. opening.0 i ∷ line.1 i) in
+        subst Are (sym line.0) ((opening.1, ap (λ zs. keyword (codes "comment") ∷ zs) whole), line.2)
+    by (inr block) =
+        let whole : more ≡ Text is.0 ∷ Text block.0 ∷ [] = is.2.2 ∙ (λ i. opening.0 i ∷ block.3 i) in
+        subst Are (sym block.2) ((opening.1, block.1, ap (λ zs. keyword (codes "comment") ∷ zs) whole), block.4)
+
+-- nothing else is a comment
+comment_back : HasBehind (codes "comment") CommentRest
+comment_back (LineComment opening) more rest is =
+    (opening, [], (Text opening, filled_is opening is.0.0, cc is.0.1), inl (refl, refl, is.1))
+comment_back (BlockComment opening closing) more rest is =
+    (opening, Text closing ∷ [], (Text opening, filled_is opening is.0.0, cc is.0.2), inr (closing, is.0.1, refl, refl, is.1))
+comment_back def more rest is = absurd (omega (arith, kind_of_word def (codes "comment") more rest is))
+
 -- some definition can be read
 pub some_def : GoesOn IsNothing DefOf []
 some_def = (Rule some_rule.0, some_rule.1, λ others none. some_rule.2 others none)
@@ -250,15 +368,19 @@ rule_back (Rule rule) token tokens more rest begins kind is = (rule, refl, is)
 rule_back def token tokens more rest begins kind is =
     absurd (omega (arith, kind, spelled_kind def tokens more token is.0 begins))
 
+-- the token is none of the words
+abbrev IsNone : List (List ℕ) → FileToken → Type 0
+IsNone words token = AllByRecursion (λ word. is_word word token ≡ false) words
+
 -- a token that is none of the first words begins a rule
-no_word_kind : (token : FileToken) → is_word (codes "internal") token ≡ false → is_word (codes "terminator") token ≡ false
-    → is_word (codes "separator") token ≡ false → is_word (codes "coercions") token ≡ false
-    → is_word (codes "entrypoints") token ≡ false → token_kind token ≡ 0
-no_word_kind (Identifier name) a b c d e = rw (a, b, c, d, e) refl
-no_word_kind (Number value) a b c d e = refl
-no_word_kind (Text value) a b c d e = refl
-no_word_kind (Character value) a b c d e = refl
-no_word_kind (SignToken sign) a b c d e = refl
+no_word_kind : (token : FileToken)
+    → IsNone (codes "comment" ∷ codes "position" ∷ codes "token" ∷ codes "entrypoints" ∷ codes "coercions" ∷ codes "separator" ∷ codes "terminator" ∷ codes "internal" ∷ []) token
+    → token_kind token ≡ 0
+no_word_kind (Identifier name) (h, (g, (f, (e, (d, (c, (b, (a, end)))))))) = rw (a, b, c, d, e, f, g, h) refl
+no_word_kind (Number value) none = refl
+no_word_kind (Text value) none = refl
+no_word_kind (Character scalar) none = refl
+no_word_kind (SignToken sign) none = refl
 
 module _ (token : PlacedToken) (tokens : List PlacedToken) (short : HaveShortNames (token ∷ tokens)) where
   -- the reader of a rule, where no first word of another form stands
@@ -297,59 +419,60 @@ module _ (token : PlacedToken) (tokens : List PlacedToken) (short : HaveShortNam
       to_end_tells EntryRest tokens _
       (gives_tells IsNothing EntriesOf Entry tokens (entries_at tokens) (entries_tell tokens short.1))
 
-  -- the reader of a definition, by its first token
-  first_tells : Tells IsNothing DefOf (token ∷ tokens) (next_on to_end (def_by token tokens))
-  unfolding def_by
-  first_tells = by_internal (is_word (codes "internal") token.token) refl
+  -- the reader of a rule, and those that try a first word before it
+  abbrev rule_or : Read Def
+  rule_or = (rule_at >>= (λ rule. pure (Rule rule))) (token ∷ tokens)
+
+  abbrev comment_or : Read Def
+  comment_or = cond (is_word (codes "comment") token.token) (comment_at tokens) rule_or
+
+  abbrev position_or : Read Def
+  position_or = cond (is_word (codes "position") token.token) (position_at tokens) comment_or
+
+  abbrev token_or : Read Def
+  token_or = cond (is_word (codes "token") token.token) (token_at tokens) position_or
+
+  abbrev entry_or : Read Def
+  entry_or = cond (is_word (codes "entrypoints") token.token) ((entries_at >>= (λ cats. pure (Entry cats))) tokens) token_or
+
+  abbrev coercions_or : Read Def
+  coercions_or = cond (is_word (codes "coercions") token.token) (coercions_at tokens) entry_or
+
+  abbrev separator_or : Read Def
+  separator_or = cond (is_word (codes "separator") token.token) (list_macro_at Separator tokens) coercions_or
+
+  abbrev terminator_or : Read Def
+  terminator_or = cond (is_word (codes "terminator") token.token) (list_macro_at Terminator tokens) separator_or
+
+  -- what is read tells of a definition
+  abbrev TellsDef : Read Def → Type 0
+  TellsDef x = Tells IsNothing DefOf (token ∷ tokens) (next_on to_end x)
+
+  -- where the first word is this, the reader of what is behind it tells; else the others do
+  word_or_other : (word : List ℕ) (next : Spelling Def) (x other : Read Def) → IsBehind word next → HasBehind word next
+      → Tells IsNothing next tokens (next_on to_end x) → (is_word word token.token ≡ false → TellsDef other)
+      → TellsDef (cond (is_word word token.token) x other)
+  word_or_other word next x other forth back tells others = by (is_word word token.token) refl
     where
-      by_entry : (b : Bool) → is_word (codes "entrypoints") token.token ≡ b → is_word (codes "coercions") token.token ≡ false
-          → is_word (codes "separator") token.token ≡ false → is_word (codes "terminator") token.token ≡ false
-          → is_word (codes "internal") token.token ≡ false
-          → Tells IsNothing DefOf (token ∷ tokens) (next_on to_end
-          (cond b ((entries_at >>= (λ cats. pure (Entry cats))) tokens) ((rule_at >>= (λ rule. pure (Rule rule))) (token ∷ tokens))))
-      by_entry true e d c b a = word_tells (codes "entrypoints") EntryRest token tokens _ e short entry_forth entry_back entry_rest_tells
-      by_entry false e d c b a = plain_tells (no_word_kind token.token a b c d e)
+      by : (b : Bool) → is_word word token.token ≡ b → TellsDef (cond b x other)
+      by true e = word_tells word next token tokens _ e short forth back tells
+      by false e = others e
 
-      by_coercions : (b : Bool) → is_word (codes "coercions") token.token ≡ b
-          → is_word (codes "separator") token.token ≡ false → is_word (codes "terminator") token.token ≡ false
-          → is_word (codes "internal") token.token ≡ false
-          → Tells IsNothing DefOf (token ∷ tokens) (next_on to_end
-          (cond b (coercions_at tokens)
-          (cond (is_word (codes "entrypoints") token.token) ((entries_at >>= (λ cats. pure (Entry cats))) tokens)
-          ((rule_at >>= (λ rule. pure (Rule rule))) (token ∷ tokens)))))
-      by_coercions true d c b a = word_tells (codes "coercions") CoercionsRest token tokens _ d short coercions_forth coercions_back coercions_rest_tell
-      by_coercions false d c b a = by_entry (is_word (codes "entrypoints") token.token) refl d c b a
-
-      by_separator : (b : Bool) → is_word (codes "separator") token.token ≡ b → is_word (codes "terminator") token.token ≡ false
-          → is_word (codes "internal") token.token ≡ false
-          → Tells IsNothing DefOf (token ∷ tokens) (next_on to_end
-          (cond b (list_macro_at Separator tokens)
-          (cond (is_word (codes "coercions") token.token) (coercions_at tokens)
-          (cond (is_word (codes "entrypoints") token.token) ((entries_at >>= (λ cats. pure (Entry cats))) tokens)
-          ((rule_at >>= (λ rule. pure (Rule rule))) (token ∷ tokens))))))
-      by_separator true c b a = word_tells (codes "separator") (MacroRest Separator) token tokens _ c short separator_forth separator_back (macro_rest_tells Separator)
-      by_separator false c b a = by_coercions (is_word (codes "coercions") token.token) refl c b a
-
-      by_terminator : (b : Bool) → is_word (codes "terminator") token.token ≡ b → is_word (codes "internal") token.token ≡ false
-          → Tells IsNothing DefOf (token ∷ tokens) (next_on to_end
-          (cond b (list_macro_at Terminator tokens)
-          (cond (is_word (codes "separator") token.token) (list_macro_at Separator tokens)
-          (cond (is_word (codes "coercions") token.token) (coercions_at tokens)
-          (cond (is_word (codes "entrypoints") token.token) ((entries_at >>= (λ cats. pure (Entry cats))) tokens)
-          ((rule_at >>= (λ rule. pure (Rule rule))) (token ∷ tokens)))))))
-      by_terminator true b a = word_tells (codes "terminator") (MacroRest Terminator) token tokens _ b short terminator_forth terminator_back (macro_rest_tells Terminator)
-      by_terminator false b a = by_separator (is_word (codes "separator") token.token) refl b a
-
-      by_internal : (b : Bool) → is_word (codes "internal") token.token ≡ b
-          → Tells IsNothing DefOf (token ∷ tokens) (next_on to_end
-          (cond b ((rule_at >>= (λ rule. pure (Internal rule))) tokens)
-          (cond (is_word (codes "terminator") token.token) (list_macro_at Terminator tokens)
-          (cond (is_word (codes "separator") token.token) (list_macro_at Separator tokens)
-          (cond (is_word (codes "coercions") token.token) (coercions_at tokens)
-          (cond (is_word (codes "entrypoints") token.token) ((entries_at >>= (λ cats. pure (Entry cats))) tokens)
-          ((rule_at >>= (λ rule. pure (Rule rule))) (token ∷ tokens))))))))
-      by_internal true a = word_tells (codes "internal") InternalRest token tokens _ a short internal_forth internal_back internal_tells
-      by_internal false a = by_terminator (is_word (codes "terminator") token.token) refl a
+  -- the reader of a definition, by its first token
+  first_tells : TellsDef (def_by token tokens)
+  unfolding def_by
+  first_tells =
+      word_or_other (codes "internal") InternalRest _ terminator_or internal_forth internal_back internal_tells (λ a.
+      word_or_other (codes "terminator") (MacroRest Terminator) _ separator_or terminator_forth terminator_back (macro_rest_tells Terminator) (λ b.
+      word_or_other (codes "separator") (MacroRest Separator) _ coercions_or separator_forth separator_back (macro_rest_tells Separator) (λ c.
+      word_or_other (codes "coercions") CoercionsRest _ entry_or coercions_forth coercions_back coercions_rest_tell (λ d.
+      word_or_other (codes "entrypoints") EntryRest _ token_or entry_forth entry_back entry_rest_tells (λ e.
+      word_or_other (codes "token") TokenRest _ position_or token_forth token_back
+      (to_end_tells TokenRest tokens (token_at tokens) (token_rest_tells tokens short.1)) (λ f.
+      word_or_other (codes "position") PositionRest _ comment_or position_forth position_back
+      (to_end_tells PositionRest tokens (position_at tokens) (position_rest_tells tokens short.1)) (λ g.
+      word_or_other (codes "comment") CommentRest _ rule_or comment_forth comment_back (comment_rest_tells tokens short.1) (λ h.
+      plain_tells (no_word_kind token.token (h, (g, (f, (e, (d, (c, (b, (a, tt)))))))))))))))))
 
 -- the reader of a definition tells of the definition that the tokens are
 pub def_tells : (tokens : List PlacedToken) → HaveShortNames tokens → Tells IsNothing DefOf tokens (def_at tokens)
@@ -384,6 +507,31 @@ one_def (Entry a) (Entry b) tokens is_a is_b =
     let same : entry_tokens a ≡ entry_tokens b = cc (is_a.2, is_b.2) in
     ap Entry (one_entries a b (entry_tokens a) [] []
     (is_a.0, recursion_from_All IsCategory a is_a.1, refl, refl) (is_b.0, recursion_from_All IsCategory b is_b.1, same, refl)).0
+one_def (Token a x) (Token b y) tokens is_a is_b = by is_a.position is_b.position (sym is_a.whole ∙ is_b.whole)
+  where
+    parts : Identifier a ∷ is_a.own ≡ Identifier b ∷ is_b.own → Token a x ≡ Token b y
+    parts e =
+        let names : a ≡ b = cc e in
+        let same : is_a.own ≡ is_b.own = cc e in
+        let exprs = one_expression x y is_b.own (subst (SpellsExpr x) same is_a.spelled) is_b.spelled in
+        λ i. Token (names i) (exprs i)
+
+    by : (p q : Bool)
+        → position_tokens p ++ (keyword (codes "token") ∷ Identifier a ∷ is_a.own)
+        ≡ position_tokens q ++ (keyword (codes "token") ∷ Identifier b ∷ is_b.own)
+        → Token a x ≡ Token b y
+    by true true e = parts (cc e)
+    by false false e = parts (cc e)
+    by true false e = absurd (cc e)
+    by false true e = absurd (cc e)
+one_def (LineComment a) (LineComment b) tokens is_a is_b =
+    let same : a ≡ b = cc (is_a.1, is_b.1) in ap LineComment same
+one_def (BlockComment a x) (BlockComment b y) tokens is_a is_b =
+    let openings : a ≡ b = cc (is_a.2, is_b.2) in
+    let closings : x ≡ y = cc (is_a.2, is_b.2) in
+    λ i. BlockComment (openings i) (closings i)
+one_def (LineComment a) (BlockComment b y) tokens is_a is_b = absurd (cc (is_a.1, is_b.2))
+one_def (BlockComment a x) (LineComment b) tokens is_a is_b = absurd (cc (is_a.2, is_b.1))
 one_def a b tokens is_a is_b = absurd (differ tokens is_a is_b)
   where
     differ : (tokens : List FileToken) → SpellsDef a tokens → SpellsDef b tokens → ⊥

@@ -4,7 +4,7 @@ use Rattle.std.proofs.Math.Seq.{take-append_seam}
 use Rattle.std.proofs.lemmas.Bool.{false≢true}
 use Rattle.std.proofs.lemmas.List.{append-nil, length-map}
 use Rattle.spec_lbnf.specs.declared.definition.Def.{Def}
-use Rattle.spec_lbnf.specs.declared.token.Sign.TheVariants.{Semicolon, OpenParen}
+use Rattle.spec_lbnf.specs.declared.token.Sign.TheVariants.{Semicolon}
 use Rattle.spec_lbnf.specs.declared.token.FileToken.{FileToken}
 use Rattle.spec_lbnf.specs.declared.token.FileToken.TheVariants.{Identifier}
 use Rattle.spec_lbnf.specs.declared.token.FileToken.TheVariants.{Sign as SignToken}
@@ -22,22 +22,14 @@ use Rattle.lbnf_readers.proofs.ReaderLemmas.{IsNothing, GoesOn, IsGot, IsStuckAt
 use Rattle.spec_lbnf.proofs.BracketLemmas.{category_no_close}
 use Rattle.lbnf_readers.proofs.RuleLemmas.{category_some}
 use Rattle.lbnf_readers.proofs.DefLemmas.{DefOf, def_tells, def_some}
-use Rattle.spec_lbnf.proofs.PieceLemmas.{AreWithin, within_front, within_def, pieces_behind, one_piece, pieces_semicolon, pieces_ended, last_within, last_behind, semicolon_is, spelled_both, spelled_within, spelled_count}
+use Rattle.spec_lbnf.proofs.PieceLemmas.{AreWithin, within_front, within_def, pieces_behind, one_piece, pieces_semicolon, pieces_ended, last_within, last_behind, semicolon_is, spelled_both, spelled_within}
 
 -- a semicolon that cannot stand is a fault of syntax
-semicolon_fault : (number : ℕ) (piece : List FileToken) (at : ℕ) → piece_fault number piece (SignToken Semicolon) at ≡ Syntax at
-semicolon_fault number [] at = refl
-semicolon_fault number (Identifier first ∷ []) at = refl
-semicolon_fault number (Identifier first ∷ Identifier label ∷ []) at = refl
-semicolon_fault number piece at = refl
-
--- the number of a definition that has begun is no part of its fault
-same_fault : (n m : ℕ) (first : FileToken) (piece : List FileToken) (token : FileToken) (at : ℕ)
-    → piece_fault n (first ∷ piece) token at ≡ piece_fault m (first ∷ piece) token at
-same_fault n m (Identifier first) [] (Identifier word) at = refl
-same_fault n m (Identifier first) [] (SignToken OpenParen) at = refl
-same_fault n m (Identifier first) (Identifier label ∷ []) (SignToken OpenParen) at = refl
-same_fault n m first piece token at = refl
+semicolon_fault : (piece : List FileToken) (at : ℕ) → piece_fault piece (SignToken Semicolon) at ≡ Syntax at
+semicolon_fault [] at = refl
+semicolon_fault (Identifier first ∷ []) at = refl
+semicolon_fault (Identifier first ∷ Identifier label ∷ []) at = refl
+semicolon_fault piece at = refl
 
 -- a front, by the length of what is behind it
 front_of : (piece front rest : List PlacedToken) → piece ≡ front ++ rest → take (length piece - length rest) piece ≡ front
@@ -176,7 +168,7 @@ module _ (bytes : List ℕ) (all : List PlacedToken) (stop : ℕ) where
   Outcome defs (Err fault) = HasFault fault
 
   module _ (ends : (stop < length bytes) ⊎ (stop ≡ length bytes)) (earlier : List PlacedToken) (defs : List Def)
-      (done : IsDone true earlier defs) (number : ℕ) (is_number : number ≡ length defs)
+      (done : IsDone true earlier defs)
       (first : PlacedToken) (others after : List PlacedToken) (whole : all ≡ earlier ++ ((first ∷ others) ++ after))
       (within : AreWithin (bare (first ∷ others))) where
     -- the piece that is read
@@ -193,28 +185,15 @@ module _ (bytes : List ℕ) (all : List PlacedToken) (stop : ℕ) where
 
     -- the fault of a token within the piece is that of the file
     fault_within : (front : List PlacedToken) → AreWithin (bare front) → (token : FileToken) (at : ℕ)
-        → piece_fault number (bare front) token at ≡ token_fault (bare (earlier ++ front)) token at
-    fault_within front within_front token at =
-        by (bare front) refl
-        ∙ ap (λ ts. piece_fault (length (pieces_of (bare (earlier ++ front)))) ts token at) (sym last)
+        → piece_fault (bare front) token at ≡ token_fault (bare (earlier ++ front)) token at
+    fault_within front within_front token at = ap (λ ts. piece_fault ts token at) (sym last)
       where
         last : last_piece (bare (earlier ++ front)) ≡ bare front
         last = ap last_piece (bare-append earlier front) ∙ done.last (bare front) refl ∙ last_within (bare front) within_front
 
-        count : bare front ≡ [] → number ≡ length (pieces_of (bare (earlier ++ front)))
-        count none =
-            let cut : pieces_of (bare (earlier ++ front)) ≡ done.pieces
-            = ap pieces_of (bare-append earlier front ∙ ap (λ ts. bare earlier ++ ts) none) ∙ done.cut [] tt ∙ append-nil done.pieces in
-            is_number ∙ spelled_count defs done.pieces done.spelled ∙ ap length (sym cut)
-
-        by : (own : List FileToken) → bare front ≡ own
-            → piece_fault number own token at ≡ piece_fault (length (pieces_of (bare (earlier ++ front)))) own token at
-        by [] e = ap (λ n. piece_fault n [] token at) (count e)
-        by (x ∷ own) e = same_fault number (length (pieces_of (bare (earlier ++ front)))) x own token at
-
     -- the piece cannot go on with a token of it
     stuck_within : (token : PlacedToken) (rest : List PlacedToken) (is : IsStuckAt IsNothing DefOf piece (token ∷ rest))
-        → HasFault (piece_fault number (bare is.front) token.token token.offset)
+        → HasFault (piece_fault (bare is.front) token.token token.offset)
     stuck_within token rest is = record {
       front = earlier ++ is.front;
       rest = token ∷ rest ++ after;
@@ -302,7 +281,7 @@ module _ (bytes : List ℕ) (all : List PlacedToken) (stop : ℕ) where
               (at_token semicolon rest (whole ∙ sym (append_assoc earlier piece (semicolon ∷ rest)))
               (λ can. none_spelled can.1 (semicolon.token ∷ can.0) fits
               (subst (SpellsDefs can.1) (append_assoc (bare (earlier ++ piece)) (semicolon.token ∷ []) can.0) can.2))
-              (rw (semicolon_is semicolon.token fits) (sym (semicolon_fault (length (pieces_of (bare (earlier ++ piece)))) (last_piece (bare (earlier ++ piece))) semicolon.offset))));
+              (rw (semicolon_is semicolon.token fits) (sym (semicolon_fault (last_piece (bare (earlier ++ piece))) semicolon.offset))));
         }
 
     -- the piece has a category that is too long
@@ -378,7 +357,7 @@ module _ (bytes : List ℕ) (all : List PlacedToken) (stop : ℕ) where
     -- what is read of a piece, and of the tokens behind it
     read_piece : (x : Read Def) → Tells IsNothing DefOf piece x → Fits false (bare after) → (behind : Result (List Def) TextFault)
         → ((def : Def) → IsDone false (earlier ++ piece) (defs ++ def ∷ []) → Outcome (defs ++ def ∷ []) behind)
-        → Outcome defs (and_defs (def_or_fault number piece (offset_of after stop) x) behind)
+        → Outcome defs (and_defs (def_or_fault piece (offset_of after stop) x) behind)
     read_piece (got def rest) is fits (Ok more) behind_is =
         let behind = behind_is def (got_whole def rest is) in
         (subst (λ list. SpellsDefs list (bare all)) (append_assoc defs (def ∷ []) more) behind.0, behind.1)
@@ -433,10 +412,10 @@ module _ (bytes : List ℕ) (all : List PlacedToken) (stop : ℕ) (ends : (stop 
   -- what is read of the tokens behind definitions that are done, in so many turns
   abbrev TellsAll : ℕ → Type 0
   TellsAll turns =
-      (number : ℕ) (open_for_more : Bool) (earlier tokens : List PlacedToken) (defs : List Def)
+      (open_for_more : Bool) (earlier tokens : List PlacedToken) (defs : List Def)
       → IsDone open_for_more earlier defs → Fits open_for_more (bare tokens) → all ≡ earlier ++ tokens
-      → number ≡ length defs → length tokens ≤ turns → HaveShortNames tokens
-      → Outcome bytes all stop defs (defs_at turns number tokens stop)
+      → length tokens ≤ turns → HaveShortNames tokens
+      → Outcome bytes all stop defs (defs_at turns tokens stop)
 
   -- behind the last token the definitions are those of the file
   tell_end : (open_for_more : Bool) (earlier : List PlacedToken) (defs : List Def)
@@ -450,50 +429,49 @@ module _ (bytes : List ℕ) (all : List PlacedToken) (stop : ℕ) (ends : (stop 
       (spelled, subst (λ ts. LacksLong (bare ts)) (sym is_all) done.closed.lacks)
 
   -- the first token is a semicolon, or begins a definition
-  tell_first : (turns : ℕ) → TellsAll turns → (number : ℕ) (open_for_more : Bool) (earlier : List PlacedToken) (token : PlacedToken)
+  tell_first : (turns : ℕ) → TellsAll turns → (open_for_more : Bool) (earlier : List PlacedToken) (token : PlacedToken)
       (tokens : List PlacedToken) (defs : List Def) → IsDone open_for_more earlier defs → Fits open_for_more (bare (token ∷ tokens))
-      → all ≡ earlier ++ token ∷ tokens → number ≡ length defs → length (token ∷ tokens) ≤ suc turns → HaveShortNames (token ∷ tokens)
+      → all ≡ earlier ++ token ∷ tokens → length (token ∷ tokens) ≤ suc turns → HaveShortNames (token ∷ tokens)
       → (b : Bool) → is_semicolon token.token ≡ b
       → Outcome bytes all stop defs
-      (cond b (defs_at turns number tokens stop)
+      (cond b (defs_at turns tokens stop)
       (and_defs
-      (piece_def number (cond b [] (token ∷ piece_at tokens)) (offset_of (cond b (token ∷ tokens) (behind_piece tokens)) stop))
-      (defs_at turns (suc number) (cond b (token ∷ tokens) (behind_piece tokens)) stop)))
+      (piece_def (cond b [] (token ∷ piece_at tokens)) (offset_of (cond b (token ∷ tokens) (behind_piece tokens)) stop))
+      (defs_at turns (cond b (token ∷ tokens) (behind_piece tokens)) stop)))
   unfolding piece_def
-  tell_first turns tell number open_for_more earlier token tokens defs done fits whole is_number few short true e =
-      tell number true (earlier ++ token ∷ []) tokens defs
+  tell_first turns tell open_for_more earlier token tokens defs done fits whole few short true e =
+      tell true (earlier ++ token ∷ []) tokens defs
       (done_semicolon open_for_more earlier defs token e (fits_first open_for_more token.token (bare tokens) fits) done) tt
-      (whole ∙ sym (append_assoc earlier (token ∷ []) tokens)) is_number (omega (arith, few)) short.1
-  tell_first turns tell number false earlier token tokens defs done fits whole is_number few short false e =
+      (whole ∙ sym (append_assoc earlier (token ∷ []) tokens)) (omega (arith, few)) short.1
+  tell_first turns tell false earlier token tokens defs done fits whole few short false e =
       absurd (false≢true (sym e ∙ fits))
-  tell_first turns tell number true earlier token tokens defs done fits whole is_number few short false e =
+  tell_first turns tell true earlier token tokens defs done fits whole few short false e =
       let piece : List PlacedToken = token ∷ piece_at tokens in
       let after : List PlacedToken = behind_piece tokens in
       let parts : token ∷ tokens ≡ piece ++ after = ap (λ ts. token ∷ ts) (piece_whole tokens) in
       let is_all : all ≡ earlier ++ (piece ++ after) = whole ∙ ap (λ ts. earlier ++ ts) parts in
       let within : AreWithin (bare piece) = (e, piece_within tokens) in
       let short_parts : HaveShortNames (piece ++ after) = subst HaveShortNames parts short in
-      read_piece bytes all stop ends earlier defs done number is_number token (piece_at tokens) after is_all within
+      read_piece bytes all stop ends earlier defs done token (piece_at tokens) after is_all within
       (def_at piece) (def_tells piece (short_before piece after short_parts)) (behind_fits tokens)
-      (defs_at turns (suc number) after stop)
+      (defs_at turns after stop)
       (λ def done_there.
-      tell (suc number) false (earlier ++ piece) after (defs ++ def ∷ []) done_there (behind_fits tokens)
+      tell false (earlier ++ piece) after (defs ++ def ∷ []) done_there (behind_fits tokens)
       (is_all ∙ sym (append_assoc earlier piece after))
-      (omega (arith, is_number, length-append defs (def ∷ [])))
       (omega (arith, few, ap length parts, length-append piece after))
       (short_behind piece after short_parts))
 
   -- what is read of all the tokens behind definitions that are done
   tell_all : (turns : ℕ) → TellsAll turns
   unfolding defs_at
-  tell_all turns number open_for_more earlier [] defs done fits whole is_number few short =
+  tell_all turns open_for_more earlier [] defs done fits whole few short =
       tell_end open_for_more earlier defs done whole
-  tell_all zero number open_for_more earlier (token ∷ tokens) defs done fits whole is_number few short =
+  tell_all zero open_for_more earlier (token ∷ tokens) defs done fits whole few short =
       absurd (omega (arith, few))
-  tell_all (suc turns) number open_for_more earlier (token ∷ tokens) defs done fits whole is_number few short =
-      tell_first turns (tell_all turns) number open_for_more earlier token tokens defs done fits whole is_number few short
+  tell_all (suc turns) open_for_more earlier (token ∷ tokens) defs done fits whole few short =
+      tell_first turns (tell_all turns) open_for_more earlier token tokens defs done fits whole few short
       (is_semicolon token.token) refl
 
   -- what is read of a file's tokens is the definitions that they spell, or their first fault
   pub defs_tell : HaveShortNames all → Outcome bytes all stop [] (defs_of all stop)
-  defs_tell short = tell_all (length all) 0 true [] all [] nothing_done tt refl refl (omega arith) short
+  defs_tell short = tell_all (length all) true [] all [] nothing_done tt refl (omega arith) short

@@ -1,5 +1,5 @@
 -- A file has one first fault, or spells one list of definitions.
-use Rattle.std.proofs.Common.{◌≡◌, ℕ, zero, suc, ◌+◌, ◌≤◌, ◌<◌, List, [], ◌∷◌, ◌++◌, length, take, Bool, true, false, cond, Result, Ok, Err, ◌⊎◌, inl, inr, refl, sym, ap, subst, ◌∙◌, append_assoc, arith, length-append}
+use Rattle.std.proofs.Common.{◌≡◌, ℕ, zero, suc, ◌+◌, ◌≤◌, ◌<◌, List, [], ◌∷◌, ◌++◌, length, take, slice_get, Bool, true, false, cond, Result, Ok, Err, ◌⊎◌, inl, inr, refl, sym, ap, subst, ◌∙◌, append_assoc, arith, length-append}
 use Rattle.std.specs.Prelude.{IsUtf8}
 use Rattle.std.specs.Str.{is_utf8}
 use Rattle.std.specs.Str.Lossy.{utf8_valid_len, valid_len_up_to}
@@ -15,8 +15,13 @@ use Rattle.spec_lbnf.specs.declared.token.PlacedToken.{PlacedToken}
 use Rattle.spec_lbnf.specs.FileTokens.{IsScan, AreFileTokensFrom, IsTokenBefore}
 use Rattle.spec_lbnf.specs.GrammarFile.{category_tokens, SpellsDefs, AreSpelledBy, pieces_of}
 use Rattle.spec_lbnf.specs.declared.fault.TextFault.{TextFault}
-use Rattle.spec_lbnf.specs.declared.fault.TextFault.TheVariants.{NotUtf8, Syntax, TooLarge}
-use Rattle.spec_lbnf.specs.Faults.{bare, CanGoOn, HasLongCategory, LacksLong, IsSmallText, IsFirstLong, IsFront, FaultAt, Spells, IsFirstFault, is_large, is_not_utf8, in_tokens}
+use Rattle.spec_lbnf.specs.declared.fault.TextFault.TheVariants.{NotUtf8, Syntax, TooLarge, BadDifference}
+use Rattle.spec_lbnf.specs.Faults.{bare, CanGoOn, HasLongCategory, LacksLong, IsSmallText, IsFirstLong, IsFront, FaultAt, HasForm, Spells, IsFirstBadAt, IsFirstFault, is_large, is_not_utf8, in_tokens, bad_difference}
+use Rattle.spec_lbnf.specs.Checks.{HasAt}
+use Rattle.spec_lbnf.specs.Differences.{differences_of, IsGood, IsBad, HasGoodDifferences, minus_signs}
+use Rattle.spec_lbnf.proofs.FirstLemmas.{one_first, none_at}
+use Rattle.lbnf_readers.proofs.DifferenceTests.{good_or_first, first_at}
+use Rattle.std.proofs.lemmas.Option.{same_Some}
 use Rattle.lbnf_readers.specs.FileFaults.{token_fault}
 use Rattle.lbnf_readers.proofs.RowLemmas.{StopsBehind, at_token, at_bytes, at_end, FaultsAt, at_long, behind as goes_no_further, row_of, told_of}
 use Rattle.lbnf_readers.specs.FileDefinitions.{defs_of}
@@ -217,18 +222,27 @@ module _ (bytes : List ℕ) (tokens : List PlacedToken) (stop : ℕ) (scan : IsS
       defs_tell bytes tokens stop (before_or_at stop (length bytes) (rises bytes tokens stop scan).1)
       (scan_short 0 bytes tokens stop scan)
 
-  -- the definitions that are read of tokens that reach the end of the file are those of the file
-  pub defs_are : (defs : List Def) → IsSmallText bytes → stop ≡ length bytes → defs_of tokens stop ≡ Ok defs
-      → Spells bytes defs
-  defs_are defs small end read =
+  -- where the tokens reach the end of the file, it has the form of the definitions that are read
+  pub form_is : (defs : List Def) → IsSmallText bytes → stop ≡ length bytes → defs_of tokens stop ≡ Ok defs
+      → HasForm bytes tokens defs
+  form_is defs small end read =
       let is : SpellsDefs defs (bare tokens) × LacksLong (bare tokens) = subst (Outcome bytes tokens stop []) read scanned_tell in
       record {
         small = small;
-        tokens = tokens;
         scan = subst (IsScan bytes tokens) end scan;
         spelled = is.0;
         short = is.1;
       }
+
+  -- and these are the definitions of the file, if each difference is good
+  pub defs_are : (defs : List Def) → IsSmallText bytes → stop ≡ length bytes → defs_of tokens stop ≡ Ok defs
+      → HasGoodDifferences defs → Spells bytes defs
+  defs_are defs small end read good = record { tokens = tokens; form = form_is defs small end read; good = good }
+
+  -- else the file has a fault at the minus sign of the first that is not
+  pub bad_is : (defs : List Def) (offset : ℕ) → IsSmallText bytes → stop ≡ length bytes → defs_of tokens stop ≡ Ok defs
+      → IsFirstBadAt tokens defs offset → IsFirstFault bytes (BadDifference offset)
+  bad_is defs offset small end read first = bad_difference tokens defs (form_is defs small end read) offset first refl
 
   -- where the tokens spell definitions, and do not reach the end of the file, it has a fault where
   -- they end
@@ -247,11 +261,16 @@ module _ (bytes : List ℕ) (tokens : List PlacedToken) (stop : ℕ) (scan : IsS
       in_tokens small tokens stop scan is.front (record { behind = is.rest; split = is.split; viable = is.viable })
       (row_of bytes tokens stop is.front fault is.faults)
 
+-- a file has the form of at most one list of definitions, by one list of tokens
+one_form : (bytes : List ℕ) (xs ys : List PlacedToken) (a b : List Def) → HasForm bytes xs a → HasForm bytes ys b → (xs ≡ ys) × (a ≡ b)
+one_form bytes xs ys a b first second =
+    let same = one_scan bytes xs ys (length bytes) (length bytes) first.scan second.scan in
+    (same.0, one_list_of_defs (bare ys) a b (subst (λ ts. SpellsDefs a (bare ts)) same.0 first.spelled) second.spelled)
+
 -- a file spells at most one list of definitions
 pub one_file_of_defs : OneFileOfDefs
 one_file_of_defs bytes a b first second =
-    let same = one_scan bytes first.tokens second.tokens (length bytes) (length bytes) first.scan second.scan in
-    one_list_of_defs (bare second.tokens) a b (subst (λ ts. SpellsDefs a (bare ts)) same.0 first.spelled) second.spelled
+    (one_form bytes first.tokens second.tokens a b first.form second.form).1
 
 -- bytes that stop being UTF-8 early are not UTF-8
 utf8_whole : (bytes : List ℕ) → utf8_valid_len bytes < length bytes → IsUtf8 bytes → ⊥
@@ -276,19 +295,6 @@ one_token_fault bytes a b xs ys m n scan again first second =
     one_of_tokens bytes ys n a b
     (subst (λ k. HasFault bytes ys k a) same.1 (subst (λ ts. HasFault bytes ts m a) same.0 first)) second
 
--- a file has at most one first fault
-pub one_first_fault : OneFirstFault
-one_first_fault bytes a b (is_large large is_a) (is_large more is_b) = is_a ∙ sym is_b
-one_first_fault bytes a b (is_large large is_a) (is_not_utf8 few early is_b) = absurd (omega (arith, large, few))
-one_first_fault bytes a b (is_large large is_a) (in_tokens small ys n again other front at) = absurd (omega (arith, large, small.few))
-one_first_fault bytes a b (is_not_utf8 few early is_a) (is_large large is_b) = absurd (omega (arith, large, few))
-one_first_fault bytes a b (is_not_utf8 few early is_a) (is_not_utf8 also more is_b) = is_a ∙ sym is_b
-one_first_fault bytes a b (is_not_utf8 few early is_a) (in_tokens small ys n again other front at) = absurd (utf8_whole bytes early small.utf8)
-one_first_fault bytes a b (in_tokens small xs m scan front is at) (is_large large is_b) = absurd (omega (arith, large, small.few))
-one_first_fault bytes a b (in_tokens small xs m scan front is at) (is_not_utf8 also early is_b) = absurd (utf8_whole bytes early small.utf8)
-one_first_fault bytes a b (in_tokens small xs m scan front is at) (in_tokens also ys n again other too there) =
-    one_token_fault bytes a b xs ys m n scan again (has_fault bytes xs m front a is at) (has_fault bytes ys n other b too there)
-
 -- tokens that spell definitions up to the end of the file have no fault
 no_fault_of_spelled : (bytes : List ℕ) (tokens : List PlacedToken) (stop : ℕ) (defs : List Def) (fault : TextFault)
     → stop ≡ length bytes → SpellsDefs defs (bare tokens) → LacksLong (bare tokens) → HasFault bytes tokens stop fault → ⊥
@@ -305,15 +311,66 @@ no_fault_of_spelled bytes tokens stop defs fault end spelled lacks has = by has.
     by (goes_no_further short (at_bytes whole early is)) = omega (arith, early, end)
     by (goes_no_further short (at_end whole end is none)) = none defs spelled
 
+-- so a file that has the form of definitions has no fault at its tokens
+no_fault_of_form : (bytes : List ℕ) (xs tokens front : List PlacedToken) (stop : ℕ) (defs : List Def) (fault : TextFault)
+    → HasForm bytes xs defs → IsScan bytes tokens stop → IsFront tokens front → FaultAt bytes tokens stop front fault → ⊥
+no_fault_of_form bytes xs tokens front stop defs fault form scan is at =
+    let same = one_scan bytes xs tokens (length bytes) stop form.scan scan in
+    no_fault_of_spelled bytes tokens stop defs fault (sym same.1)
+    (subst (λ ts. SpellsDefs defs (bare ts)) same.0 form.spelled)
+    (subst (λ ts. LacksLong (bare ts)) same.0 form.short) (has_fault bytes tokens stop front fault is at)
+
+-- the minus sign of the first difference that is bad has one offset
+one_bad : (tokens : List PlacedToken) (defs : List Def) (p q : ℕ) → IsFirstBadAt tokens defs p → IsFirstBadAt tokens defs q → p ≡ q
+one_bad tokens defs p q first second =
+    let number = one_first (HasAt IsBad (differences_of defs)) first.number second.number first.first second.first in
+    let sign : first.sign ≡ second.sign
+    = same_Some first.sign second.sign (sym first.is_sign ∙ ap (slice_get (minus_signs tokens)) number ∙ second.is_sign) in
+    first.is_offset ∙ ap (λ (t : PlacedToken). t.offset) sign ∙ sym second.is_offset
+
+-- in a file of one form there is one such offset
+one_bad_form : (bytes : List ℕ) (xs ys : List PlacedToken) (a b : List Def) (p q : ℕ) → HasForm bytes xs a → HasForm bytes ys b
+    → IsFirstBadAt xs a p → IsFirstBadAt ys b q → p ≡ q
+one_bad_form bytes xs ys a b p q form other first second =
+    let same = one_form bytes xs ys a b form other in
+    one_bad ys b p q
+    (subst (λ ds. IsFirstBadAt ys ds p) same.1 (subst (λ ts. IsFirstBadAt ts a p) same.0 first)) second
+
+-- a file has at most one first fault
+pub one_first_fault : OneFirstFault
+one_first_fault bytes a b (is_large large is_a) (is_large more is_b) = is_a ∙ sym is_b
+one_first_fault bytes a b (is_large large is_a) (is_not_utf8 few early is_b) = absurd (omega (arith, large, few))
+one_first_fault bytes a b (is_large large is_a) (in_tokens small ys n again other front at) = absurd (omega (arith, large, small.few))
+one_first_fault bytes a b (is_large large is_a) (bad_difference ys ds form q second is_b) = absurd (omega (arith, large, form.small.few))
+one_first_fault bytes a b (is_not_utf8 few early is_a) (is_large large is_b) = absurd (omega (arith, large, few))
+one_first_fault bytes a b (is_not_utf8 few early is_a) (is_not_utf8 also more is_b) = is_a ∙ sym is_b
+one_first_fault bytes a b (is_not_utf8 few early is_a) (in_tokens small ys n again other front at) = absurd (utf8_whole bytes early small.utf8)
+one_first_fault bytes a b (is_not_utf8 few early is_a) (bad_difference ys ds form q second is_b) =
+    absurd (utf8_whole bytes early form.small.utf8)
+one_first_fault bytes a b (in_tokens small xs m scan front is at) (is_large large is_b) = absurd (omega (arith, large, small.few))
+one_first_fault bytes a b (in_tokens small xs m scan front is at) (is_not_utf8 also early is_b) = absurd (utf8_whole bytes early small.utf8)
+one_first_fault bytes a b (in_tokens small xs m scan front is at) (in_tokens also ys n again other too there) =
+    one_token_fault bytes a b xs ys m n scan again (has_fault bytes xs m front a is at) (has_fault bytes ys n other b too there)
+one_first_fault bytes a b (in_tokens small xs m scan front is at) (bad_difference ys ds form q second is_b) =
+    absurd (no_fault_of_form bytes ys xs front m ds a form scan is at)
+one_first_fault bytes a b (bad_difference xs cs form p first is_a) (is_large large is_b) = absurd (omega (arith, large, form.small.few))
+one_first_fault bytes a b (bad_difference xs cs form p first is_a) (is_not_utf8 also early is_b) =
+    absurd (utf8_whole bytes early form.small.utf8)
+one_first_fault bytes a b (bad_difference xs cs form p first is_a) (in_tokens also ys n again other too there) =
+    absurd (no_fault_of_form bytes xs ys other n cs b form again too there)
+one_first_fault bytes a b (bad_difference xs cs form p first is_a) (bad_difference ys ds other q second is_b) =
+    is_a ∙ ap BadDifference (one_bad_form bytes xs ys cs ds p q form other first second) ∙ sym is_b
+
 -- no file both spells definitions and has a first fault
 pub spelled_or_faulty : SpelledOrFaulty
-spelled_or_faulty bytes defs fault spelled (is_large large is) = omega (arith, large, spelled.small.few)
-spelled_or_faulty bytes defs fault spelled (is_not_utf8 few early is) = utf8_whole bytes early spelled.small.utf8
+spelled_or_faulty bytes defs fault spelled (is_large large is) = omega (arith, large, spelled.form.small.few)
+spelled_or_faulty bytes defs fault spelled (is_not_utf8 few early is) = utf8_whole bytes early spelled.form.small.utf8
 spelled_or_faulty bytes defs fault spelled (in_tokens small tokens stop scan front is at) =
-    let same = one_scan bytes spelled.tokens tokens (length bytes) stop spelled.scan scan in
-    no_fault_of_spelled bytes tokens stop defs fault (sym same.1)
-    (subst (λ ts. SpellsDefs defs (bare ts)) same.0 spelled.spelled)
-    (subst (λ ts. LacksLong (bare ts)) same.0 spelled.short) (has_fault bytes tokens stop front fault is at)
+    no_fault_of_form bytes spelled.tokens tokens front stop defs fault spelled.form scan is at
+spelled_or_faulty bytes defs fault spelled (bad_difference tokens ds form offset first is) =
+    let same = (one_form bytes spelled.tokens tokens defs ds spelled.form form).1 in
+    let good : HasGoodDifferences ds = subst HasGoodDifferences same spelled.good in
+    none_at IsGood (differences_of ds) IsBad (λ d bad is_good. bad is_good) good first.number first.first.is_so
 
 -- a file spells definitions, or has a fault
 abbrev HasAnswer : List ℕ → Type 0
@@ -334,7 +391,12 @@ utf8_answer bytes small = by (defs_of tokens stop) refl (before_or_at stop (leng
 
     by : (x : Result (List Def) TextFault) → defs_of tokens stop ≡ x → (stop < length bytes) ⊎ (stop ≡ length bytes) → HasAnswer bytes
     by (Ok defs) read (inl early) = inr (Syntax stop, stop_is bytes tokens stop scan defs small early read)
-    by (Ok defs) read (inr end) = inl (defs, defs_are bytes tokens stop scan defs small end read)
+    by (Ok defs) read (inr end) = elim (good_or_first defs) [
+      | inl good ↦ inl (defs, defs_are bytes tokens stop scan defs small end read good)
+      | inr first ↦
+          let at = first_at defs tokens first.0 (form_is bytes tokens stop scan defs small end read).spelled first.1 in
+          inr (BadDifference at.0, bad_is bytes tokens stop scan defs at.0 small end read at.1)
+    ]
     by (Err fault) read ends = inr (fault, fault_is bytes tokens stop scan fault small read)
 
 -- each file spells definitions or has a first fault

@@ -61,7 +61,7 @@ number_tells tokens short =
     tokens short
 
 -- a reader of an upper-case name tells of it
-name_tells : (tokens : List PlacedToken) → HaveShortNames tokens → Tells IsAny (TokenOf upper_name) tokens (name_at tokens)
+pub name_tells : (tokens : List PlacedToken) → HaveShortNames tokens → Tells IsAny (TokenOf upper_name) tokens (name_at tokens)
 unfolding name_at
 name_tells tokens short =
     token_tells upper_name (Identifier (codes "A")) (codes "A") refl

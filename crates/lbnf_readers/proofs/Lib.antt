@@ -10,7 +10,12 @@ pub mod CategoryLemmas
 pub mod LabelLemmas
 pub mod RuleLemmas
 pub mod FormLemmas
+pub mod StateLemmas
+pub mod ExpressionRunLemmas
+pub mod ExpressionMoveLemmas
+pub mod ExpressionLemmas
 pub mod DefLemmas
 pub mod RowLemmas
 pub mod DefsLemmas
+pub mod DifferenceTests
 pub mod FaultLemmas

@@ -25,25 +25,24 @@ abbrev pub offset_of : List PlacedToken → ℕ → ℕ
 offset_of [] stop = stop
 offset_of (token ∷ rest) stop = token.offset
 
--- the fault of a piece that cannot go on with its last tokens, these, by its number and by the
--- offset of what stands behind it
-abbrev pub stuck_fault : (number : ℕ) → (piece rest : List PlacedToken) → (stop : ℕ) → TextFault
-stuck_fault number piece [] stop = Syntax stop
-stuck_fault number piece (token ∷ rest) stop =
-    piece_fault number (bare (take (length piece - length (token ∷ rest)) piece))
+-- the fault of a piece that cannot go on with its last tokens, these, by the offset of what stands
+-- behind it
+abbrev pub stuck_fault : (piece rest : List PlacedToken) → (stop : ℕ) → TextFault
+stuck_fault piece [] stop = Syntax stop
+stuck_fault piece (token ∷ rest) stop =
+    piece_fault (bare (take (length piece - length (token ∷ rest)) piece))
     token.token token.offset
 
 -- the definition that was read of a piece, or its fault
-abbrev pub def_or_fault : (number : ℕ) → (piece : List PlacedToken) → (stop : ℕ) → Read Def
+abbrev pub def_or_fault : (piece : List PlacedToken) → (stop : ℕ) → Read Def
     → Result Def TextFault
-def_or_fault number piece stop (got def rest) = Ok def
-def_or_fault number piece stop (stuck rest) = Err (stuck_fault number piece rest stop)
-def_or_fault number piece stop (long rest) = Err (Syntax (offset_of rest stop))
+def_or_fault piece stop (got def rest) = Ok def
+def_or_fault piece stop (stuck rest) = Err (stuck_fault piece rest stop)
+def_or_fault piece stop (long rest) = Err (Syntax (offset_of rest stop))
 
 -- the definition of a piece, or its fault
-unfoldable pub piece_def : (number : ℕ) → (piece : List PlacedToken) → (stop : ℕ)
-    → Result Def TextFault
-piece_def number piece stop = def_or_fault number piece stop (def_at piece)
+unfoldable pub piece_def : (piece : List PlacedToken) → (stop : ℕ) → Result Def TextFault
+piece_def piece stop = def_or_fault piece stop (def_at piece)
 
 -- a definition, and those behind it
 abbrev pub and_defs : Result Def TextFault → Result (List Def) TextFault
@@ -52,18 +51,18 @@ and_defs (Ok def) (Ok defs) = Ok (def ∷ defs)
 and_defs (Ok def) (Err fault) = Err fault
 and_defs (Err fault) others = Err fault
 
--- the definitions of the tokens, or their first fault, where there are no more tokens than turns;
--- so many definitions stand before them, and this offset is behind them
-unfoldable pub defs_at : (turns number : ℕ) → (tokens : List PlacedToken) → (stop : ℕ)
+-- the definitions of the tokens, or their first fault, where there are no more tokens than turns,
+-- and this offset is behind them
+unfoldable pub defs_at : (turns : ℕ) → (tokens : List PlacedToken) → (stop : ℕ)
     → Result (List Def) TextFault
-defs_at turns number [] stop = Ok []
-defs_at zero number (token ∷ rest) stop = Ok []
-defs_at (suc turns) number (token ∷ rest) stop =
-    cond (is_semicolon token.token) (defs_at turns number rest stop)
+defs_at turns [] stop = Ok []
+defs_at zero (token ∷ rest) stop = Ok []
+defs_at (suc turns) (token ∷ rest) stop =
+    cond (is_semicolon token.token) (defs_at turns rest stop)
     (and_defs
-    (piece_def number (piece_at (token ∷ rest)) (offset_of (behind_piece (token ∷ rest)) stop))
-    (defs_at turns (suc number) (behind_piece (token ∷ rest)) stop))
+    (piece_def (piece_at (token ∷ rest)) (offset_of (behind_piece (token ∷ rest)) stop))
+    (defs_at turns (behind_piece (token ∷ rest)) stop))
 
 -- the definitions that all of the tokens are, or their first fault
 abbrev pub defs_of : (tokens : List PlacedToken) → (stop : ℕ) → Result (List Def) TextFault
-defs_of tokens stop = defs_at (length tokens) 0 tokens stop
+defs_of tokens stop = defs_at (length tokens) tokens stop

@@ -2,6 +2,7 @@
 -- is said in GrammarFile.
 use Rattle.std.specs.Prelude.{ℕ, zero, suc, ◌+◌, List, [], ◌∷◌, ◌++◌, length, drop, codes}
 use Rattle.std.specs.Prelude.{Bool, true, false, cond, nat_le, bytes_eq, map, Option, Some, None}
+use Rattle.spec_lexing.specs.declared.expression.Expr.{Expr}
 use Rattle.spec_grammar.specs.declared.rule.Label.{Label}
 use Rattle.spec_grammar.specs.declared.rule.Label.TheVariants.{Named, Wild, Nil, Cons, One}
 use Rattle.spec_lbnf.specs.declared.definition.CatName.{CatName}
@@ -11,6 +12,7 @@ use Rattle.spec_lbnf.specs.declared.definition.RawRule.{RawRule}
 use Rattle.spec_lbnf.specs.declared.definition.Def.{Def}
 use Rattle.spec_lbnf.specs.declared.definition.Def.TheVariants.{Rule, Internal, Terminator}
 use Rattle.spec_lbnf.specs.declared.definition.Def.TheVariants.{Separator, Coercions, Entry}
+use Rattle.spec_lbnf.specs.declared.definition.Def.TheVariants.{Token, LineComment, BlockComment}
 use Rattle.spec_lbnf.specs.declared.token.Sign.{Sign}
 use Rattle.spec_lbnf.specs.declared.token.Sign.TheVariants.{Dot, Gives, Colon, Comma}
 use Rattle.spec_lbnf.specs.declared.token.Sign.TheVariants.{OpenBracket, CloseBracket, OpenParen}
@@ -21,7 +23,9 @@ use Rattle.spec_lbnf.specs.declared.token.FileToken.TheVariants.{Sign as SignTok
 use Rattle.spec_lbnf.specs.declared.token.PlacedToken.{PlacedToken}
 use Rattle.spec_lbnf.specs.GrammarFile.{starts_upper}
 use Rattle.spec_lbnf.specs.FileTokens.{sign_bytes}
-use Rattle.spec_lbnf.specs.Words.{words_in}
+use Rattle.spec_lbnf.specs.Words.{is_empty, words_in}
+use Rattle.lbnf_readers.specs.declared.expression_state.ExpressionState.{ExpressionState}
+use Rattle.lbnf_readers.specs.ExpressionReading.{step, first_state, whole_of}
 
 -- what a reader gives: a value, and the tokens behind it; or the tokens from where it cannot go on;
 -- or the tokens from a category on that is too long
@@ -239,6 +243,65 @@ entries_at tokens =
     (category_at >>= (λ cat. more_entries_at (length tokens)
     >>= (λ cats. pure (cat ∷ cats)))) tokens
 
+-- the expression, or nothing where it is not whole
+abbrev pub got_whole : Option Expr → Read Expr
+got_whole (Some expr) = got expr []
+got_whole None = stuck []
+
+-- what is read behind a state, or the tokens where there is none
+abbrev pub behind_step : {A : Type 0} → Option ExpressionState → (ExpressionState → Read A)
+    → Reader A
+behind_step (Some state) behind tokens = behind state
+behind_step None behind tokens = stuck tokens
+
+-- the expression up to the end of the tokens, of which the state has read what is before them
+unfoldable pub expression_from : List PlacedToken → ExpressionState → Read Expr
+expression_from [] state = got_whole (whole_of state)
+expression_from (token ∷ rest) state =
+    behind_step (step state token.token) (expression_from rest) (token ∷ rest)
+
+-- a token expression up to the end of the tokens
+unfoldable pub expression_at : Reader Expr
+expression_at tokens = expression_from tokens first_state
+
+-- the name and the expression of a kind of token
+unfoldable pub token_at : Reader Def
+token_at = do
+  name ← name_at
+  expr ← expression_at
+  pure (Token name expr)
+
+-- this word
+unfoldable pub word_at : List ℕ → Reader (Unit {0})
+word_at word = take_token (λ token. cond (is_word word token) (Some tt) None)
+
+-- a kind of token behind `position`
+unfoldable pub position_at : Reader Def
+position_at = do
+  word ← word_at (codes "token")
+  token_at
+
+-- the text of one byte or more that the token is
+abbrev pub filled_text : FileToken → Option (List ℕ)
+filled_text (Text value) = cond (is_empty value) None (Some value)
+filled_text other = None
+
+-- a string of one byte or more
+unfoldable pub filled_text_at : Reader (List ℕ)
+filled_text_at = take_token filled_text
+
+-- the comment with this opening text, by whether a closing text is left
+unfoldable pub comment_end : List ℕ → Reader Def
+comment_end opening [] = got (LineComment opening) []
+comment_end opening (token ∷ rest) =
+    next_on (λ closing. pure (BlockComment opening closing)) (filled_text_at (token ∷ rest))
+
+-- the texts of a comment
+unfoldable pub comment_at : Reader Def
+comment_at = do
+  opening ← filled_text_at
+  comment_end opening
+
 -- the value, where no token is left
 unfoldable pub to_end : {A : Type 0} → A → Reader A
 to_end value [] = got value []
@@ -254,7 +317,10 @@ def_by token rest =
     (cond (is_word (codes "coercions") token.token) (coercions_at rest)
     (cond (is_word (codes "entrypoints") token.token)
     ((entries_at >>= (λ cats. pure (Entry cats))) rest)
-    ((rule_at >>= (λ rule. pure (Rule rule))) (token ∷ rest))))))
+    (cond (is_word (codes "token") token.token) (token_at rest)
+    (cond (is_word (codes "position") token.token) (position_at rest)
+    (cond (is_word (codes "comment") token.token) (comment_at rest)
+    ((rule_at >>= (λ rule. pure (Rule rule))) (token ∷ rest)))))))))
 
 -- the definition that all of the tokens are
 unfoldable pub def_at : Reader Def

@@ -8,7 +8,7 @@ use Rattle.spec_automata.specs.Positions.{EndsAt}
 use Rattle.spec_automata.specs.States.{AreBytes, HasManySets}
 use Rattle.lbnf_regex.specs.Steps.{Steps}
 use Rattle.lbnf_regex.specs.Sets.{IsSetOf, IsNext}
-use Rattle.lbnf_regex.specs.States.{IsReached, state_at, IsEntry, IsRow, IsTable}
+use Rattle.lbnf_regex.specs.States.{IsReached, state_at, IsStateEntry, IsStateRow, IsTable}
 use Rattle.lbnf_regex.proofs.PositionLemmas.{not_empty}
 use Rattle.lbnf_regex.proofs.StepLemmas.{AreRuns, Runs, steps}
 use Rattle.lbnf_regex.proofs.ExpectingLemmas.{expects_from}
@@ -95,7 +95,7 @@ Found x states w = (i : ℕ) × (0 < i) × (i < length states) × IsSetOf x w (s
 module _ (x : ByteExpression) (most : ℕ) (states : List (List ℕ)) (rows : List (List (Option ℕ)))
     (table : IsTable x most states rows) where
   by_entry : (b : ℕ) (u v : List ℕ) (i p : ℕ) (e : Option ℕ) → i < length states → StandsFor x v (state_at states i) →
-      IsEntry x states (state_at states i) b e →
+      IsStateEntry x states (state_at states i) b e →
       ((j : ℕ) → j < length states → StandsFor x (v ++ b ∷ []) (state_at states j) → u ≢ [] →
       Found x states ((v ++ b ∷ []) ++ u)) →
       EndsAt x 0 (v ++ b ∷ u) p → Found x states (v ++ b ∷ u)
@@ -112,7 +112,7 @@ module _ (x : ByteExpression) (most : ℕ) (states : List (List ℕ)) (rows : Li
       EndsAt x 0 (v ++ u) p → Found x states (v ++ u)
   along [] v i p lt is some bytes e = absurd (some refl)
   along (b ∷ u) v i p lt is some bytes e =
-      let row : IsRow x states (state_at states i) 256 (slice_index_or rows i []) = table.are_rows.rows_are i lt in
+      let row : IsStateRow x states (state_at states i) 256 (slice_index_or rows i []) = table.are_rows.rows_are i lt in
       by_entry b u v i p (slice_index_or (slice_index_or rows i []) b None) lt is
       (row.entries b (All-head (λ c. c < 256) b u bytes))
       (λ j lt_j is_j some_u.

@@ -11,7 +11,7 @@ use Rattle.lbnf_regex.specs.declared.next_byte.NextByte.{NextByte}
 use Rattle.lbnf_regex.specs.declared.next_byte.NextByte.TheVariants.{InComment}
 use Rattle.lbnf_regex.specs.Patterns.{bytes_of_pattern, sizes_of}
 use Rattle.lbnf_regex.proofs.PositionLemmas.{last_within}
-use Rattle.lbnf_regex.specs.Steps.{is_nullable, HasLast, HasWithin, EntersBehind, EntersAgain, Expects, AddsExpected, AddsIf, AddsInside, IsSmall}
+use Rattle.lbnf_regex.specs.Steps.{is_nullable, HasLast, HasWithin, EntersBehind, EntersAgain, Expects, AddsExpected, AddsIf, AddsInside, HasFewPositions}
 
 -- what is expected depends on whether the expression is entered, and not how
 pub expects_same : (x : ByteExpression) (n : ℕ) (E F : Type 0) (M : ℕ → Type 0) (next : NextByte) → (E → F) →
@@ -207,10 +207,10 @@ last_of_either x y n M = (
 
 -- what is expected is small where the positions are
 pub expects_small : (x : ByteExpression) (n : ℕ) (E : Type 0) (M : ℕ → Type 0) (next : NextByte) →
-    n + position_count x < 2 ^ 32 → Expects x n E M next → IsSmall next
+    n + position_count x < 2 ^ 32 → Expects x n E M next → HasFewPositions next
 expects_small empty n E M next room h = absurd h
 expects_small nothing n E M next room h = absurd h
-expects_small (byte_in s) n E M next room h = subst IsSmall (sym h.1) (omega (arith, room))
+expects_small (byte_in s) n E M next room h = subst HasFewPositions (sym h.1) (omega (arith, room))
 expects_small (in_turn x y) n E M next room (inl h) = expects_small x n E M next (omega (arith, room)) h
 expects_small (in_turn x y) n E M next room (inr h) =
     expects_small y (n + position_count x) (EntersBehind x n E M) M next (omega (arith, room)) h
@@ -220,9 +220,9 @@ expects_small (either x y) n E M next room (inr h) =
 expects_small (star x) n E M next room h = expects_small x n (EntersAgain x n E M) M next room h
 expects_small (plus x) n E M next room h = expects_small x n (EntersAgain x n E M) M next room h
 expects_small (until closing) n E M next room (inl h) =
-    subst IsSmall (sym h.2) (h.1, omega (arith, room))
+    subst HasFewPositions (sym h.2) (h.1, omega (arith, room))
 expects_small (until closing) n E M next room (inr h) =
-    subst IsSmall (sym h.3) (h.2, omega (arith, room))
+    subst HasFewPositions (sym h.3) (h.2, omega (arith, room))
 
 -- what is expected comes from entering or from a mark
 pub expects_from : (x : ByteExpression) (n : ℕ) (E : Type 0) (M : ℕ → Type 0) (next : NextByte) →

@@ -12,8 +12,8 @@ use Rattle.spec_automata.specs.ByteExpressions.{ByteExpression, MatchesBytes}
 use Rattle.spec_automata.specs.Encoding.{bytes_of_def, bytes_of_kind, IsSoundKind}
 use Rattle.spec_automata.specs.States.{AreBytes}
 use Rattle.spec_automata.proofs.EncodingLemmas.{kinds_match}
-use Rattle.lbnf_regex.specs.Automata.{Machine, kind_at, MatchesInPlace, AreAccepted}
-use Rattle.lbnf_regex.specs.Lexicons.{kind_of, lexicon_with, HasKindsInOrder, MatchesAtPlace, AcceptsLeast}
+use Rattle.lbnf_regex.specs.Automata.{Machine, kind_at, MatchesInPlace, AreLeastMatching, RecognisesThese}
+use Rattle.lbnf_regex.specs.Lexicons.{kind_of, lexicon_with, HasKindsInOrder, MatchesAtPlace, AcceptsLeast, IsAutomatonOf}
 use Rattle.lbnf_regex.specs.declared.kind.Kind.TheVariants.{White, Comment, Symbol}
 use Rattle.lbnf_regex.proofs.PlaceLemmas.{least_like}
 
@@ -75,7 +75,7 @@ in_place (kind ∷ kinds) sound bytes rest are text (suc k) =
 
 -- the places that are accepted are those of the least kinds
 pub accepts_least : (lexicon : Lexicon) (a : Machine) →
-    AreAccepted (map bytes_of_kind (lex_kinds lexicon)) a.rows a.places → AcceptsLeast lexicon a
+    AreLeastMatching (map bytes_of_kind (lex_kinds lexicon)) a.rows a.places → AcceptsLeast lexicon a
 accepts_least lexicon a accepted sound bytes rest state some are text leads =
     least_like (MatchesInPlace (map bytes_of_kind (lex_kinds lexicon)) bytes) (MatchesAtPlace (lex_kinds lexicon) bytes)
     (slice_index_or a.places state None) (in_place (lex_kinds lexicon) sound bytes rest are text)
@@ -145,6 +145,17 @@ kinds_in_order lines blocks kinds a count (suc place) kind e =
     let up : suc place ≡ 1 + 0 + place = omega arith in
     ap (kind_at a.comments) up
     ∙ lines_in_order a.comments 0 lines blocks kinds (omega (arith, count)) place kind e
+
+-- what recognises the expressions of the kinds is the automaton of the lexicon
+pub is_automaton_of : (lines : List (List ℕ)) (blocks : List (List ℕ × List ℕ)) (kinds : List KindDef) (a : Machine) →
+    RecognisesThese (map bytes_of_kind (lex_kinds (lexicon_with lines blocks kinds))) (length lines + length blocks) a →
+    IsAutomatonOf (lexicon_with lines blocks kinds) a
+is_automaton_of lines blocks kinds a is = record {
+  whole = is.whole;
+  exact = is.exact;
+  least = accepts_least (lexicon_with lines blocks kinds) a is.least;
+  kinds = kinds_in_order lines blocks kinds a is.count;
+}
 
 -- so many kinds are looked for
 pub kind_count : (lines : List (List ℕ)) (blocks : List (List ℕ × List ℕ)) (kinds : List KindDef) →

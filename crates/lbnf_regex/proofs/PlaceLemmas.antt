@@ -1,20 +1,20 @@
 -- The kinds one behind the other, and which of them match a text.
-use Rattle.std.proofs.Common.{◌≡◌, ◌≢◌, ℕ, zero, suc, ◌+◌, ◌<◌, ◌≤◌, ◌^◌, ◌↔◌, List, [], ◌∷◌, length, map, drop, get_or, Option, Some, None, MatchOption, slice_index_or, refl, sym, ◌∙◌, inl, inr, arith, subst}
+use Rattle.std.proofs.Common.{◌≡◌, ◌≢◌, ℕ, zero, suc, ◌+◌, ◌<◌, ◌≤◌, ◌^◌, ◌↔◌, List, [], ◌∷◌, length, map, drop, get_or, Option, Some, None, IfSome, MatchOption, slice_index_or, refl, sym, ◌∙◌, ap, inl, inr, arith, subst}
 use Rattle.std.specs.List.{Contains}
 use Rattle.std.proofs.lemmas.Bool.{cases_lt}
-use Rattle.std.proofs.lemmas.List.{get_or_past}
+use Rattle.std.proofs.lemmas.List.{get_or_default, get_or_past}
 use Rattle.std.proofs.lemmas.Option.{same_Some}
 use Rattle.spec_automata.specs.ByteExpressions.{ByteExpression, MatchesBytes}
 use Rattle.spec_automata.specs.Encoding.{one_of_these}
 use Rattle.spec_automata.specs.Positions.{position_count, EndsAt}
 use Rattle.lbnf_regex.specs.declared.pattern.Pattern.{Pattern}
-use Rattle.lbnf_regex.specs.Automata.{IsWhole, machine_of, MatchesInPlace, AreAccepted}
+use Rattle.lbnf_regex.specs.Automata.{IsWholeMachine, machine_of, MatchesInPlace, AreLeastMatching, RecognisesThese}
 use Rattle.lbnf_regex.specs.Patterns.{bytes_of_pattern}
 use Rattle.lbnf_regex.specs.Steps.{HasLast}
-use Rattle.lbnf_regex.specs.States.{EndsInPlace, IsLeastEnding, ArePlaces, IsTable, IsEntry, state_at}
+use Rattle.lbnf_regex.specs.States.{EndsInPlace, IsLeastEnding, ArePlaces, IsTable, IsStateEntry, state_at}
 use Rattle.lbnf_regex.proofs.PositionLemmas.{ends_within, last_within, last_to, last_from}
 use Rattle.lbnf_regex.proofs.CountingLemmas.{StandsFor}
-use Rattle.lbnf_regex.proofs.WalkLemmas.{LeadsOnTo, leads_all}
+use Rattle.lbnf_regex.proofs.WalkLemmas.{LeadsOnTo, leads_all, exact}
 use Rattle.lbnf_regex.proofs.ExpectingLemmas.{parts_more, parts_end}
 
 module _ (kinds : List Pattern) (i : ℕ) (kind : Pattern) (n m : ℕ) (M : ℕ → Type 0) (lt : i < length kinds)
@@ -98,10 +98,10 @@ least_like P Q None same h = λ k q. h k ((same k).1 q)
 least_like P Q (Some least) same h = ((same least).0 h.0, λ k lt q. h.1 k lt ((same k).1 q))
 
 -- the places of the states are the least that match
-pub are_accepted : (xs : List ByteExpression) (most : ℕ) (states : List (List ℕ)) (rows : List (List (Option ℕ)))
+pub least_are_matching : (xs : List ByteExpression) (most : ℕ) (states : List (List ℕ)) (rows : List (List (Option ℕ)))
     (places : List (Option ℕ)) → IsTable (one_of_these xs) most states rows → ArePlaces xs states places →
-    AreAccepted xs rows places
-are_accepted xs most states rows places table are bytes state some are_bytes leads =
+    AreLeastMatching xs rows places
+least_are_matching xs most states rows places table are bytes state some are_bytes leads =
     let x : ByteExpression = one_of_these xs in
     let on : LeadsOnTo x most states rows table bytes (Some state) =
     subst (LeadsOnTo x most states rows table bytes) leads (leads_all x most states rows table bytes are_bytes) in
@@ -127,7 +127,7 @@ least_within xs M (Some j) k least e =
 -- a table with places is a whole automaton
 pub is_whole : (xs : List ByteExpression) (x : ByteExpression) (most comments : ℕ) (states : List (List ℕ))
     (rows : List (List (Option ℕ))) (places : List (Option ℕ)) → most < 2 ^ 16 → length xs ≤ comments + 1 + 2 ^ 16 →
-    IsTable x most states rows → ArePlaces xs states places → IsWhole (machine_of rows places comments)
+    IsTable x most states rows → ArePlaces xs states places → IsWholeMachine (machine_of rows places comments)
 is_whole xs x most comments states rows places room few table are = (
   omega (arith, table.are_states.some, table.are_rows.size),
   omega (arith, table.few, table.are_rows.size, room),
@@ -149,7 +149,37 @@ is_whole xs x most comments states rows places room few table are = (
 )
   where
     entry_within : (x : ByteExpression) (states : List (List ℕ)) (s : List ℕ) (b : ℕ) (e : Option ℕ) (j : ℕ) →
-        IsEntry x states s b e → e ≡ Some j → j < length states
+        IsStateEntry x states s b e → e ≡ Some j → j < length states
     entry_within x states s b None j is e = cc
     entry_within x states s b (Some k) j is e =
         let same : k ≡ j = same_Some k j e in omega (arith, same, is.1)
+
+-- an entry of a row of a whole automaton is a state
+pub entry_is_state : (rows : List (List (Option ℕ))) (places : List (Option ℕ)) (comments : ℕ) (row : List (Option ℕ))
+    (entry next : Option ℕ) (state byte : ℕ) → IsWholeMachine (machine_of rows places comments) → state < length rows →
+    byte < 256 → row ≡ slice_index_or rows state row → entry ≡ slice_index_or row byte entry → next ≡ entry →
+    IfSome next (λ j. j < length rows)
+entry_is_state rows places comments row entry next state byte whole lt lt_b is_row is_entry is_next =
+    let row_at : row ≡ slice_index_or rows state [] = is_row ∙ get_or_default rows state row [] lt in
+    let size : length row ≡ 256 = ap (λ (z : List (Option ℕ)). length z) row_at ∙ whole.3 state lt in
+    let entry_at : entry ≡ slice_index_or row byte None =
+    is_entry ∙ get_or_default row byte entry None (omega (arith, size, lt_b)) in
+    let at : next ≡ slice_index_or (slice_index_or rows state []) byte None =
+    is_next ∙ entry_at ∙ ap (λ (z : List (Option ℕ)). slice_index_or z byte None) row_at in
+    by_next next (λ j e. whole.4 state byte j lt lt_b (sym at ∙ e))
+  where
+    by_next : (next : Option ℕ) → ((j : ℕ) → next ≡ Some j → j < length rows) → IfSome next (λ j. j < length rows)
+    by_next None each = tt
+    by_next (Some j) each = each j refl
+
+-- so it recognises the expressions
+pub recognises : (xs : List ByteExpression) (most comments : ℕ) (states : List (List ℕ)) (rows : List (List (Option ℕ)))
+    (places : List (Option ℕ)) → most < 2 ^ 16 → length xs ≤ comments + 1 + 2 ^ 16 →
+    IsTable (one_of_these xs) most states rows → ArePlaces xs states places →
+    RecognisesThese xs comments (machine_of rows places comments)
+recognises xs most comments states rows places room few table are = record {
+  whole = is_whole xs (one_of_these xs) most comments states rows places room few table are;
+  exact = exact (one_of_these xs) most states rows table;
+  least = least_are_matching xs most states rows places table are;
+  count = refl;
+}

@@ -1,5 +1,5 @@
 -- States that are added, rows of states, and entries of rows.
-use Rattle.std.proofs.Common.{◌≡◌, ◌≢◌, ℕ, zero, suc, ◌+◌, ◌<◌, ◌≤◌, ◌⊎◌, List, [], ◌∷◌, ◌++◌, length, Option, Some, None, Result, Err, slice_index_or, refl, sym, ◌∙◌, ap, inl, inr, arith, append_assoc, subst, length-append}
+use Rattle.std.proofs.Common.{◌≡◌, ◌≢◌, ℕ, zero, suc, ◌+◌, ◌<◌, ◌≤◌, ◌⊎◌, List, [], ◌∷◌, ◌++◌, length, Option, Some, None, IfSome, Result, Err, slice_index_or, refl, sym, ◌∙◌, ap, inl, inr, arith, append_assoc, subst, length-append}
 use Rattle.std.specs.List.{Contains}
 use Rattle.std.proofs.lemmas.Bool.{cases_lt}
 use Rattle.std.proofs.lemmas.List.{length_push, get_or_append_left, get_or_push, append-nil}
@@ -8,10 +8,9 @@ use Rattle.cell_sets.proofs.CellsLemmas.{has_first}
 use Rattle.spec_automata.specs.ByteExpressions.{ByteExpression}
 use Rattle.spec_automata.specs.Positions.{EndsAt}
 use Rattle.spec_automata.specs.States.{AreBytes, HasManySets}
-use Rattle.lbnf_regex.specs.declared.next_byte.NextByte.{NextByte}
-use Rattle.lbnf_regex.specs.Sets.{IsSetOf, IsNext, AreExpected}
-use Rattle.lbnf_regex.specs.States.{IsReached, state_at, AreStates, IsEntry, IsRow, AreRows, Grows, IsNoneOf, GetsNumber, GetsEntry, HasNoRoomFrom}
-use Rattle.lbnf_regex.proofs.SetLemmas.{same_sets, set_like, next_of}
+use Rattle.lbnf_regex.specs.Sets.{IsSetOf, IsNext}
+use Rattle.lbnf_regex.specs.States.{IsReached, state_at, AreStates, IsStateEntry, IsStateRow, AreRows, AddsStates, IsNoneOf, GetsNumber, GetsEntry, HasNoRoom}
+use Rattle.lbnf_regex.proofs.SetLemmas.{same_sets, set_like}
 use Rattle.lbnf_regex.proofs.CountingLemmas.{StandsFor, start_stands, stands, push_some, next_is}
 
 -- an error is one whatever the answer would have been
@@ -115,19 +114,19 @@ module _ (x : ByteExpression) (states : List (List ℕ)) (are : AreStates x stat
         is = next_is x h.0 (state_at states i) t b h.2 next;
       }
 
-pub grows_same : (old : List (List ℕ)) → Grows old old
+pub grows_same : (old : List (List ℕ)) → AddsStates old old
 grows_same old = record { more = []; is = sym (append-nil old) }
 
-pub grows_more : (old middle new : List (List ℕ)) → Grows old middle → Grows middle new → Grows old new
+pub grows_more : (old middle new : List (List ℕ)) → AddsStates old middle → AddsStates middle new → AddsStates old new
 grows_more old middle new f g = record {
   more = f.more ++ g.more;
   is = g.is ∙ ap (λ (z : List (List ℕ)). z ++ g.more) f.is ∙ append_assoc old f.more g.more;
 }
 
 -- where a set gets its number, the states grow
-pub gets_grows : (old new : List (List ℕ)) (set : List ℕ) (number : ℕ) → GetsNumber old new set number → Grows old new
+pub gets_grows : (old new : List (List ℕ)) (set : List ℕ) (number : ℕ) → GetsNumber old new set number → AddsStates old new
 gets_grows old new set number gets = elim gets.kept [
-  | inl e ↦ subst (Grows old) (sym e) (grows_same old)
+  | inl e ↦ subst (AddsStates old) (sym e) (grows_same old)
   | inr k ↦ record { more = set ∷ []; is = k.0 }
 ]
 
@@ -145,20 +144,20 @@ pub gets_above : (x : ByteExpression) (new : List (List ℕ)) (set : List ℕ) (
 gets_above x new set zero are is some = absurd (some (sym is ∙ are.start))
 gets_above x new set (suc number) are is some = omega arith
 
-module _ (old new : List (List ℕ)) (g : Grows old new) where
+module _ (old new : List (List ℕ)) (g : AddsStates old new) where
   pub grows_at : (i : ℕ) → i < length old → state_at new i ≡ state_at old i
   grows_at i lt = ap (λ (z : List (List ℕ)). state_at z i) g.is ∙ get_or_append_left old g.more [] i lt
 
   pub grows_len : length old ≤ length new
   grows_len = omega (arith, ap length g.is, length-append old g.more)
 
-  pub entry_grows : (x : ByteExpression) (s : List ℕ) (b : ℕ) (e : Option ℕ) → IsEntry x old s b e → IsEntry x new s b e
+  pub entry_grows : (x : ByteExpression) (s : List ℕ) (b : ℕ) (e : Option ℕ) → IsStateEntry x old s b e → IsStateEntry x new s b e
   entry_grows x s b None h = h
   entry_grows x s b (Some j) h =
       (h.0, omega (arith, h.1, grows_len), subst (IsNext x s b) (sym (grows_at j h.1)) h.2)
 
-  pub row_grows : (x : ByteExpression) (s : List ℕ) (n : ℕ) (row : List (Option ℕ)) → IsRow x old s n row →
-      IsRow x new s n row
+  pub row_grows : (x : ByteExpression) (s : List ℕ) (n : ℕ) (row : List (Option ℕ)) → IsStateRow x old s n row →
+      IsStateRow x new s n row
   row_grows x s n row h =
       record { size = h.size; entries = λ b lt. entry_grows x s b (slice_index_or row b None) (h.entries b lt) }
 
@@ -167,65 +166,68 @@ module _ (old new : List (List ℕ)) (g : Grows old new) where
   rows_grow x n rows le h = record {
     size = h.size;
     rows_are = λ i lt.
-        subst (λ (s : List ℕ). IsRow x new s 256 (slice_index_or rows i [])) (sym (grows_at i (omega (arith, lt, le))))
+        subst (λ (s : List ℕ). IsStateRow x new s 256 (slice_index_or rows i [])) (sym (grows_at i (omega (arith, lt, le))))
         (row_grows x (state_at old i) 256 (slice_index_or rows i []) (h.rows_are i lt));
   }
 
 pub row_push : (x : ByteExpression) (states : List (List ℕ)) (s : List ℕ) (n : ℕ) (row : List (Option ℕ)) (e : Option ℕ) →
-    IsRow x states s n row → IsEntry x states s n e → IsRow x states s (n + 1) (row ++ e ∷ [])
+    IsStateRow x states s n row → IsStateEntry x states s n e → IsStateRow x states s (n + 1) (row ++ e ∷ [])
 row_push x states s n row e h is = record {
   size = length_push row e ∙ ap (λ (z : ℕ). z + 1) h.size;
   entries = λ b lt. elim (below_or_last b n lt) [
     | inl k ↦
-        subst (IsEntry x states s b) (sym (get_or_append_left row (e ∷ []) None b (omega (arith, k, h.size)))) (h.entries b k)
+        subst (IsStateEntry x states s b) (sym (get_or_append_left row (e ∷ []) None b (omega (arith, k, h.size)))) (h.entries b k)
     | inr k ↦
-        subst (IsEntry x states s b) (sym (get_or_push row e None b (h.size ∙ sym k)))
-        (subst (λ (z : ℕ). IsEntry x states s z e) (sym k) is)
+        subst (IsStateEntry x states s b) (sym (get_or_push row e None b (h.size ∙ sym k)))
+        (subst (λ (z : ℕ). IsStateEntry x states s z e) (sym k) is)
   ];
 }
 
 pub rows_push : (x : ByteExpression) (states : List (List ℕ)) (n : ℕ) (rows : List (List (Option ℕ)))
-    (row : List (Option ℕ)) → AreRows x states n rows → IsRow x states (state_at states n) 256 row →
+    (row : List (Option ℕ)) → AreRows x states n rows → IsStateRow x states (state_at states n) 256 row →
     AreRows x states (n + 1) (rows ++ row ∷ [])
 rows_push x states n rows row h is = record {
   size = length_push rows row ∙ ap (λ (z : ℕ). z + 1) h.size;
   rows_are = λ i lt. elim (below_or_last i n lt) [
     | inl k ↦
-        subst (IsRow x states (state_at states i) 256)
+        subst (IsStateRow x states (state_at states i) 256)
         (sym (get_or_append_left rows (row ∷ []) [] i (omega (arith, k, h.size)))) (h.rows_are i k)
     | inr k ↦
-        subst (IsRow x states (state_at states i) 256) (sym (get_or_push rows row [] i (h.size ∙ sym k)))
-        (subst (λ (z : ℕ). IsRow x states (state_at states z) 256 row) (sym k) is)
+        subst (IsStateRow x states (state_at states i) 256) (sym (get_or_push rows row [] i (h.size ∙ sym k)))
+        (subst (λ (z : ℕ). IsStateRow x states (state_at states z) 256 row) (sym k) is)
   ];
 }
 
-module _ (x : ByteExpression) (old : List (List ℕ)) (i : ℕ) (expected : List NextByte) (b : ℕ) (are : AreStates x old)
-    (within : i < length old) (expects : AreExpected x (state_at old i) expected) (byte : b < 256) where
+module _ (x : ByteExpression) (old : List (List ℕ)) (i b : ℕ) (set : List ℕ) (are : AreStates x old)
+    (within : i < length old) (byte : b < 256) (next : IsNext x (state_at old i) b set) where
   -- where there is no room for the set that follows, there are many sets
-  pub no_room : (most : ℕ) → HasNoRoomFrom expected b old most → HasManySets x most
+  pub no_room : (most : ℕ) → (set ≢ []) × HasNoRoom old set most → HasManySets x most
   no_room most h =
-      let next = next_of x (state_at old i) expected b h.0 expects h.1 in
-      many_of x old h.0 most are (reached_next x old are i h.0 b within byte next h.2) (h.3).0 (h.3).1
+      many_of x old set most are (reached_next x old are i set b within byte next h.0) (h.1).0 (h.1).1
 
   -- an entry is right, and the states stay states
-  pub entry_is : (new : List (List ℕ)) (e : Option ℕ) → GetsEntry expected b old new e →
-      Grows old new × AreStates x new × IsEntry x new (state_at old i) b e
+  pub entry_is : (new : List (List ℕ)) (e : Option ℕ) → GetsEntry set old new e →
+      AddsStates old new × AreStates x new × IsStateEntry x new (state_at old i) b e
   entry_is new None gets = (
-    subst (Grows old) (sym gets.0) (grows_same old),
+    subst (AddsStates old) (sym gets.0) (grows_same old),
     subst (AreStates x) (sym gets.0) are,
-    next_of x (state_at old i) expected b [] expects gets.1,
+    subst (IsNext x (state_at old i) b) gets.1 next,
   )
   entry_is new (Some j) gets =
-      let set : List ℕ = gets.0 in
-      let next : IsNext x (state_at old i) b set = next_of x (state_at old i) expected b set expects gets.1 in
-      let reached : IsReached x set = reached_next x old are i set b within byte next gets.2 in
-      let number : GetsNumber old new set j = gets.3 in
+      let reached : IsReached x set = reached_next x old are i set b within byte next gets.0 in
+      let number : GetsNumber old new set j = gets.1 in
       let are_new : AreStates x new = gets_states x old new set j are reached number in (
         gets_grows old new set j number,
         are_new,
         (
-          gets_above x new set j are_new number.is gets.2,
+          gets_above x new set j are_new number.is gets.0,
           number.within,
           subst (IsNext x (state_at old i) b) (sym number.is) next,
         ),
       )
+
+-- no byte leads to the start
+pub entry_above : (x : ByteExpression) (states : List (List ℕ)) (s : List ℕ) (b : ℕ) (e : Option ℕ) →
+    IsStateEntry x states s b e → IfSome e (λ j. 0 < j)
+entry_above x states s b None is = tt
+entry_above x states s b (Some j) is = is.0

@@ -6,7 +6,7 @@ use Rattle.spec_automata.specs.ByteExpressions.{ByteExpression}
 use Rattle.spec_automata.specs.Positions.{HasPosition}
 use Rattle.spec_automata.specs.States.{AreBytes}
 use Rattle.lbnf_regex.specs.Automata.{state_behind, walk, IsExact}
-use Rattle.lbnf_regex.specs.States.{IsReached, state_at, IsEntry, IsRow, IsTable}
+use Rattle.lbnf_regex.specs.States.{IsReached, state_at, IsStateEntry, IsStateRow, IsTable}
 use Rattle.lbnf_regex.proofs.CountingLemmas.{StandsFor, start_stands, stands, dead, next_is, push_some, front_ends}
 use Rattle.lbnf_regex.proofs.StateLemmas.{some_in}
 
@@ -18,7 +18,7 @@ module _ (x : ByteExpression) (most : ℕ) (states : List (List ℕ)) (rows : Li
   LeadsOnTo v (Some i) = (i < length states) × StandsFor x v (state_at states i)
 
   by_entry : (v : List ℕ) (b i : ℕ) (e : Option ℕ) → StandsFor x v (state_at states i) →
-      IsEntry x states (state_at states i) b e → LeadsOnTo (v ++ b ∷ []) e
+      IsStateEntry x states (state_at states i) b e → LeadsOnTo (v ++ b ∷ []) e
   by_entry v b i None is h = (push_some v b, λ e. dead x v (state_at states i) b [] e.0 is h e.1)
   by_entry v b i (Some j) is h =
       let reached : IsReached x (state_at states j) = table.are_states.reached j h.0 h.1 in (
@@ -30,7 +30,7 @@ module _ (x : ByteExpression) (most : ℕ) (states : List (List ℕ)) (rows : Li
   one_byte : (v : List ℕ) (s : Option ℕ) (b : ℕ) → b < 256 → LeadsOnTo v s → LeadsOnTo (v ++ b ∷ []) (state_behind rows s b)
   one_byte v None b lt h = (push_some v b, λ e. h.1 (front_ends x (b ∷ []) v e.0 h.0 e.1))
   one_byte v (Some i) b lt h =
-      let row : IsRow x states (state_at states i) 256 (slice_index_or rows i []) = table.are_rows.rows_are i h.0 in
+      let row : IsStateRow x states (state_at states i) 256 (slice_index_or rows i []) = table.are_rows.rows_are i h.0 in
       by_entry v b i (slice_index_or (slice_index_or rows i []) b None) h.1 (row.entries b lt)
 
   leads : (w v : List ℕ) (s : Option ℕ) → AreBytes w → LeadsOnTo v s → LeadsOnTo (v ++ w) (walk rows s w)

@@ -3,6 +3,7 @@
 use Rattle.std.specs.Prelude.{◌≡◌, ◌≢◌, ℕ, ◌<◌, ◌^◌, ◌↔◌, List, [], ◌∷◌, length, Option, Some}
 use Rattle.std.specs.Prelude.{◌+◌, ◌-◌, cond, nat_eq, nat_le, None, MatchOption, slice_get, slice_index_or}
 use Rattle.spec_automata.specs.ByteExpressions.{ByteExpression, MatchesBytes}
+use Rattle.spec_automata.specs.Encoding.{one_of_these}
 use Rattle.spec_automata.specs.Positions.{HasPosition}
 use Rattle.spec_automata.specs.States.{AreBytes}
 use Rattle.lbnf_regex.specs.declared.kind.Kind.{Kind}
@@ -27,8 +28,8 @@ kind_at comments place =
 
 -- there is a start, states have numbers of 16 bits, and each has a place and a row of 256 entries,
 -- which are states; the numbers of the grammar's kinds have 16 bits
-abbrev pub IsWhole : Machine → Type 0
-IsWhole a =
+abbrev pub IsWholeMachine : Machine → Type 0
+IsWholeMachine a =
     (0 < length a.rows) × (length a.rows < 2 ^ 16) × (length a.places ≡ length a.rows)
     × ((i : ℕ) → i < length a.rows → length (slice_index_or a.rows i []) ≡ 256)
     × ((i byte j : ℕ) → i < length a.rows → byte < 256
@@ -65,8 +66,16 @@ IsLeastMatching xs bytes place =
     × ((other : ℕ) → other < least → MatchesInPlace xs bytes other → ⊥))
 
 -- where the bytes lead from the start to a state, the state's place is the least that matches them
-abbrev pub AreAccepted : List ByteExpression → List (List (Option ℕ)) → List (Option ℕ) → Type 0
-AreAccepted xs rows places =
+abbrev pub AreLeastMatching : List ByteExpression → List (List (Option ℕ)) → List (Option ℕ) → Type 0
+AreLeastMatching xs rows places =
     (bytes : List ℕ) (state : ℕ) → bytes ≢ [] → AreBytes bytes →
     walk rows (Some 0) bytes ≡ Some state →
     IsLeastMatching xs bytes (slice_index_or places state None)
+
+-- the automaton recognises these expressions, the least first, of which so many behind the first are
+-- comments
+pub record RecognisesThese (xs : List ByteExpression) (comments : ℕ) (a : Machine) : Type 0 where
+  pub whole : IsWholeMachine a
+  pub exact : IsExact (one_of_these xs) a.rows
+  pub least : AreLeastMatching xs a.rows a.places
+  pub count : a.comments ≡ comments

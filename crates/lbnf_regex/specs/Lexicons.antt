@@ -8,7 +8,7 @@ use Rattle.spec_lexing.specs.Kinds.{LexKind, white, line_comment, block_comment,
 use Rattle.spec_lexing.specs.Kinds.{MatchesKind, lex_kinds}
 use Rattle.spec_automata.specs.Encoding.{bytes_of_kinds, IsSoundKind}
 use Rattle.spec_automata.specs.States.{AreBytes}
-use Rattle.lbnf_regex.specs.Automata.{Machine, kind_at, walk, IsExact}
+use Rattle.lbnf_regex.specs.Automata.{Machine, kind_at, walk, IsExact, IsWholeMachine}
 use Rattle.lbnf_regex.specs.declared.kind.Kind.{Kind}
 use Rattle.lbnf_regex.specs.declared.kind.Kind.TheVariants.{White, Comment, Symbol}
 
@@ -58,3 +58,11 @@ abbrev pub HasKindsInOrder : Lexicon → Machine → Type 0
 HasKindsInOrder lexicon a =
     (place : ℕ) (kind : LexKind) → slice_get (lex_kinds lexicon) place ≡ Some kind →
     kind_at a.comments place ≡ kind_of kind
+
+-- the automaton is that of the lexicon: it is whole, leads nowhere exactly where no spelling begins
+-- with the bytes, accepts the least kind, and calls each kind what a lexer does
+pub record IsAutomatonOf (lexicon : Lexicon) (a : Machine) : Type 0 where
+  pub whole : IsWholeMachine a
+  pub exact : IsExactFor lexicon a
+  pub least : AcceptsLeast lexicon a
+  pub kinds : HasKindsInOrder lexicon a

@@ -9,18 +9,18 @@ use Rattle.lbnf_regex.specs.declared.pattern.Pattern.TheOpen.{Pattern-F}
 use Rattle.lbnf_regex.specs.declared.pattern.Pattern.TheFolds.{fold-Pattern}
 
 -- one form, with the expression of each part in its place
-abbrev pub form_of : Pattern-F ByteExpression → ByteExpression
-form_of Pattern-F.Empty = empty
-form_of (Pattern-F.Bytes set) = byte_in set
-form_of (Pattern-F.Seq parts) = these_in_turn parts
-form_of (Pattern-F.Alt parts) = one_of_these parts
-form_of (Pattern-F.Star part) = star part
-form_of (Pattern-F.Plus part) = plus part
-form_of (Pattern-F.Until closing) = until closing
+abbrev pub pattern_form : Pattern-F ByteExpression → ByteExpression
+pattern_form Pattern-F.Empty = empty
+pattern_form (Pattern-F.Bytes set) = byte_in set
+pattern_form (Pattern-F.Seq parts) = these_in_turn parts
+pattern_form (Pattern-F.Alt parts) = one_of_these parts
+pattern_form (Pattern-F.Star part) = star part
+pattern_form (Pattern-F.Plus part) = plus part
+pattern_form (Pattern-F.Until closing) = until closing
 
 -- the expression over bytes that the pattern is
 abbrev pub bytes_of_pattern : Pattern → ByteExpression
-bytes_of_pattern = fold-Pattern ByteExpression form_of
+bytes_of_pattern = fold-Pattern ByteExpression pattern_form
 
 -- how many positions each of the patterns has
 abbrev pub sizes_of : List Pattern → List ℕ

@@ -1,12 +1,11 @@
 -- Serves the proofs alone. States as sets of positions, and the rows of an automaton.
 use Rattle.std.specs.Prelude.{◌≡◌, ◌≢◌, ℕ, ◌<◌, ◌≤◌, ◌⊎◌, List, [], ◌∷◌, ◌++◌, length, Option, Some, None}
-use Rattle.std.specs.Prelude.{◌+◌, zero, suc, Contains, MatchOption, slice_index_or}
+use Rattle.std.specs.Prelude.{◌+◌, zero, suc, cond, nat_eq, Contains, MatchOption, slice_index_or}
 use Rattle.spec_automata.specs.ByteExpressions.{ByteExpression}
 use Rattle.spec_automata.specs.Positions.{position_count}
 use Rattle.spec_automata.specs.States.{AreBytes}
-use Rattle.lbnf_regex.specs.declared.next_byte.NextByte.{NextByte}
 use Rattle.lbnf_regex.specs.Steps.{HasLast}
-use Rattle.lbnf_regex.specs.Sets.{IsSetOf, IsSetThat, IsNext, LeadsFrom}
+use Rattle.lbnf_regex.specs.Sets.{IsSetOf, IsNext}
 
 -- the state is the set of some text that is not empty, and has positions
 pub record IsReached (x : ByteExpression) (state : List ℕ) : Type 0 where
@@ -28,24 +27,24 @@ pub record AreStates (x : ByteExpression) (states : List (List ℕ)) : Type 0 wh
   pub differ : (i j : ℕ) → i < j → j < length states → state_at states i ≡ state_at states j → ⊥
 
 -- where the byte leads to from the state: to none, or to one of these by its number
-abbrev pub IsEntry : ByteExpression → List (List ℕ) → List ℕ → ℕ → Option ℕ → Type 0
-IsEntry x states state byte None = IsNext x state byte []
-IsEntry x states state byte (Some j) =
+abbrev pub IsStateEntry : ByteExpression → List (List ℕ) → List ℕ → ℕ → Option ℕ → Type 0
+IsStateEntry x states state byte None = IsNext x state byte []
+IsStateEntry x states state byte (Some j) =
     (0 < j) × (j < length states) × IsNext x state byte (state_at states j)
 
 -- the entries of the state for the first bytes, so many
-pub record IsRow (x : ByteExpression) (states : List (List ℕ)) (state : List ℕ) (count : ℕ)
+pub record IsStateRow (x : ByteExpression) (states : List (List ℕ)) (state : List ℕ) (count : ℕ)
     (row : List (Option ℕ)) : Type 0 where
   pub size : length row ≡ count
   pub entries : (byte : ℕ) → byte < count
-      → IsEntry x states state byte (slice_index_or row byte None)
+      → IsStateEntry x states state byte (slice_index_or row byte None)
 
 -- the rows of the first states, so many
 pub record AreRows (x : ByteExpression) (states : List (List ℕ)) (count : ℕ)
     (rows : List (List (Option ℕ))) : Type 0 where
   pub size : length rows ≡ count
   pub rows_are : (i : ℕ) → i < count
-      → IsRow x states (state_at states i) 256 (slice_index_or rows i [])
+      → IsStateRow x states (state_at states i) 256 (slice_index_or rows i [])
 
 -- the rows of all states, which are at most so many
 pub record IsTable (x : ByteExpression) (most : ℕ) (states : List (List ℕ))
@@ -55,7 +54,7 @@ pub record IsTable (x : ByteExpression) (most : ℕ) (states : List (List ℕ))
   pub few : length states ≤ most
 
 -- states were added behind the others
-pub record Grows (old new : List (List ℕ)) : Type 0 where
+pub record AddsStates (old new : List (List ℕ)) : Type 0 where
   pub more : List (List ℕ)
   pub is : new ≡ old ++ more
 
@@ -73,17 +72,14 @@ pub record GetsNumber (old new : List (List ℕ)) (set : List ℕ) (number : ℕ
 abbrev pub HasNoRoom : List (List ℕ) → List ℕ → ℕ → Type 0
 HasNoRoom states set most = IsNoneOf states set × (length states ≡ most)
 
--- the entry for the byte: none where it leads nowhere, or the number of the set that it leads to
-abbrev pub GetsEntry : List NextByte → ℕ → List (List ℕ) → List (List ℕ) → Option ℕ → Type 0
-GetsEntry expected byte old new None = (new ≡ old) × IsSetThat (LeadsFrom expected byte) []
-GetsEntry expected byte old new (Some number) =
-    (set : List ℕ) × IsSetThat (LeadsFrom expected byte) set × (set ≢ [])
-    × GetsNumber old new set number
+-- the entry of the set: none where it is empty, or else its number
+abbrev pub GetsEntry : List ℕ → List (List ℕ) → List (List ℕ) → Option ℕ → Type 0
+GetsEntry set old new None = (new ≡ old) × (set ≡ [])
+GetsEntry set old new (Some number) = (set ≢ []) × GetsNumber old new set number
 
--- the byte leads to a set for which there is no room
-abbrev pub HasNoRoomFrom : List NextByte → ℕ → List (List ℕ) → ℕ → Type 0
-HasNoRoomFrom expected byte states most =
-    (set : List ℕ) × IsSetThat (LeadsFrom expected byte) set × (set ≢ []) × HasNoRoom states set most
+-- an entry by its number, which is 0 where no state follows
+abbrev pub entry_of : ℕ → Option ℕ
+entry_of number = cond (nat_eq number 0) None (Some number)
 
 -- a match of the expression at this place of the list can end at a marked position
 abbrev pub EndsInPlace : List ByteExpression → ℕ → (ℕ → Type 0) → ℕ → Type 0

@@ -1,7 +1,7 @@
 -- Serves the proofs alone. Steps from the positions of a text to those of the text with one byte
 -- more, through the expression and not through lists of what follows each position.
 use Rattle.std.specs.Prelude.{◌≡◌, ℕ, ◌+◌, ◌<◌, ◌≤◌, ◌^◌, ◌⊎◌, ◌↔◌, List, [], ◌∷◌, ◌++◌, length, take, Bool}
-use Rattle.std.specs.Prelude.{true, false, ◌&&◌, ◌||◌, nat_eq, Contains, Option, MatchOption}
+use Rattle.std.specs.Prelude.{true, false, ◌&&◌, ◌||◌, nat_eq, Contains}
 use Rattle.spec_automata.specs.ByteExpressions.{ByteExpression, empty, nothing, byte_in, in_turn}
 use Rattle.spec_automata.specs.ByteExpressions.{either, star, plus, until}
 use Rattle.spec_automata.specs.Positions.{IsBorder, position_count}
@@ -90,15 +90,9 @@ AddsExpected x first Entered Marked old new =
     (next : NextByte) → Contains new next ↔ (Contains old next ⊎ Expects x first Entered Marked next)
 
 -- the position has 32 bits, and inside a comment less than all of the closing text has been read
-abbrev pub IsSmall : NextByte → Type 0
-IsSmall (InSet position set) = position < 2 ^ 32
-IsSmall (InComment first closing size) = (size < length closing) × (first + length closing < 2 ^ 32)
-
--- read in this way, the byte leads to this position alone, or to none
-abbrev pub LeadsJustTo : NextByte → ℕ → Option ℕ → Type 0
-LeadsJustTo next byte target =
-    MatchOption target ((position : ℕ) → LeadsTo next byte position → ⊥)
-    (λ own. (position : ℕ) → LeadsTo next byte position ↔ (position ≡ own))
+abbrev pub HasFewPositions : NextByte → Type 0
+HasFewPositions (InSet position set) = position < 2 ^ 32
+HasFewPositions (InComment first closing size) = (size < length closing) × (first + length closing < 2 ^ 32)
 
 -- the new list has what the old one has, and this way where something holds
 abbrev pub AddsIf : Type 0 → NextByte → List NextByte → List NextByte → Type 0

@@ -2,9 +2,8 @@
 ghost use Rattle.std.specs.Prelude.{◌≡◌, ◌+◌, ◌<◌, ◌≤◌, ◌^◌, Err, List, length, map, IfOk};
 ghost use Rattle.spec_automata.specs.Encoding.{one_of_these};
 ghost use Rattle.spec_automata.specs.States.{HasManySets, HasTooManyStates};
-ghost use Rattle.lbnf_regex.specs.Automata.{AreAccepted, IsExact};
-ghost use Rattle.lbnf_regex.specs.Lexicons.{AcceptsLeast, HasKindsInOrder, IsExactFor};
-ghost use Rattle.lbnf_regex.specs.Lexicons.{lexicon_with};
+ghost use Rattle.lbnf_regex.specs.Automata.{RecognisesThese};
+ghost use Rattle.lbnf_regex.specs.Lexicons.{IsAutomatonOf, lexicon_with};
 ghost use Rattle.lbnf_regex.specs.Patterns.{bytes_of_pattern};
 ghost use Rattle.lbnf_regex.specs.declared.lex_fault.LexFault.TheVariants.{TooManyStates};
 ghost use Rattle.lbnf_regex.specs.declared.pattern.Pattern.{Pattern};
@@ -41,10 +40,7 @@ pub(crate) fn automaton_of(
     requires few { length kinds ≤ comments + 1 + 2 ^ 16 }
     requires some { 0 < most }
     requires room { most < 2 ^ 16 }
-    ensures exact { IfOk result (λ a. IsExact (one_of_these (map bytes_of_pattern kinds)) a.rows) }
-    ensures places { IfOk result (λ a.
-        AreAccepted (map bytes_of_pattern kinds) a.rows a.places) }
-    ensures comments { IfOk result (λ a. a.comments ≡ comments) }
+    ensures these { IfOk result (RecognisesThese (map bytes_of_pattern kinds) comments) }
     ensures few { IfOk result (λ a.
         HasManySets (one_of_these (map bytes_of_pattern kinds)) most → ⊥) }
     ensures full { result ≡ Err TooManyStates
@@ -70,10 +66,8 @@ pub fn automaton(
     kinds: &[KindDef],
 ) -> Result<Automaton, LexFault>
     requires { length kinds.now < 2 ^ 16 }
-    ensures exact { IfOk result (IsExactFor (lexicon_with lines.now blocks.now kinds.now)) }
-    ensures least { IfOk result (AcceptsLeast (lexicon_with lines.now blocks.now kinds.now)) }
-    ensures kinds { IfOk result
-        (HasKindsInOrder (lexicon_with lines.now blocks.now kinds.now)) }
+    ensures automaton { IfOk result
+        (IsAutomatonOf (lexicon_with lines.now blocks.now kinds.now)) }
     ensures few { IfOk result (λ a.
         HasTooManyStates (lexicon_with lines.now blocks.now kinds.now) → ⊥) }
     ensures full { result ≡ Err TooManyStates

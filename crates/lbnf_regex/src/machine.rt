@@ -1,8 +1,9 @@
 //! Automata as their callers see them.
 ghost use Rattle.std.specs.Prelude.{◌≡◌, ◌+◌, ◌<◌, ◌^◌, None, Some, IfSome, length, slice_index_or};
 ghost use Rattle.std.specs.Option.{option_map};
-ghost use Rattle.lbnf_regex.specs.Automata.{IsWhole, kind_at, machine_of, state_behind};
+ghost use Rattle.lbnf_regex.specs.Automata.{IsWholeMachine, kind_at, machine_of, state_behind};
 
+use crate::entry::Entry;
 use crate::kind::Kind;
 use sqlite_items::Items;
 use std::marker::Model;
@@ -10,14 +11,14 @@ use std::marker::Model;
 /// An automaton that recognises kinds, each by its place in their order. Its start is state 0.
 #[derive(Debug, Drop)]
 pub struct Automaton {
-    rows: Items<Items<Option<u16>>>,
+    rows: Items<Items<Entry>>,
     places: Items<Option<usize>>,
     comments: usize,
 }
 
 impl Model for Automaton {
     ghost use Rattle.std.specs.Coded.{codes};
-    ghost use Rattle.lbnf_regex.specs.Automata.{IsWhole, Machine, machine_of};
+    ghost use Rattle.lbnf_regex.specs.Automata.{IsWholeMachine, Machine, machine_of};
 
     ghost Value = { Machine };
 
@@ -25,16 +26,16 @@ impl Model for Automaton {
 
     ghost view = { λ a. machine_of a.rows a.places a.comments };
 
-    ghost invariant = { λ a. IsWhole (machine_of a.rows a.places a.comments) };
+    ghost invariant = { λ a. IsWholeMachine (machine_of a.rows a.places a.comments) };
 }
 
 impl Automaton {
     pub(crate) fn of(
-        rows: Items<Items<Option<u16>>>,
+        rows: Items<Items<Entry>>,
         places: Items<Option<usize>>,
         comments: usize,
     ) -> Automaton
-        requires { IsWhole (machine_of rows places comments) }
+        requires { IsWholeMachine (machine_of rows places comments) }
         ensures { result ≡ machine_of rows places comments }
     {
         Automaton {
@@ -66,7 +67,7 @@ impl Automaton {
         ensures next { result ≡ state_behind self.now.rows (Some state) byte }
         ensures within { IfSome result (λ next. next < length self.now.rows) }
     {
-        self.rows.as_slice()[state as usize].as_slice()[byte as usize]
+        self.rows.as_slice()[state as usize].as_slice()[byte as usize].state()
     }
 
     /// The least kind that matches what leads to the state. None where no kind does, and never

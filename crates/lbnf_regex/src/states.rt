@@ -1,62 +1,63 @@
 //! The states of an automaton, and the rows of its table.
-ghost use Rattle.std.specs.Prelude.{◌≡◌, ◌<◌, ◌≤◌, ◌^◌, Err, length, map, IfOk};
+ghost use Rattle.std.specs.Prelude.{◌≡◌, ◌≢◌, ◌<◌, ◌≤◌, ◌^◌, [], Err, length, map, IfOk};
 ghost use Rattle.spec_automata.specs.Encoding.{one_of_these};
 ghost use Rattle.spec_automata.specs.Positions.{position_count};
 ghost use Rattle.spec_automata.specs.States.{HasManySets};
 ghost use Rattle.lbnf_regex.specs.Patterns.{bytes_of_pattern, sizes_of};
-ghost use Rattle.lbnf_regex.specs.Sets.{AreSmall};
-ghost use Rattle.lbnf_regex.specs.States.{AreStates, GetsEntry, GetsNumber, Grows, HasNoRoom};
-ghost use Rattle.lbnf_regex.specs.States.{HasNoRoomFrom, IsRow, IsTable, state_at};
+ghost use Rattle.lbnf_regex.specs.States.{AddsStates, AreStates, GetsEntry, GetsNumber, HasNoRoom};
+ghost use Rattle.lbnf_regex.specs.States.{IsStateRow, IsTable, state_at};
 ghost use Rattle.lbnf_regex.specs.declared.lex_fault.LexFault.TheVariants.{TooManyStates};
 
+use crate::entry::Entry;
 use crate::lex_fault::LexFault;
-use crate::next_byte::NextByte;
-use crate::next_set::{expected, next_set};
 use crate::pattern::Pattern;
 use crate::state_list::States;
+use crate::targets::targets_from;
 use sqlite_items::Items;
 use std::alloc::Global;
 
 /// The number of the set, which is put behind the states where it is none of them.
-fn number_of(states: &mut States, set: Vec<u32>, most: usize) -> Result<usize, LexFault>
-    ensures ok { IfOk result (GetsNumber states.old states.new set.items) }
+fn number_of(
+    alloc: Global,
+    set: &[u32],
+    states: &mut States,
+    most: usize,
+) -> Result<usize, LexFault>
+    ensures ok { IfOk result (GetsNumber states.old states.new set.now) }
     ensures most { IfOk result (λ number. length states.old ≤ most → length states.new ≤ most) }
-    ensures full { result ≡ Err TooManyStates → HasNoRoom states.old set.items most }
+    ensures full { result ≡ Err TooManyStates → HasNoRoom states.old set.now most }
 {
-    match states.place_of(set.as_slice()) {
+    match states.place_of(set) {
         Some(place) => Ok(place),
         None => {
             let number = states.len();
             if number == most {
                 return Err(LexFault::TooManyStates);
             }
-            states.push(set)?;
+            states.push(Vec::from_slice(alloc, set)?)?;
             Ok(number)
         }
     }
 }
 
-/// Where the byte leads to, read in one of these ways.
+/// The entry of the set that follows.
 fn entry(
     alloc: Global,
-    expected: &[NextByte],
+    set: &[u32],
     states: &mut States,
-    byte: u8,
     most: usize,
 ) -> Result<Option<u16>, LexFault>
-    requires small { AreSmall expected.now }
     requires few { length states.old ≤ most }
     requires room { most < 2 ^ 16 }
-    ensures ok { IfOk result (GetsEntry expected.now byte states.old states.new) }
+    ensures ok { IfOk result (GetsEntry set.now states.old states.new) }
     ensures most { IfOk result (λ entry. length states.new ≤ most) }
     ensures full { result ≡ Err TooManyStates
-        → HasNoRoomFrom expected.now byte states.old most }
+        → (set.now ≢ []) × HasNoRoom states.old set.now most }
 {
-    let set = next_set(alloc, expected, byte)?;
     if set.is_empty() {
         return Ok(None);
     }
-    let number = number_of(states, set, most)?;
+    let number = number_of(alloc, set, states, most)?;
     Ok(Some(number as u16))
 }
 
@@ -68,27 +69,28 @@ fn row(
     states: &mut States,
     i: usize,
     most: usize,
-) -> Result<Items<Option<u16>>, LexFault>
+) -> Result<Items<Entry>, LexFault>
     requires size { position_count (one_of_these (map bytes_of_pattern kinds.now)) < 2 ^ 32 }
     requires sizes { sizes.now ≡ sizes_of kinds.now }
     requires states { AreStates (one_of_these (map bytes_of_pattern kinds.now)) states.old }
     requires few { length states.old ≤ most }
     requires room { most < 2 ^ 16 }
     requires within { i < length states.old }
-    ensures grows { IfOk result (λ row. Grows states.old states.new) }
+    ensures grows { IfOk result (λ row. AddsStates states.old states.new) }
     ensures states { IfOk result (λ row.
         AreStates (one_of_these (map bytes_of_pattern kinds.now)) states.new) }
     ensures most { IfOk result (λ row. length states.new ≤ most) }
-    ensures row { IfOk result (IsRow (one_of_these (map bytes_of_pattern kinds.now)) states.new
+    ensures row { IfOk result (IsStateRow (one_of_these (map bytes_of_pattern kinds.now)) states.new
         (state_at states.old i) 256) }
     ensures full { result ≡ Err TooManyStates
         → HasManySets (one_of_these (map bytes_of_pattern kinds.now)) most }
 {
-    let expected = expected(alloc, kinds, sizes, states.at(i))?;
+    let targets = targets_from(alloc, kinds, sizes, states.at(i))?;
     let mut row = Items::new(alloc);
     for byte in 0..256u16 {
-        let entry = entry(alloc, expected.as_slice(), states, byte as u8, most)?;
-        row.push(entry)?;
+        let set = targets.of_byte(byte as u8);
+        let entry = entry(alloc, set, states, most)?;
+        row.push(Entry::of(entry))?;
     }
     Ok(row)
 }
@@ -97,7 +99,7 @@ fn row(
 #[derive(Debug, Drop)]
 pub(crate) struct Table {
     pub states: States,
-    pub rows: Items<Items<Option<u16>>>,
+    pub rows: Items<Items<Entry>>,
 }
 
 /// The states that texts lead to, at most so many with the start, and their rows, for kinds of these

@@ -51,12 +51,11 @@ with_defs defs (Err fault) = Err fault
 pub record AreReadDefs (tokens : List PlacedToken) (stop : ℕ) (defs : List Def) (rest : List PlacedToken) : Type 0 where
   pub turns : ℕ
   pub enough : length rest ≤ turns
-  pub few : length defs + length rest ≤ length tokens
-  pub whole : defs_of tokens stop ≡ with_defs defs (defs_at turns (length defs) rest stop)
+  pub whole : defs_of tokens stop ≡ with_defs defs (defs_at turns rest stop)
 
 -- at first none is read
 pub none_read : (tokens : List PlacedToken) (stop : ℕ) → AreReadDefs tokens stop [] tokens
-none_read tokens stop = record { turns = length tokens; enough = omega arith; few = omega arith; whole = same (defs_of tokens stop) }
+none_read tokens stop = record { turns = length tokens; enough = omega arith; whole = same (defs_of tokens stop) }
   where
     same : (read : Result (List Def) TextFault) → read ≡ with_defs [] read
     same (Ok defs) = refl
@@ -75,12 +74,11 @@ unfolding defs_at
 skip_semicolon tokens stop defs first behind read ends = by read.turns read.enough read.whole
   where
     by : (turns : ℕ) → length (first ∷ behind) ≤ turns
-        → defs_of tokens stop ≡ with_defs defs (defs_at turns (length defs) (first ∷ behind) stop) → AreReadDefs tokens stop defs behind
+        → defs_of tokens stop ≡ with_defs defs (defs_at turns (first ∷ behind) stop) → AreReadDefs tokens stop defs behind
     by zero enough whole = absurd (omega arith)
     by (suc less) enough whole = record {
       turns = less;
       enough = omega arith;
-      few = omega (arith, read.few);
       whole = whole ∙ rw ends refl;
     }
 
@@ -88,7 +86,7 @@ skip_semicolon tokens stop defs first behind read ends = by read.turns read.enou
 abbrev pub NextDefs : (tokens : List PlacedToken) (stop : ℕ) (defs : List Def) (size : ℕ) (piece after : List PlacedToken) → Type 0
 NextDefs tokens stop defs size piece after =
     (less : ℕ) × (size ≤ suc less)
-    × (defs_of tokens stop ≡ with_defs defs (and_defs (piece_def (length defs) piece (offset_of after stop)) (defs_at less (suc (length defs)) after stop)))
+    × (defs_of tokens stop ≡ with_defs defs (and_defs (piece_def piece (offset_of after stop)) (defs_at less after stop)))
 
 -- a piece that is not empty is read next
 next_piece : (tokens : List PlacedToken) (stop : ℕ) (defs : List Def) (first : PlacedToken) (behind : List PlacedToken)
@@ -98,7 +96,7 @@ unfolding defs_at
 next_piece tokens stop defs first behind read more = by read.turns read.enough read.whole
   where
     by : (turns : ℕ) → length (first ∷ behind) ≤ turns
-        → defs_of tokens stop ≡ with_defs defs (defs_at turns (length defs) (first ∷ behind) stop)
+        → defs_of tokens stop ≡ with_defs defs (defs_at turns (first ∷ behind) stop)
         → NextDefs tokens stop defs (length (first ∷ behind)) (piece_at (first ∷ behind)) (behind_piece (first ∷ behind))
     by zero enough whole = absurd (omega arith)
     by (suc less) enough whole = (less, enough, whole ∙ rw more refl)
@@ -121,19 +119,17 @@ module _ (tokens : List PlacedToken) (stop : ℕ) (defs : List Def) (first : Pla
   next_defs = rw (is_piece, is_after) (next_piece tokens stop defs first behind read more)
 
   -- where the piece has a fault, it is the first
-  pub no_defs : (fault : TextFault) → piece_def (length defs) piece (offset_of after stop) ≡ Err fault → defs_of tokens stop ≡ Err fault
+  pub no_defs : (fault : TextFault) → piece_def piece (offset_of after stop) ≡ Err fault → defs_of tokens stop ≡ Err fault
   no_defs fault none = next_defs.2 ∙ rw none refl
 
   -- the definition of the piece is read
-  pub more_defs : (def : Def) → piece_def (length defs) piece (offset_of after stop) ≡ Ok def → AreReadDefs tokens stop (defs ++ def ∷ []) after
+  pub more_defs : (def : Def) → piece_def piece (offset_of after stop) ≡ Ok def → AreReadDefs tokens stop (defs ++ def ∷ []) after
   more_defs def some =
       let next = next_defs in
-      let one : length (defs ++ def ∷ []) ≡ suc (length defs) = omega (arith, length-append defs (def ∷ [])) in
       record {
         turns = next.0;
         enough = omega (arith, next.1, shorter);
-        few = omega (arith, read.few, one, shorter);
-        whole = next.2 ∙ rw (some, one) (def_in_front defs def (defs_at next.0 (suc (length defs)) after stop));
+        whole = next.2 ∙ rw some (def_in_front defs def (defs_at next.0 after stop));
       }
 
 -- a fault that is told of a part is told of the whole, if it is the fault of both

@@ -7,3 +7,5 @@ pub mod LiteralLemmas
 pub mod SignTextLemmas
 pub mod ScanTextLemmas
 pub mod FileLemmas
+pub mod DifferenceLemmas
+pub mod ExpressionLemmas

@@ -24,13 +24,13 @@ identifier (Identifier name) = Some name
 identifier other = None
 
 -- the fault of a token behind a first word
-abbrev pub second_fault : (number : ℕ) → (first : List ℕ) → FileToken → (at : ℕ) → TextFault
-second_fault number first token at = piece_fault number (Identifier first ∷ []) token at
+abbrev pub second_fault : (first : List ℕ) → FileToken → (at : ℕ) → TextFault
+second_fault first token at = piece_fault (Identifier first ∷ []) token at
 
 -- the fault of a token behind two words
-abbrev pub third_fault : (number : ℕ) → (first second : List ℕ) → FileToken → ℕ → TextFault
-third_fault number first second token at =
-    piece_fault number (Identifier first ∷ Identifier second ∷ []) token at
+abbrev pub third_fault : (first second : List ℕ) → FileToken → (at : ℕ) → TextFault
+third_fault first second token at =
+    piece_fault (Identifier first ∷ Identifier second ∷ []) token at
 
 -- the tokens begin a definition so; behind others than words each fault is one of syntax
 abbrev pub IsStart : List FileToken → Start → Type 0
@@ -38,4 +38,4 @@ IsStart front Nothing = front ≡ []
 IsStart front (Word word) = front ≡ Identifier word.now ∷ []
 IsStart front (TwoWords word other) = front ≡ Identifier word.now ∷ Identifier other.now ∷ []
 IsStart front Other =
-    (number : ℕ) (token : FileToken) (at : ℕ) → piece_fault number front token at ≡ Syntax at
+    (token : FileToken) (at : ℕ) → piece_fault front token at ≡ Syntax at

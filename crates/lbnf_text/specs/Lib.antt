@@ -2,3 +2,5 @@ pub mod Reading
 pub mod Parsing
 pub mod Faulting
 pub mod LiteralParts
+pub mod Expressions
+pub mod BadDifferences

@@ -1,10 +1,11 @@
 -- What a parser of tokens answers. Serves the proofs alone.
-use Rattle.std.specs.Prelude.{◌≡◌, ◌≢◌, ℕ, List, [], ◌∷◌, ◌++◌, Bool}
+use Rattle.std.specs.Prelude.{◌≡◌, ◌≢◌, ℕ, List, [], ◌∷◌, ◌++◌, Bool, cond, codes}
 use Rattle.std.specs.Prelude.{Option, Some, None, Result, Ok, Err}
 use Rattle.std.specs.Borrow.{Bor}
 use Rattle.spec_lbnf.specs.declared.token.PlacedToken.{PlacedToken}
 use Rattle.lbnf_readers.specs.FileReading.{Read, Reader, got, stuck, long, next_on, pure}
-use Rattle.lbnf_readers.specs.FileReading.{sign_at, category_at}
+use Rattle.lbnf_readers.specs.FileReading.{◌>>=◌, sign_at, category_at, rule_at, is_word, token_at}
+use Rattle.lbnf_readers.specs.FileReading.{position_at, comment_at}
 use Rattle.spec_lbnf.specs.declared.token.Sign.TheVariants.{Comma}
 use Rattle.spec_lbnf.specs.declared.definition.RawItem.{RawItem}
 use Rattle.spec_lbnf.specs.declared.definition.RawItem.TheVariants.{Cat}
@@ -59,3 +60,11 @@ category_item_at tokens = next_on (λ cat. pure (Cat cat ∷ [])) (category_at t
 -- a comma and a category
 abbrev pub next_entry_at : Reader CatName
 next_entry_at tokens = next_on (λ comma. category_at) (sign_at Comma tokens)
+
+-- the kind of token or the comment that begins with this word, behind it, or else a rule
+abbrev pub lexical_or_rule : PlacedToken → Reader Def
+lexical_or_rule token rest =
+    cond (is_word (codes "token") token.token) (token_at rest)
+    (cond (is_word (codes "position") token.token) (position_at rest)
+    (cond (is_word (codes "comment") token.token) (comment_at rest)
+    ((rule_at >>= (λ rule. pure (def.Rule rule))) (token ∷ rest))))

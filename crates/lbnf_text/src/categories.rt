@@ -5,11 +5,8 @@ ghost use Rattle.lbnf_text.specs.Parsing.{Gives};
 
 use crate::parser::{Parser, Stop, is_sign};
 use spec_lbnf::{CatName, PlacedToken, Sign};
-use spec_text::Name;
+use spec_text::{MAX_CATEGORY, Name};
 use std::alloc::Global;
-
-/// The most bytes of a category's text.
-const MAX_CATEGORY: usize = 128;
 
 /// How many open brackets come first.
 fn open_count(tokens: &[PlacedToken]) -> usize

@@ -1,8 +1,9 @@
 //! Reading one definition.
 ghost use Rattle.std.specs.Prelude.{◌≡◌, ◌∷◌, ◌<◌, length, OnOk};
 ghost use Rattle.lbnf_readers.specs.FileReading.{rule_at, macro_at, list_macro_at, coercions_at};
-ghost use Rattle.lbnf_readers.specs.FileReading.{entries_at, to_end, def_by, def_at};
-ghost use Rattle.lbnf_text.specs.Parsing.{Gives, list_def, next_entry_at};
+ghost use Rattle.lbnf_readers.specs.FileReading.{entries_at, token_at, position_at, comment_end};
+ghost use Rattle.lbnf_readers.specs.FileReading.{comment_at, to_end, def_by, def_at};
+ghost use Rattle.lbnf_text.specs.Parsing.{Gives, list_def, next_entry_at, lexical_or_rule};
 
 use crate::parser::{Parser, Stop, is_word};
 use spec_lbnf::{CatName, Def, PlacedToken, RawRule, Sign};
@@ -106,6 +107,46 @@ impl<'a> Parser<'a> {
         Ok(cats)
     }
 
+    /// Reads the name and the expression of a kind of token.
+    #[tactic(auto, unfolding(lbnf_readers::specs::FileReading::token_at, lbnf_readers::specs::FileReading::next_on))]
+    fn token_def(&mut self, alloc: Global) -> Result<Def, Stop>
+        ensures { Gives (token_at self.old) result self.new }
+    {
+        let name = self.name(alloc)?;
+        let expr = self.expression(alloc)?;
+        Ok(Def::Token { name, expr })
+    }
+
+    /// Reads a kind of token behind the word `position`.
+    #[tactic(auto, unfolding(lbnf_readers::specs::FileReading::position_at, lbnf_readers::specs::FileReading::next_on))]
+    fn positioned_token(&mut self, alloc: Global) -> Result<Def, Stop>
+        ensures { Gives (position_at self.old) result self.new }
+    {
+        self.word(b"token".as_slice())?;
+        self.token_def(alloc)
+    }
+
+    /// Reads what closes a comment, if it does not end with its line.
+    #[tactic(auto, unfolding(lbnf_readers::specs::FileReading::comment_end, lbnf_readers::specs::FileReading::next_on))]
+    fn comment_end(&mut self, alloc: Global, opening: Name) -> Result<Def, Stop>
+        ensures { Gives (comment_end opening self.old) result self.new }
+    {
+        if self.is_at_end() {
+            return Ok(Def::LineComment(opening));
+        }
+        let closing = self.filled_text(alloc)?;
+        Ok(Def::BlockComment(opening, closing))
+    }
+
+    /// Reads the texts of a comment, one or two.
+    #[tactic(auto, unfolding(lbnf_readers::specs::FileReading::comment_at, lbnf_readers::specs::FileReading::next_on))]
+    fn comment(&mut self, alloc: Global) -> Result<Def, Stop>
+        ensures { Gives (comment_at self.old) result self.new }
+    {
+        let opening = self.filled_text(alloc)?;
+        self.comment_end(alloc, opening)
+    }
+
     /// Sees that no token is left.
     #[tactic(auto, unfolding(lbnf_readers::specs::FileReading::to_end))]
     fn end(&mut self, def: Def) -> Result<Def, Stop>
@@ -116,6 +157,33 @@ impl<'a> Parser<'a> {
         } else {
             Err(Stop::Stuck)
         }
+    }
+
+    /// Reads a kind of token or a comment by its first word, or else a rule; the first token and
+    /// the tokens behind it come next.
+    #[tactic(auto, unfolding(lbnf_readers::specs::FileReading::next_on))]
+    fn lexical_or_rule(
+        &mut self,
+        alloc: Global,
+        first: &PlacedToken,
+        behind: &'a [PlacedToken],
+    ) -> Result<Def, Stop>
+        requires { self.old ≡ first.now ∷ behind.now }
+        ensures { Gives (lexical_or_rule first.now behind.now) result self.new }
+    {
+        if is_word(b"token".as_slice(), &first.token) {
+            self.go_to(behind);
+            return self.token_def(alloc);
+        }
+        if is_word(b"position".as_slice(), &first.token) {
+            self.go_to(behind);
+            return self.positioned_token(alloc);
+        }
+        if is_word(b"comment".as_slice(), &first.token) {
+            self.go_to(behind);
+            return self.comment(alloc);
+        }
+        Ok(Def::Rule(self.rule(alloc)?))
     }
 
     /// Reads a definition by its first word; this and the tokens behind it come next.
@@ -149,7 +217,7 @@ impl<'a> Parser<'a> {
             self.go_to(behind);
             return Ok(Def::Entry(self.entries(alloc)?));
         }
-        Ok(Def::Rule(self.rule(alloc)?))
+        self.lexical_or_rule(alloc, first, behind)
     }
 
     /// Reads a definition that all of the tokens are.

@@ -39,14 +39,14 @@ fn cut(tokens: &[PlacedToken]) -> (&[PlacedToken], &[PlacedToken])
 /// The definition that all of the tokens of a piece are, or their fault. The stop is the offset of
 /// what stands behind the piece.
 #[tactic(auto, unfolding(lbnf_readers::specs::FileDefinitions::piece_def))]
-fn piece_def(alloc: Global, number: u32, piece: &[PlacedToken], stop: u32) -> Result<Def, TextFault>
-    ensures { IsReadAs (λ def. def) (piece_def number piece.now stop) result }
+fn piece_def(alloc: Global, piece: &[PlacedToken], stop: u32) -> Result<Def, TextFault>
+    ensures { IsReadAs (λ def. def) (piece_def piece.now stop) result }
 {
     let mut parser = Parser::new(piece);
     match parser.definition(alloc) {
         Ok(def) => Ok(def),
         Err(Stop::Memory) => Err(TextFault::Memory),
-        Err(Stop::Stuck) => Err(stuck_fault(alloc, number, piece, parser.rest(), stop)),
+        Err(Stop::Stuck) => Err(stuck_fault(alloc, piece, parser.rest(), stop)),
         Err(Stop::Long) => {
             let at = offset_of(parser.rest(), stop);
             Err(TextFault::Syntax { at })
@@ -57,7 +57,6 @@ fn piece_def(alloc: Global, number: u32, piece: &[PlacedToken], stop: u32) -> Re
 /// The definitions that the tokens are, or their first fault. The stop is the offset behind the
 /// last token.
 pub fn definitions(alloc: Global, tokens: &[PlacedToken], stop: u32) -> Result<Vec<Def>, TextFault>
-    requires { length tokens.now ≤ 65536 }
     ensures { IsReadAs (λ list. list.items) (defs_of tokens.now stop) result }
 {
     let mut list = Vec::new(alloc);
@@ -68,8 +67,7 @@ pub fn definitions(alloc: Global, tokens: &[PlacedToken], stop: u32) -> Result<V
             continue;
         }
         let (piece, behind) = cut(rest);
-        let number = list.len() as u32;
-        let def = piece_def(alloc, number, piece, offset_of(behind, stop))?;
+        let def = piece_def(alloc, piece, offset_of(behind, stop))?;
         list.push(def).map_err(|_| TextFault::Memory)?;
         rest = behind;
     }

@@ -1,10 +1,9 @@
 //! The fault of a definition that cannot go on.
-ghost use Rattle.std.specs.Prelude.{◌≡◌, ℕ, [], None, bytes_eq};
-ghost use Rattle.std.specs.List.{list_any};
+ghost use Rattle.std.specs.Prelude.{◌≡◌, [], None};
 ghost use Rattle.std.specs.Option.{option_copied};
 ghost use Rattle.spec_lbnf.specs.declared.token.FileToken.TheVariants.{Identifier};
-ghost use Rattle.spec_lbnf.specs.Faults.{bare, unbuilt_words};
-ghost use Rattle.lbnf_readers.specs.FileFaults.{word_fault, piece_fault};
+ghost use Rattle.spec_lbnf.specs.Faults.{bare};
+ghost use Rattle.lbnf_readers.specs.FileFaults.{piece_fault};
 ghost use Rattle.lbnf_readers.specs.FileDefinitions.{offset_of, stuck_fault};
 ghost use Rattle.lbnf_text.specs.Faulting.{identifier, second_fault, third_fault, IsFault, IsStart};
 
@@ -58,13 +57,6 @@ fn start_of(front: &[PlacedToken]) -> Start<'_>
     Start::TwoWords(word, other)
 }
 
-/// Whether a definition that begins with the word has a form that is not built.
-fn is_unbuilt(word: &[u8]) -> bool
-    ensures { result ≡ list_any (bytes_eq word.now) unbuilt_words }
-{
-    word == b"token".as_slice() || word == b"position".as_slice() || word == b"comment".as_slice()
-}
-
 /// That the word, which is copied, is not supported.
 fn unsupported(alloc: Global, word: &str, at: u32) -> TextFault
     ensures { IsFault (TextFault.Unsupported word.now at) result }
@@ -78,20 +70,9 @@ fn unsupported(alloc: Global, word: &str, at: u32) -> TextFault
     }
 }
 
-/// The fault of a lower-case word that begins no definition.
-fn word_fault(alloc: Global, number: u32, word: &Name, at: u32) -> TextFault
-    ensures { IsFault (word_fault number word.now at) result }
-{
-    if is_unbuilt(word.as_slice()) {
-        TextFault::Unbuilt { def: number }
-    } else {
-        unsupported(alloc, word.as_str(), at)
-    }
-}
-
 /// The fault of a token that begins no definition.
-fn first_fault(alloc: Global, number: u32, token: &FileToken, at: u32) -> TextFault
-    ensures { IsFault (piece_fault number [] token.now at) result }
+fn first_fault(alloc: Global, token: &FileToken, at: u32) -> TextFault
+    ensures { IsFault (piece_fault [] token.now at) result }
 {
     let Some(word) = identifier(token) else {
         return TextFault::Syntax { at };
@@ -99,14 +80,13 @@ fn first_fault(alloc: Global, number: u32, token: &FileToken, at: u32) -> TextFa
     if starts_upper(word.as_slice()) {
         TextFault::Syntax { at }
     } else {
-        word_fault(alloc, number, word, at)
+        unsupported(alloc, word.as_str(), at)
     }
 }
 
 /// The fault of a word behind a first word.
 fn second_word(alloc: Global, first: &Name, word: &Name, at: u32) -> TextFault
-    ensures { (number : ℕ)
-        → IsFault (second_fault number first.now (Identifier word.now) at) result }
+    ensures { IsFault (second_fault first.now (Identifier word.now) at) result }
 {
     if first.as_slice() != b"internal".as_slice() {
         return TextFault::Syntax { at };
@@ -120,7 +100,7 @@ fn second_word(alloc: Global, first: &Name, word: &Name, at: u32) -> TextFault
 /// The fault of a token that is no word behind a first word.
 fn second_sign(alloc: Global, first: &Name, token: &FileToken, at: u32) -> TextFault
     requires { identifier token.now ≡ None }
-    ensures { (number : ℕ) → IsFault (second_fault number first.now token.now at) result }
+    ensures { IsFault (second_fault first.now token.now at) result }
 {
     if !is_sign(Sign::OpenParen, token) {
         return TextFault::Syntax { at };
@@ -133,7 +113,7 @@ fn second_sign(alloc: Global, first: &Name, token: &FileToken, at: u32) -> TextF
 
 /// The fault of a token behind a first word.
 fn second_fault(alloc: Global, first: &Name, token: &FileToken, at: u32) -> TextFault
-    ensures { (number : ℕ) → IsFault (second_fault number first.now token.now at) result }
+    ensures { IsFault (second_fault first.now token.now at) result }
 {
     match token {
         FileToken::Identifier(word) => second_word(alloc, first, word, at),
@@ -146,8 +126,7 @@ fn second_fault(alloc: Global, first: &Name, token: &FileToken, at: u32) -> Text
 
 /// The fault of a token behind two words.
 fn third_fault(alloc: Global, first: &Name, second: &Name, token: &FileToken, at: u32) -> TextFault
-    ensures { (number : ℕ)
-        → IsFault (third_fault number first.now second.now token.now at) result }
+    ensures { IsFault (third_fault first.now second.now token.now at) result }
 {
     if !is_sign(Sign::OpenParen, token) {
         return TextFault::Syntax { at };
@@ -159,13 +138,13 @@ fn third_fault(alloc: Global, first: &Name, second: &Name, token: &FileToken, at
 }
 
 /// The fault of a token at which a definition that has begun with these cannot go on.
-fn token_fault(alloc: Global, number: u32, front: &[PlacedToken], token: &PlacedToken) -> TextFault
+fn token_fault(alloc: Global, front: &[PlacedToken], token: &PlacedToken) -> TextFault
     ensures { IsFault
-        (piece_fault number (bare front.now) token.now.token token.now.offset) result }
+        (piece_fault (bare front.now) token.now.token token.now.offset) result }
 {
     let at = token.offset;
     match start_of(front) {
-        Start::Nothing => first_fault(alloc, number, &token.token, at),
+        Start::Nothing => first_fault(alloc, &token.token, at),
         Start::Word(word) => second_fault(alloc, word, &token.token, at),
         Start::TwoWords(word, other) => third_fault(alloc, word, other, &token.token, at),
         Start::Other => TextFault::Syntax { at },
@@ -176,18 +155,17 @@ fn token_fault(alloc: Global, number: u32, front: &[PlacedToken], token: &Placed
 /// what stands behind the piece.
 pub fn stuck_fault(
     alloc: Global,
-    number: u32,
     piece: &[PlacedToken],
     rest: &[PlacedToken],
     stop: u32,
 ) -> TextFault
-    ensures { IsFault (stuck_fault number piece.now rest.now stop) result }
+    ensures { IsFault (stuck_fault piece.now rest.now stop) result }
 {
     let Some((token, _)) = first_of(rest) else {
         return TextFault::Syntax { at: stop };
     };
     let read = piece.len().saturating_sub(rest.len());
-    token_fault(alloc, number, &piece[..read], token)
+    token_fault(alloc, &piece[..read], token)
 }
 
 /// Where the first of the tokens begins, or else this offset.

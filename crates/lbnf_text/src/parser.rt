@@ -4,8 +4,9 @@ ghost use Rattle.std.specs.Option.{option_copied};
 ghost use Rattle.spec_lbnf.specs.GrammarFile.{starts_upper};
 ghost use Rattle.spec_lbnf.specs.FileTokens.{sign_bytes};
 ghost use Rattle.lbnf_readers.specs.FileReading.{is_sign, is_word};
-ghost use Rattle.lbnf_readers.specs.FileReading.{upper_name, text_value, number_value};
-ghost use Rattle.lbnf_readers.specs.FileReading.{sign_at, name_at, text_at, number_at};
+ghost use Rattle.lbnf_readers.specs.FileReading.{upper_name, text_value, filled_text};
+ghost use Rattle.lbnf_readers.specs.FileReading.{number_value, sign_at, name_at, text_at};
+ghost use Rattle.lbnf_readers.specs.FileReading.{filled_text_at, number_at, word_at};
 ghost use Rattle.lbnf_text.specs.Parsing.{Gives, IsFirstToken, Splits};
 
 use spec_lbnf::{FileToken, PlacedToken, Sign};
@@ -96,6 +97,19 @@ impl<'a> Parser<'a> {
         Ok(())
     }
 
+    /// Reads this word.
+    #[tactic(auto, unfolding(lbnf_readers::specs::FileReading::word_at, lbnf_readers::specs::FileReading::take_token))]
+    pub fn word(&mut self, word: &[u8]) -> Result<(), Stop>
+        ensures { Gives (word_at word.now self.old) result self.new }
+    {
+        let (first, behind) = self.split()?;
+        if !is_word(word, &first.token) {
+            return Err(Stop::Stuck);
+        }
+        self.rest = behind;
+        Ok(())
+    }
+
     /// Reads an upper-case name.
     #[tactic(auto, unfolding(lbnf_readers::specs::FileReading::name_at, lbnf_readers::specs::FileReading::take_token))]
     pub fn name(&mut self, alloc: Global) -> Result<Name, Stop>
@@ -116,6 +130,18 @@ impl<'a> Parser<'a> {
     {
         let (first, behind) = self.split()?;
         let text = text_value(&first.token).ok_or(Stop::Stuck)?;
+        let text = text.copy(alloc)?;
+        self.rest = behind;
+        Ok(text)
+    }
+
+    /// Reads a string of one byte or more.
+    #[tactic(auto, unfolding(lbnf_readers::specs::FileReading::filled_text_at, lbnf_readers::specs::FileReading::take_token))]
+    pub fn filled_text(&mut self, alloc: Global) -> Result<Name, Stop>
+        ensures { Gives (filled_text_at self.old) result self.new }
+    {
+        let (first, behind) = self.split()?;
+        let text = filled_text(&first.token).ok_or(Stop::Stuck)?;
         let text = text.copy(alloc)?;
         self.rest = behind;
         Ok(text)
@@ -209,6 +235,20 @@ pub fn text_value(token: &FileToken) -> Option<&Name>
         Some(text)
     } else {
         None
+    }
+}
+
+/// The text of one byte or more that the token is.
+fn filled_text(token: &FileToken) -> Option<&Name>
+    ensures { option_copied result ≡ filled_text token.now }
+{
+    let FileToken::Text(text) = token else {
+        return None;
+    };
+    if text.as_slice().is_empty() {
+        None
+    } else {
+        Some(text)
     }
 }
 

@@ -4,12 +4,11 @@ ghost use Rattle.lbnf_text.specs.Reading.{ReadsFile, ReadsDefs};
 
 use crate::definitions::definitions;
 use crate::defs::Defs;
+use crate::differences::bad_difference;
 use crate::scanner::scan_file;
 use spec_lbnf::{Def, TextFault};
+use spec_text::MAX_FILE;
 use std::alloc::Global;
-
-/// The most bytes of a file.
-pub const MAX_FILE: usize = 65_536;
 
 /// The definitions that a text spells, or its first fault.
 fn read_text(alloc: Global, text: &str) -> Result<Vec<Def>, TextFault>
@@ -21,7 +20,10 @@ fn read_text(alloc: Global, text: &str) -> Result<Vec<Def>, TextFault>
     if scan.stop < text.len() as u32 {
         return Err(TextFault::Syntax { at: scan.stop });
     }
-    Ok(defs)
+    match bad_difference(defs.as_slice(), scan.tokens.as_slice()) {
+        None => Ok(defs),
+        Some(at) => Err(TextFault::BadDifference { at }),
+    }
 }
 
 /// The definitions that the bytes spell, or their first fault.
@@ -42,11 +44,12 @@ fn read_bytes(alloc: Global, bytes: &[u8]) -> Result<Vec<Def>, TextFault>
 }
 
 /// The definitions that the bytes of a grammar file spell, or its first fault: labelled BNF after
-/// the BNF Converter's manual, in a profile of our own, of which all forms but definitions of
-/// tokens and of comments are built. A file has at most 65,536 bytes. Its size is looked at first,
-/// then its encoding, both without memory, and then the least offset at which it cannot go on. It
+/// the BNF Converter's manual, in a profile of our own. A file has at most 65,536 bytes. Its size
+/// is looked at first, then its encoding, both without memory, then the least offset at which it
+/// cannot go on, and last the differences of its token expressions, in the order of their signs. It
 /// takes work and memory in proportion to the file: each byte is looked at a few times, and names
-/// and words are copied.
+/// and words are copied; a side of a difference is looked at once more for each difference around
+/// it.
 pub fn read_defs(alloc: Global, bytes: &[u8]) -> Result<Defs, TextFault>
     ensures { ReadsDefs bytes.now result }
 {

@@ -15,11 +15,8 @@ ghost use Rattle.lbnf_readers.specs.Scanning.{file_token_at, SkipsTo};
 ghost use Rattle.lbnf_text.specs.LiteralParts.{IsPartOf, IsScalarPart, LeavesFewer};
 
 use spec_lbnf::{FileToken, PlacedToken, Sign};
-use spec_text::{Name, is_white};
+use spec_text::{MAX_IDENTIFIER, Name, is_white};
 use std::alloc::{AllocError, Global};
-
-/// The most bytes of an identifier.
-const MAX_NAME: usize = 64;
 
 /// The most digits of a number.
 const MAX_DIGITS: usize = 4;
@@ -212,7 +209,7 @@ fn identifier(alloc: Global, text: &str) -> Result<Option<(FileToken, &str)>, Al
     ensures { IfOk result (λ read. option_map (λ x. (x.0, x.1.now)) read ≡ identifier_at text.now) }
 {
     let (name, rest) = text.split_at(name_len(text.as_bytes()));
-    if name.len() > MAX_NAME {
+    if name.len() > MAX_IDENTIFIER {
         return Ok(None);
     }
     let owned = Name::of(Vec::from_slice(alloc, name.as_bytes())?);
@@ -357,7 +354,7 @@ pub(crate) fn scan_file(alloc: Global, text: &str) -> Result<Scan, AllocError>
 #[cfg(test)]
 mod tests {
     use super::*;
-    use crate::MAX_FILE;
+    use spec_text::MAX_FILE;
     use std::test::*;
 
     /// A token as it is expected.

@@ -1,4 +1,3 @@
-pub mod NameLemmas
 pub mod PlaceLemmas
 pub mod MakingLemmas
 pub mod NullableLemmas

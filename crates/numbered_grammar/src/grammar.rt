@@ -2,7 +2,7 @@
 ghost use Rattle.std.specs.Prelude.{◌≡◌, ◌<◌, ◌^◌, length, slice_get, Some, IfSome};
 ghost use Rattle.spec_grammar.specs.Cycles.{IsAcyclic, IsRank};
 ghost use Rattle.spec_grammar.specs.Grammars.{HasOwnSymbols, IsSymbolOf, item_count};
-ghost use Rattle.numbered_grammar.specs.Making.{FindsCategory};
+ghost use Rattle.numbered_grammar.specs.Making.{FindsSymbol};
 ghost use Rattle.numbered_grammar.specs.Nullable.{AreNullableFlags};
 ghost use Rattle.numbered_grammar.specs.Places.{ArePlacesOf};
 ghost use Rattle.numbered_grammar.specs.Ranks.{AreRanks};
@@ -21,8 +21,8 @@ pub struct Grammar {
     parts: GrammarParts,
     nullable: Vec<bool>,
     ranks: Vec<u16>,
-    /// For the text of each category, the first category that has it.
-    places: IndexMap<Vec<u8>, u16>,
+    /// The symbol of each name.
+    places: IndexMap<Vec<u8>, Symbol>,
 }
 
 impl Model for Grammar {
@@ -43,7 +43,7 @@ impl Model for Grammar {
     ghost invariant = { λ g. IsAcyclic g.parts.rules
         × AreNullableFlags g.parts g.nullable.items
         × AreRanks g.parts g.ranks.items
-        × ArePlacesOf g.parts.categories g.places };
+        × ArePlacesOf g.parts.categories g.parts.lexicon.kinds g.places };
 }
 
 impl Grammar {
@@ -51,12 +51,12 @@ impl Grammar {
         parts: GrammarParts,
         nullable: Vec<bool>,
         ranks: Vec<u16>,
-        places: IndexMap<Vec<u8>, u16>,
+        places: IndexMap<Vec<u8>, Symbol>,
     ) -> Grammar
         requires acyclic { IsAcyclic parts.rules }
         requires nullable { AreNullableFlags parts nullable.items }
         requires ranks { AreRanks parts ranks.items }
-        requires places { ArePlacesOf parts.categories places }
+        requires places { ArePlacesOf parts.categories parts.lexicon.kinds places }
         ensures { result ≡ parts }
     {
         Grammar {
@@ -156,13 +156,28 @@ impl Grammar {
         &self.parts.kinds()[k as usize]
     }
 
-    /// The category of this text, which is the first where several have it. It is one look-up,
-    /// whatever the category, and takes no memory.
+    /// The words that begin line comments, in file order. It takes no memory.
+    pub fn line_comments(&self) -> &[Name]
+        ensures { result.now ≡ self.now.lexicon.line_comments }
+    {
+        self.parts.line_comments()
+    }
+
+    /// The words that begin and end block comments, in file order. It takes no memory.
+    pub fn block_comments(&self) -> &[(Name, Name)]
+        ensures { result.now ≡ self.now.lexicon.block_comments }
+    {
+        self.parts.block_comments()
+    }
+
+    /// The symbol of this name: a category by its text, or a kind of token that is no word by its
+    /// name. No two symbols have one name. It is one look-up, whatever the symbol, and takes no
+    /// memory.
     pub fn find(&self, text: &[u8]) -> Option<Symbol>
-        ensures found { FindsCategory self.now.categories text.now result }
+        ensures found { FindsSymbol self.now text.now result }
         ensures own { IfSome result (IsSymbolOf self.now) }
     {
-        let place = self.places.get(text)?;
-        Some(Symbol::Category(*place))
+        let symbol = self.places.get(text)?;
+        Some(*symbol)
     }
 }

@@ -5,6 +5,7 @@
 mod cycle_check;
 mod fault;
 mod grammar;
+mod lexicon;
 mod making;
 mod nullable;
 mod parts;
@@ -14,6 +15,7 @@ mod threads;
 
 pub use fault::CycleFault;
 pub use grammar::Grammar;
+pub use lexicon::LexiconParts;
 pub use parts::GrammarParts;
 pub use spec_grammar::{Label, Rule, Symbol};
 pub use spec_lexing::KindDef;

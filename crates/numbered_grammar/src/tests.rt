@@ -8,16 +8,30 @@ use small_grammars::grammar_of_names;
 use std::test::*;
 
 #[test]
-fn the_first_of_equal_names_is_found(rt: HostRuntime) -> Result<(), Fail> {
-    let names = ["S", "T", "S", "T", "T"];
-    let grammar = grammar_of_names(rt.alloc(), names.as_slice())?.ok_or("a grammar")?;
+fn symbols_are_found_by_their_names(rt: HostRuntime) -> Result<(), Fail> {
+    let grammar =
+        grammar_of_names(rt.alloc(), &["S", "T"], &["Hex", "Id"])?.ok_or("a grammar")?;
     let cases = [
-        (b"S".as_slice(), Some(Symbol::Category(0))),
-        (b"T".as_slice(), Some(Symbol::Category(1))),
-        (b"U".as_slice(), None),
+        ("S", Some(Symbol::Category(0))),
+        ("T", Some(Symbol::Category(1))),
+        ("Hex", Some(Symbol::Kind(1))),
+        ("Id", Some(Symbol::Kind(2))),
+        ("U", None),
+        ("", None),
     ];
     for (name, want) in cases {
-        assert_eq!(rt; grammar.find(name), want, "at {name:?}");
+        assert_eq!(rt; grammar.find(name.as_bytes()), want, "at {name}");
     }
+    Ok(())
+}
+
+#[test]
+fn equal_names_give_no_grammar(rt: HostRuntime) -> Result<(), Fail> {
+    let categories = grammar_of_names(rt.alloc(), &["S", "T", "S"], &[])?;
+    let kinds = grammar_of_names(rt.alloc(), &["S"], &["Id", "Id"])?;
+    let both = grammar_of_names(rt.alloc(), &["S", "Id"], &["Id"])?;
+    assert!(rt; categories.is_none());
+    assert!(rt; kinds.is_none());
+    assert!(rt; both.is_none());
     Ok(())
 }

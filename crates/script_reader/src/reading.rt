@@ -3,7 +3,7 @@ ghost use Rattle.std.specs.Prelude.{◌≡◌, ◌+◌, ◌^◌, ◌<◌, ◌≤
 ghost use Rattle.std.specs.Prelude.{IsTrue, IfOk, IfErr, OnOk, IsErrOf, MatchOption, true, false};
 ghost use Rattle.std.specs.Prelude.{codes};
 ghost use Rattle.cyk_io.specs.Causes.{HasCause};
-ghost use Rattle.cyk_io.specs.Streams.{IsAtEnd, coming};
+ghost use Rattle.cyk_io.specs.Streams.{coming};
 ghost use Rattle.cyk_io.specs.declared.fault.IoFault.TheVariants.{Read};
 ghost use Rattle.spec_script.specs.Script.{Script, nothing, header_alone, header, of_command};
 ghost use Rattle.spec_script.specs.Script.{opens};
@@ -28,14 +28,12 @@ fn next_line<S: Source>(
     line: &mut Line<MAX_LINE>,
 ) -> Result<(), Stop>
     requires early { ahead.old.offset < 2 ^ 62 }
-    requires end { IsTrue ahead.old.ended → IsAtEnd (S.left source.old) }
     ensures ok { OnOk result (TakesLine ahead.old.offset ahead.new.offset
         (coming ahead.old (S.left source.old)) (coming ahead.new (S.left source.new)) line.new) }
     ensures err { IfErr result (Stops ahead.old.offset
         (NoLineComes ahead.old.offset (coming ahead.old (S.left source.old)))) }
     ensures cause { HasCause (S.faults source.old) (S.faults source.new)
         (IsErrOf result (Fault Read)) }
-    ensures end { IsTrue ahead.new.ended → IsAtEnd (S.left source.new) }
     ensures range { ahead.new.offset ≤ ahead.old.offset + 257 }
 {
     let at = ahead.offset();
@@ -63,14 +61,12 @@ pub fn read_header<S: Source>(
     line: &mut Line<MAX_LINE>,
 ) -> Result<(), Stop>
     requires early { ahead.old.offset < 2 ^ 60 }
-    requires end { IsTrue ahead.old.ended → IsAtEnd (S.left source.old) }
     ensures ok { OnOk result (TakesPart ahead.old.offset ahead.new.offset
         (coming ahead.old (S.left source.old)) (coming ahead.new (S.left source.new)) header) }
     ensures err { IfErr result (StopsBehind nothing ahead.old.offset
         (coming ahead.old (S.left source.old))) }
     ensures cause { HasCause (S.faults source.old) (S.faults source.new)
         (IsErrOf result (Fault Read)) }
-    ensures end { IsTrue ahead.new.ended → IsAtEnd (S.left source.new) }
     ensures range { OnOk result
         ((ahead.old.offset < ahead.new.offset) × (ahead.new.offset < 2 ^ 50)) }
 {
@@ -92,7 +88,6 @@ fn read_count<S: Source>(
 ) -> Result<u32, Stop>
     requires most { most < 10 ^ 9 }
     requires early { ahead.old.offset < 2 ^ 62 }
-    requires end { IsTrue ahead.old.ended → IsAtEnd (S.left source.old) }
     ensures ok { IfOk result (TakesCount beginning.now most ahead.old.offset ahead.new.offset
         (coming ahead.old (S.left source.old)) (coming ahead.new (S.left source.new))) }
     ensures err { IfErr result (Stops ahead.old.offset
@@ -100,7 +95,6 @@ fn read_count<S: Source>(
         (coming ahead.old (S.left source.old)))) }
     ensures cause { HasCause (S.faults source.old) (S.faults source.new)
         (IsErrOf result (Fault Read)) }
-    ensures end { IsTrue ahead.new.ended → IsAtEnd (S.left source.new) }
     ensures range { ahead.new.offset ≤ ahead.old.offset + 257 }
 {
     let at = ahead.offset();
@@ -128,7 +122,6 @@ fn keep_block<S: Source>(
     at: u64,
 ) -> Result<Vec<u8>, Stop>
     requires early { ahead.old.offset < 2 ^ 62 }
-    requires end { IsTrue ahead.old.ended → IsAtEnd (S.left source.old) }
     ensures ok { IfOk result (λ block. TakesBlock count ahead.old.offset ahead.new.offset
         (coming ahead.old (S.left source.old)) (coming ahead.new (S.left source.new))
         block.items) }
@@ -136,7 +129,6 @@ fn keep_block<S: Source>(
         (NoBlockComes count (coming ahead.old (S.left source.old)))) }
     ensures cause { HasCause (S.faults source.old) (S.faults source.new)
         (IsErrOf result (Fault Read)) }
-    ensures end { IsTrue ahead.new.ended → IsAtEnd (S.left source.new) }
 {
     let whole = u64::from(count) + 1;
     let mut bytes = Vec::new(alloc);
@@ -156,14 +148,12 @@ fn pass_block<S: Source>(
 ) -> Result<(), Stop>
     requires some { 0 < count }
     requires early { ahead.old.offset < 2 ^ 61 }
-    requires end { IsTrue ahead.old.ended → IsAtEnd (S.left source.old) }
     ensures ok { OnOk result (PassesBlock count ahead.old.offset ahead.new.offset
         (coming ahead.old (S.left source.old)) (coming ahead.new (S.left source.new))) }
     ensures err { IfErr result (Stops at
         (NoBlockComes count (coming ahead.old (S.left source.old)))) }
     ensures cause { HasCause (S.faults source.old) (S.faults source.new)
         (IsErrOf result (Fault Read)) }
-    ensures end { IsTrue ahead.new.ended → IsAtEnd (S.left source.new) }
 {
     let mut bytes = Vec::new(alloc);
     match read_exact_n(source, ahead, u64::from(count), 0, &mut bytes)? {
@@ -184,14 +174,12 @@ fn read_block<S: Source>(
     at: u64,
 ) -> Result<Block, Stop>
     requires early { ahead.old.offset < 2 ^ 61 }
-    requires end { IsTrue ahead.old.ended → IsAtEnd (S.left source.old) }
     ensures ok { IfOk result (FindsBlock count ahead.old.offset ahead.new.offset
         (coming ahead.old (S.left source.old)) (coming ahead.new (S.left source.new))) }
     ensures err { IfErr result (Stops at
         (NoBlockComes count (coming ahead.old (S.left source.old)))) }
     ensures cause { HasCause (S.faults source.old) (S.faults source.new)
         (IsErrOf result (Fault Read)) }
-    ensures end { IsTrue ahead.new.ended → IsAtEnd (S.left source.new) }
 {
     if count as usize > MAX_FILE {
         pass_block(alloc, source, ahead, count, at)?;
@@ -210,14 +198,12 @@ pub fn read_grammar<S: Source>(
     line: &mut Line<MAX_LINE>,
 ) -> Result<Block, Stop>
     requires early { ahead.old.offset < 2 ^ 60 }
-    requires end { IsTrue ahead.old.ended → IsAtEnd (S.left source.old) }
     ensures ok { IfOk result (TakesGrammar ahead.old.offset ahead.new.offset
         (coming ahead.old (S.left source.old)) (coming ahead.new (S.left source.new))) }
     ensures err { IfErr result (StopsBehind header_alone ahead.old.offset
         (coming ahead.old (S.left source.old))) }
     ensures cause { HasCause (S.faults source.old) (S.faults source.new)
         (IsErrOf result (Fault Read)) }
-    ensures end { IsTrue ahead.new.ended → IsAtEnd (S.left source.new) }
     ensures range { OnOk result
         ((ahead.old.offset < ahead.new.offset) × (ahead.new.offset < 2 ^ 50)) }
 {
@@ -234,7 +220,6 @@ fn read_text<S: Source>(
     line: &mut Line<MAX_LINE>,
 ) -> Result<Vec<u8>, Stop>
     requires early { ahead.old.offset < 2 ^ 60 }
-    requires end { IsTrue ahead.old.ended → IsAtEnd (S.left source.old) }
     ensures ok { IfOk result (λ text. TakesPart ahead.old.offset ahead.new.offset
         (coming ahead.old (S.left source.old)) (coming ahead.new (S.left source.new))
         (of_command (opens text.items))) }
@@ -243,7 +228,6 @@ fn read_text<S: Source>(
         (coming ahead.old (S.left source.old))) }
     ensures cause { HasCause (S.faults source.old) (S.faults source.new)
         (IsErrOf result (Fault Read)) }
-    ensures end { IsTrue ahead.new.ended → IsAtEnd (S.left source.new) }
 {
     let at = ahead.offset();
     let count = read_count(source, ahead, line, b"open ".as_slice(), MAX_TEXT as u32)?;
@@ -261,7 +245,6 @@ fn read_question<'a, S: Source>(
     line: &'a mut Line<MAX_LINE>,
 ) -> Result<Command<'a>, Stop>
     requires early { ahead.old.offset < 2 ^ 60 }
-    requires end { IsTrue ahead.old.ended → IsAtEnd (S.left source.old) }
     ensures ok { IfOk result (TakesCommand true ahead.old.offset ahead.new.offset
         (coming ahead.old (S.left source.old)) (coming ahead.new (S.left source.new))) }
     ensures err { (script : Script) → TellsOpen script true
@@ -269,7 +252,6 @@ fn read_question<'a, S: Source>(
         (coming ahead.old (S.left source.old))) }
     ensures cause { HasCause (S.faults source.old) (S.faults source.new)
         (IsErrOf result (Fault Read)) }
-    ensures end { IsTrue ahead.new.ended → IsAtEnd (S.left source.new) }
 {
     let at = ahead.offset();
     next_line(source, ahead, line)?;
@@ -287,7 +269,6 @@ pub fn read_command<'a, S: Source>(
     is_open: bool,
 ) -> Result<Command<'a>, Stop>
     requires early { ahead.old.offset < 2 ^ 60 }
-    requires end { IsTrue ahead.old.ended → IsAtEnd (S.left source.old) }
     ensures ok { IfOk result (TakesCommand is_open ahead.old.offset ahead.new.offset
         (coming ahead.old (S.left source.old)) (coming ahead.new (S.left source.new))) }
     ensures err { (script : Script) → TellsOpen script is_open
@@ -295,7 +276,6 @@ pub fn read_command<'a, S: Source>(
         (coming ahead.old (S.left source.old))) }
     ensures cause { HasCause (S.faults source.old) (S.faults source.new)
         (IsErrOf result (Fault Read)) }
-    ensures end { IsTrue ahead.new.ended → IsAtEnd (S.left source.new) }
     ensures range { OnOk result
         ((ahead.old.offset < ahead.new.offset) × (ahead.new.offset < 2 ^ 50)) }
 {

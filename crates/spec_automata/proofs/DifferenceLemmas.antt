@@ -8,10 +8,11 @@ use Rattle.std.proofs.lemmas.Map.Made.{is_member-Decides}
 use Rattle.std.proofs.lemmas.Str.{encode_ascii}
 use Rattle.spec_lexing.specs.declared.expression.Class.{Class}
 use Rattle.spec_lexing.specs.declared.expression.Class.TheVariants.{Digit, Letter, Upper, Lower, AnyChar}
+use Rattle.spec_lexing.specs.Classes.{IsAsciiClass, IsClass, IsSound}
 use Rattle.spec_lexing.specs.Expressions.{Expression, class, scalar, any_of, word, minus, optional}
 use Rattle.spec_lexing.specs.Matching.{Repeats, none, more, IsOneScalar, Matches, is_of_class}
 use Rattle.spec_automata.specs.ByteExpressions.{ByteExpression, empty, nothing, byte_in, in_turn, either, star, plus, until, MatchesBytes}
-use Rattle.spec_automata.specs.Encoding.{is_ascii, without, has_character, IsAsciiClass, IsClass, IsSound}
+use Rattle.spec_automata.specs.Encoding.{is_ascii, without, has_character}
 use Rattle.spec_automata.proofs.ByteSetLemmas.{in_filter}
 use Rattle.spec_automata.proofs.ScalarLemmas.{ascii_is_scalar, AllWide}
 
@@ -221,20 +222,20 @@ ascii_minus x y bytes is_x is_y = (
       | inr f ↦ f
     ]
 
--- an ASCII class matches the characters that pass
-pub ascii_matches : (x : Expression) → IsAsciiClass x → (bytes : List ℕ) →
+-- a sound ASCII class matches the characters that pass: what it takes away is ASCII as well
+pub ascii_matches : (x : Expression) → IsSound x → IsAsciiClass x → (bytes : List ℕ) →
     Matches x bytes ↔ IsCharacterThat (has_character x) bytes
-ascii_matches Expression.empty ascii bytes = absurd ascii
-ascii_matches (class AnyChar) ascii bytes = absurd ascii
-ascii_matches (class Digit) ascii bytes = ascii_class Digit digit_is_ascii bytes
-ascii_matches (class Letter) ascii bytes = ascii_class Letter letter_is_ascii bytes
-ascii_matches (class Upper) ascii bytes = ascii_class Upper upper_is_ascii bytes
-ascii_matches (class Lower) ascii bytes = ascii_class Lower lower_is_ascii bytes
-ascii_matches (scalar d) ascii bytes = (
+ascii_matches Expression.empty sound ascii bytes = absurd ascii
+ascii_matches (class AnyChar) sound ascii bytes = absurd ascii
+ascii_matches (class Digit) sound ascii bytes = ascii_class Digit digit_is_ascii bytes
+ascii_matches (class Letter) sound ascii bytes = ascii_class Letter letter_is_ascii bytes
+ascii_matches (class Upper) sound ascii bytes = ascii_class Upper upper_is_ascii bytes
+ascii_matches (class Lower) sound ascii bytes = ascii_class Lower lower_is_ascii bytes
+ascii_matches (scalar d) sound ascii bytes = (
   λ m. (d, ascii, m ∙ encode_ascii d ascii, eq-eqb d d refl),
   λ h. h.2 ∙ ap (λ (z : ℕ). z ∷ []) (sym (eqb-true d h.0 h.3)) ∙ sym (encode_ascii d ascii),
 )
-ascii_matches (any_of name) ascii bytes = (
+ascii_matches (any_of name) sound ascii bytes = (
   λ m.
       let lt = All-contains (λ c. c < 128) (chars name) m.0 ascii m.3 in
       (m.0, lt, m.2 ∙ encode_ascii m.0 lt, (is_member-Decides Decides-eqb (chars name) m.0).1 m.3),
@@ -245,23 +246,23 @@ ascii_matches (any_of name) ascii bytes = (
     (is_member-Decides Decides-eqb (chars name) h.0).0 h.3,
   ),
 )
-ascii_matches (word name) ascii bytes = absurd ascii
-ascii_matches (Expression.in_turn x y) ascii bytes = absurd ascii
-ascii_matches Expression.nothing ascii bytes = (λ m. absurd m, λ h. absurd (both_ways false refl h.3))
-ascii_matches (Expression.either x y) ascii bytes = (
+ascii_matches (word name) sound ascii bytes = absurd ascii
+ascii_matches (Expression.in_turn x y) sound ascii bytes = absurd ascii
+ascii_matches Expression.nothing sound ascii bytes = (λ m. absurd m, λ h. absurd (both_ways false refl h.3))
+ascii_matches (Expression.either x y) sound ascii bytes = (
   λ m. elim m [
-    | inl l ↦ let h = (ascii_matches x ascii.0 bytes).0 l in
+    | inl l ↦ let h = (ascii_matches x sound.0 ascii.0 bytes).0 l in
         (h.0, h.1, h.2, or_left (has_character x h.0) (has_character y h.0) h.3)
-    | inr r ↦ let h = (ascii_matches y ascii.1 bytes).0 r in
+    | inr r ↦ let h = (ascii_matches y sound.1 ascii.1 bytes).0 r in
         (h.0, h.1, h.2, or_right (has_character x h.0) (has_character y h.0) h.3)
   ],
   λ h. elim (or_cases (has_character x h.0) (has_character y h.0) h.3) [
-    | inl t ↦ inl ((ascii_matches x ascii.0 bytes).1 (h.0, h.1, h.2, t))
-    | inr t ↦ inr ((ascii_matches y ascii.1 bytes).1 (h.0, h.1, h.2, t))
+    | inl t ↦ inl ((ascii_matches x sound.0 ascii.0 bytes).1 (h.0, h.1, h.2, t))
+    | inr t ↦ inr ((ascii_matches y sound.1 ascii.1 bytes).1 (h.0, h.1, h.2, t))
   ],
 )
-ascii_matches (minus x y) ascii bytes =
-    ascii_minus x y bytes (ascii_matches x ascii.0 bytes) (ascii_matches y ascii.1 bytes)
-ascii_matches (Expression.star x) ascii bytes = absurd ascii
-ascii_matches (Expression.plus x) ascii bytes = absurd ascii
-ascii_matches (optional x) ascii bytes = absurd ascii
+ascii_matches (minus x y) sound ascii bytes =
+    ascii_minus x y bytes (ascii_matches x sound.1 ascii bytes) (ascii_matches y sound.2 sound.0.1 bytes)
+ascii_matches (Expression.star x) sound ascii bytes = absurd ascii
+ascii_matches (Expression.plus x) sound ascii bytes = absurd ascii
+ascii_matches (optional x) sound ascii bytes = absurd ascii

@@ -16,12 +16,13 @@ use Rattle.spec_lexing.specs.declared.expression.Class.{Class}
 use Rattle.spec_lexing.specs.declared.expression.Class.TheVariants.{Digit, Letter, Upper, Lower, AnyChar}
 use Rattle.spec_lexing.specs.declared.kind_def.KindDef.{KindDef}
 use Rattle.spec_lexing.specs.declared.kind_def.KindDef.TheVariants.{Word, Token as TokenDef}
+use Rattle.spec_lexing.specs.Classes.{IsAsciiClass, IsSound, IsSoundDef}
 use Rattle.spec_lexing.specs.Expressions.{Expression, class, any_of, word, minus, optional, expression_of}
 use Rattle.spec_lexing.specs.Expressions.{scalar as one_scalar}
 use Rattle.spec_lexing.specs.Kinds.{white, line_comment, block_comment, symbol, IsOnLine, EndsFirst, MatchesDef}
 use Rattle.spec_lexing.specs.Matching.{Repeats, none, more, Matches, is_of_class}
 use Rattle.spec_automata.specs.ByteExpressions.{ByteExpression, empty, nothing, byte_in, in_turn, either, star, plus, until, MatchesBytes}
-use Rattle.spec_automata.specs.Encoding.{is_ascii, bytes_that, one_of_these, these_in_turn, literal, any_scalar, bytes_of_class, wide_scalars, bytes_of_scalars, has_character, without, bytes_of, bytes_of_def, IsAsciiClass, IsSound, IsSoundDef}
+use Rattle.spec_automata.specs.Encoding.{is_ascii, bytes_that, one_of_these, these_in_turn, literal, any_scalar, bytes_of_class, wide_scalars, bytes_of_scalars, has_character, without, bytes_of, bytes_of_def}
 use Rattle.spec_automata.specs.States.{AreBytes}
 use Rattle.spec_automata.specs.Laws.{BytesMatchTheSame, KindsMatchTheSame}
 use Rattle.spec_automata.proofs.ByteSetLemmas.{none_in, first_or_behind, has_first, has_behind, in_filter, in_bytes_that}
@@ -169,21 +170,22 @@ plain_bytes (Expression.plus x) = plain_bytes x
 plain_bytes (optional x) = (tt, (plain_bytes x, tt))
 
 -- a scalar that an ASCII class does not match has bytes that are kept, and the other way round
-kept_scalar : (y : Expression) → IsAsciiClass y → (c : ℕ) → IsScalar c → (bytes : List ℕ) → bytes ≡ encode_utf8 c →
-    (Matches y bytes → ⊥) → AreKept (has_character y) bytes
-kept_scalar y ascii c is bytes e never = elim (cases_lt c 128) [
+kept_scalar : (y : Expression) → IsSound y → IsAsciiClass y → (c : ℕ) → IsScalar c → (bytes : List ℕ) →
+    bytes ≡ encode_utf8 c → (Matches y bytes → ⊥) → AreKept (has_character y) bytes
+kept_scalar y sound ascii c is bytes e never = elim (cases_lt c 128) [
   | inl lt ↦
       let one : bytes ≡ c ∷ [] = e ∙ encode_ascii c lt in
       subst (AreKept (has_character y)) (sym one) (elim (cases_Bool (has_character y c)) [
-        | inl t ↦ absurd (never ((ascii_matches y ascii bytes).1 (c, lt, one, t)))
+        | inl t ↦ absurd (never ((ascii_matches y sound ascii bytes).1 (c, lt, one, t)))
         | inr f ↦ (and_right (is_ascii c) (has_character y c) f, tt)
       ])
   | inr ge ↦ subst (AreKept (has_character y)) (sym e) (wide_kept (has_character y) (encode_utf8 c) (wide_bytes c is ge))
 ]
 
-unkept_scalar : (y : Expression) → IsAsciiClass y → (bytes : List ℕ) → AreKept (has_character y) bytes → Matches y bytes → ⊥
-unkept_scalar y ascii bytes kept m =
-    let h = (ascii_matches y ascii bytes).0 m in
+unkept_scalar : (y : Expression) → IsSound y → IsAsciiClass y → (bytes : List ℕ) →
+    AreKept (has_character y) bytes → Matches y bytes → ⊥
+unkept_scalar y sound ascii bytes kept m =
+    let h = (ascii_matches y sound ascii bytes).0 m in
     let one : AreKept (has_character y) (h.0 ∷ []) = subst (AreKept (has_character y)) h.2 kept in
     both_ways (is_ascii h.0 && has_character y h.0) one.0
     (and_from (is_ascii h.0) (has_character y h.0) (le-leb h.0 127 (omega (arith, h.1))) h.3)
@@ -214,8 +216,8 @@ reads (Expression.either x y) sound bytes rest (inr m) text =
     let a = reads y sound.1 bytes rest m text in (a.0, inr a.1)
 reads (minus x y) sound bytes rest m text =
     let h = (without_narrows (has_character y) (bytes_of x) (plain_bytes x) bytes).0 m in
-    let a = reads x sound.2 bytes rest h.0 text in
-    (a.0, (class_is_scalar x sound.0 sound.2 bytes a.1, a.1, unkept_scalar y sound.1 bytes h.1))
+    let a = reads x sound.1 bytes rest h.0 text in
+    (a.0, (class_is_scalar x sound.0.0 sound.1 bytes a.1, a.1, unkept_scalar y sound.2 sound.0.1 bytes h.1))
 reads (Expression.star x) sound bytes rest m text =
     reads_repeats (MatchesBytes (bytes_of x)) (Matches x) (λ bytes rest m text. reads x sound bytes rest m text)
     bytes rest m text
@@ -246,7 +248,7 @@ spells (Expression.either x y) sound bytes (inr m) = inr (spells y sound.1 bytes
 spells (minus x y) sound bytes m =
     let one = m.0 in
     (without_narrows (has_character y) (bytes_of x) (plain_bytes x) bytes).1
-    (spells x sound.2 bytes m.1, kept_scalar y sound.1 one.0 one.1 bytes one.2 m.2)
+    (spells x sound.1 bytes m.1, kept_scalar y sound.2 sound.0.1 one.0 one.1 bytes one.2 m.2)
 spells (Expression.star x) sound bytes m =
     spells_repeats (Matches x) (MatchesBytes (bytes_of x)) (λ part h. spells x sound part h) bytes m
 spells (Expression.plus x) sound bytes m = (

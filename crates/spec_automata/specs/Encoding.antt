@@ -1,11 +1,10 @@
 -- Token expressions and kinds as expressions over bytes: which sets of bytes they have, and in
 -- which order. Each set is a position of the automaton.
-use Rattle.std.specs.Prelude.{ℕ, ◌<◌, List, [], ◌∷◌, map, All, Bool, ◌&&◌, ◌||◌, not, false, nat_eq}
-use Rattle.std.specs.Prelude.{nat_le}
-use Rattle.std.specs.Char.{IsScalar, encode_utf8}
+use Rattle.std.specs.Prelude.{ℕ, List, [], ◌∷◌, map, Bool, ◌&&◌, ◌||◌, not, false, nat_eq, nat_le}
+use Rattle.std.specs.Char.{encode_utf8}
 use Rattle.std.specs.List.{filter, range_with_len}
 use Rattle.std.specs.Set.{is_member}
-use Rattle.std.specs.Str.{IsUtf8, chars}
+use Rattle.std.specs.Str.{chars}
 use Rattle.spec_text.specs.Bytes.{is_white}
 use Rattle.spec_text.specs.Scalars.{is_between}
 use Rattle.spec_lexing.specs.declared.expression.Class.{Class}
@@ -15,6 +14,7 @@ use Rattle.spec_lexing.specs.declared.kind_def.KindDef.{KindDef}
 use Rattle.spec_lexing.specs.declared.kind_def.KindDef.TheVariants.{Word, Token as TokenDef}
 use Rattle.spec_lexing.specs.Expressions.{Expression, class, scalar, any_of, word, minus, optional}
 use Rattle.spec_lexing.specs.Expressions.{expression_of}
+use Rattle.spec_lexing.specs.Classes.{IsSoundDef}
 use Rattle.spec_lexing.specs.Kinds.{LexKind, white, line_comment, block_comment, symbol}
 use Rattle.spec_lexing.specs.Matching.{is_of_class}
 use Rattle.spec_automata.specs.ByteExpressions.{ByteExpression, empty, nothing, byte_in, in_turn}
@@ -132,49 +132,6 @@ bytes_of_kind (symbol number kind) = bytes_of_def kind
 -- all kinds as one expression, the least first
 abbrev pub bytes_of_kinds : List LexKind → ByteExpression
 bytes_of_kinds kinds = one_of_these (map bytes_of_kind kinds)
-
--- the expression is a class that has ASCII characters alone
-abbrev pub IsAsciiClass : Expression → Type 0
-IsAsciiClass (class AnyChar) = ⊥
-IsAsciiClass (class k) = Unit {0}
-IsAsciiClass (scalar c) = c < 128
-IsAsciiClass (any_of name) = All (λ c. c < 128) (chars name)
-IsAsciiClass Expression.nothing = Unit {0}
-IsAsciiClass (Expression.either left right) = IsAsciiClass left × IsAsciiClass right
-IsAsciiClass (minus left right) = IsAsciiClass left × IsAsciiClass right
-IsAsciiClass expression = ⊥
-
--- the expression is a class: all that it matches is one scalar
-abbrev pub IsClass : Expression → Type 0
-IsClass (class k) = Unit {0}
-IsClass (scalar c) = Unit {0}
-IsClass (any_of name) = Unit {0}
-IsClass Expression.nothing = Unit {0}
-IsClass (Expression.either left right) = IsClass left × IsClass right
-IsClass (minus left right) = Unit {0}
-IsClass expression = ⊥
-
--- the scalars and names of the expression are such in UTF-8, and each difference is one of a class
--- and an ASCII class
-abbrev pub IsSound : Expression → Type 0
-IsSound Expression.empty = Unit {0}
-IsSound (class k) = Unit {0}
-IsSound (scalar c) = IsScalar c
-IsSound (any_of name) = IsUtf8 name
-IsSound (word name) = IsUtf8 name
-IsSound (Expression.in_turn first second) = IsSound first × IsSound second
-IsSound Expression.nothing = Unit {0}
-IsSound (Expression.either left right) = IsSound left × IsSound right
-IsSound (minus left right) =
-    IsClass left × IsAsciiClass right × IsSound left × IsSound right
-IsSound (Expression.star part) = IsSound part
-IsSound (Expression.plus part) = IsSound part
-IsSound (optional part) = IsSound part
-
--- the kind of a grammar is sound: its word is UTF-8, or its expression is sound
-abbrev pub IsSoundDef : KindDef → Type 0
-IsSoundDef (Word name) = IsUtf8 name
-IsSoundDef (TokenDef name expr) = IsSound (expression_of expr)
 
 -- the kind is sound, as comments and white space always are
 abbrev pub IsSoundKind : LexKind → Type 0

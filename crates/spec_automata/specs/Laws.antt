@@ -1,11 +1,12 @@
 -- The laws that join expressions over bytes to token expressions and to comments.
 use Rattle.std.specs.Prelude.{◌≡◌, ◌≢◌, ℕ, ◌<◌, ◌↔◌, List, [], ◌++◌, length}
 use Rattle.std.specs.Str.{IsUtf8}
+use Rattle.spec_lexing.specs.Classes.{IsSound}
 use Rattle.spec_lexing.specs.Expressions.{Expression}
 use Rattle.spec_lexing.specs.Kinds.{LexKind, EndsFirst, MatchesKind}
 use Rattle.spec_lexing.specs.Matching.{Matches}
 use Rattle.spec_automata.specs.ByteExpressions.{MatchesBytes}
-use Rattle.spec_automata.specs.Encoding.{bytes_of, bytes_of_kind, IsSound, IsSoundKind}
+use Rattle.spec_automata.specs.Encoding.{bytes_of, bytes_of_kind, IsSoundKind}
 use Rattle.spec_automata.specs.Positions.{IsBorder, IsInside}
 use Rattle.spec_automata.specs.States.{AreBytes}
 

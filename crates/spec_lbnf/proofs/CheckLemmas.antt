@@ -1,19 +1,18 @@
 -- Definitions are fit, or unfit for one reason.
 use Rattle.std.proofs.Common.{◌≡◌, ℕ, ◌⊎◌, List, [], ◌∷◌, length, All, slice_get, refl, sym, ap, subst, ◌∙◌, inl, inr, arith}
-use Rattle.std.specs.List.{flat_map}
 use Rattle.std.proofs.lemmas.Option.{same_Some}
 use Rattle.spec_grammar.specs.declared.rule.Label.TheVariants.{Wild}
 use Rattle.spec_lbnf.specs.declared.definition.CatName.{CatName}
 use Rattle.spec_lbnf.specs.declared.definition.RawRule.{RawRule}
 use Rattle.spec_lbnf.specs.declared.definition.Def.{Def}
-use Rattle.spec_lbnf.specs.declared.definition.Def.TheVariants.{Rule as RuleDef, Internal, Terminator, Separator, Coercions, Entry}
+use Rattle.spec_lbnf.specs.declared.definition.Def.TheVariants.{Rule as RuleDef, Internal, Terminator, Separator, Coercions, Entry, Token, LineComment, BlockComment}
 use Rattle.spec_lbnf.specs.Expansion.{expansion_of}
 use Rattle.spec_lbnf.specs.declared.fault.GrammarFault.{GrammarFault}
-use Rattle.spec_lbnf.specs.declared.fault.GrammarFault.TheVariants.{BadCoercion, BadList, Cyclic, RepeatedToken}
-use Rattle.spec_lbnf.specs.Checks.{HasAt, IsFirstName, IsPredefined, IsFree, IsUnknown, IsKnown, NamesKnown, NamesUnknown, named_categories, own_categories, AreAllKnown}
-use Rattle.spec_lbnf.specs.Expansion.{categories_in}
+use Rattle.spec_lbnf.specs.declared.fault.GrammarFault.TheVariants.{BadCoercion, BadList, Cyclic, RepeatedToken, UnknownCategory}
+use Rattle.spec_lbnf.specs.Checks.{HasAt, IsFirstName, IsTaken, IsFree, TakesFree, RepeatsName, IsFirstRepeated, own_names, IsUnknown, IsKnown, NamesKnown, NamesUnknown, AreAllKnown}
+use Rattle.spec_lbnf.specs.Expansion.{categories_in, named_categories}
 use Rattle.spec_lbnf.specs.Checks.{IsBadWild, IsBadCoercion, IsOneElement, IsBadLabel, IsBadListRule, IsBadList, IsWellLabelled, IsIllLabelled}
-use Rattle.spec_lbnf.specs.Checks.{HasFewRules, HasOwnNames, AtLabels, AtCount, AtOwnName, AtUnknown, AtCycle, unknown_fault}
+use Rattle.spec_lbnf.specs.Checks.{HasFewRules, HasOwnNames, AtLabels, AtCount, AtOwnName, AtUnknown, AtCycle}
 use Rattle.spec_lbnf.specs.Laws.{FitOrUnfit, OneUnfitness}
 use Rattle.spec_lbnf.proofs.FirstLemmas.{one_first, one_first_name, none_at}
 use Rattle.spec_lbnf.proofs.CycleLemmas.{acyclic_or_cyclic, one_cyclic}
@@ -54,6 +53,9 @@ bad_once (Terminator nonempty cat word) coercion bad = bad
 bad_once (Separator nonempty cat word) coercion bad = bad
 bad_once (Coercions name levels) coercion bad = bad
 bad_once (Entry cats) coercion bad = bad
+bad_once (Token name expr) coercion bad = bad
+bad_once (LineComment opening) coercion bad = bad
+bad_once (BlockComment opening closing) coercion bad = bad
 
 -- definitions that are all well labelled have no first that is not
 labels_pass : (defs : List Def) (fault : GrammarFault) → All IsWellLabelled defs → AtLabels defs fault → ⊥
@@ -86,10 +88,26 @@ known_pass : (defs : List Def) (fault : GrammarFault) → AreAllKnown defs → A
 known_pass defs fault all (name, number, unknown, is) =
     none_at (NamesKnown defs) defs (NamesUnknown defs) (not_all_known defs) all number unknown.first.is_so
 
--- names that are all free have no first that is not
+-- no definition repeats a name and takes free names alone
+pub repeats_at : (defs : List Def) (number : ℕ) → TakesFree defs number → RepeatsName defs number → ⊥
+repeats_at defs number free (def, is, (place, taken)) =
+    none_at (IsFree defs number def) (own_names def) (IsTaken defs number def) (λ name is_taken is_free. is_free is_taken) (free def is) place taken
+
+-- where no definition repeats a name, none is the first that does
 names_pass : (defs : List Def) (fault : GrammarFault) → HasOwnNames defs → AtOwnName defs fault → ⊥
-names_pass defs fault all (name, first, is) =
-    none_at IsFree (flat_map own_categories defs) IsPredefined (λ own predefined free. free predefined) all first.0 first.1.is_so
+names_pass defs fault own (name, repeated, is) = repeats_at defs repeated.number (own repeated.number) repeated.first.is_so
+
+-- definitions have one fault of repeated names
+one_at_own_name : (defs : List Def) (a b : GrammarFault) → AtOwnName defs a → AtOwnName defs b → a ≡ b
+one_at_own_name defs a b (name, one, is) (name', other, is') =
+    let place : one.number ≡ other.number = one_first (RepeatsName defs) one.number other.number one.first other.first in
+    let same : other.def ≡ one.def = same_Some _ _ (sym other.is_def ∙ sym (ap (slice_get defs) place) ∙ one.is_def) in
+    let at_one : IsFirstName (IsTaken defs one.number other.def) (own_names other.def) name'
+    = subst (λ n. IsFirstName (IsTaken defs n other.def) (own_names other.def) name') (sym place) other.first_name in
+    let names : name ≡ name' =
+    one_first_name (IsTaken defs one.number one.def) (own_names one.def) name name' one.first_name
+    (subst (λ (d : Def). IsFirstName (IsTaken defs one.number d) (own_names d) name') same at_one) in
+    is ∙ ap RepeatedToken names ∙ sym is'
 
 -- definitions have one fault of unknown categories
 one_at_unknown : (defs : List Def) (a b : GrammarFault) → AtUnknown defs a → AtUnknown defs b → a ≡ b
@@ -99,7 +117,7 @@ one_at_unknown defs a b (name, i, one, is) (name', j, other, is') =
     let names : name ≡ name' =
     one_first_name (IsUnknown defs) (named_categories one.def) name name' one.first_name
     (subst (λ (d : Def). IsFirstName (IsUnknown defs) (named_categories d) name') same other.first_name) in
-    is ∙ (λ k. unknown_fault (names k) (place k)) ∙ sym is'
+    is ∙ (λ k. UnknownCategory (names k) (place k)) ∙ sym is'
 
 -- definitions that pass all checks fail none
 pub fit_or_unfit : FitOrUnfit
@@ -138,8 +156,7 @@ one_behind_names defs a b (inr (known, (name, cyclic, is))) (inr (known', (other
 
 -- and one behind the count of rules
 one_behind_count : (defs : List Def) (a b : GrammarFault) → BehindCount defs a → BehindCount defs b → a ≡ b
-one_behind_count defs a b (inl (name, first, is)) (inl (other, second, is')) =
-    is ∙ ap RepeatedToken (one_first_name IsPredefined _ name other first second) ∙ sym is'
+one_behind_count defs a b (inl names) (inl names') = one_at_own_name defs a b names names'
 one_behind_count defs a b (inl names) (inr (own, more)) = absurd (names_pass defs a own names)
 one_behind_count defs a b (inr (own, more)) (inl names) = absurd (names_pass defs b own names)
 one_behind_count defs a b (inr (own, more)) (inr (own', more')) = one_behind_names defs a b more more'

@@ -1,5 +1,5 @@
 -- A file has two bytes for each part of its definitions.
-use Rattle.std.proofs.Common.{◌≡◌, ℕ, zero, suc, ◌+◌, ◌*◌, ◌≤◌, ◌<◌, List, [], ◌∷◌, ◌++◌, length, map, filter, not, nat_eq, Bool, true, false, cond, refl, ap, ◌∙◌, arith, length-append}
+use Rattle.std.proofs.Common.{◌≡◌, ℕ, zero, suc, ◌+◌, ◌*◌, ◌≤◌, ◌<◌, List, [], ◌∷◌, ◌++◌, length, map, filter, not, nat_eq, Bool, true, false, cond, codes, refl, ap, ◌∙◌, arith, length-append}
 use Rattle.std.specs.Prelude.{replicate}
 use Rattle.std.specs.List.{flat_map, slice_split, onto_first, sum_by}
 use Rattle.std.proofs.lemmas.Bool.{false≢true}
@@ -10,13 +10,13 @@ use Rattle.spec_lbnf.specs.declared.definition.CatName.{CatName}
 use Rattle.spec_lbnf.specs.declared.definition.RawRule.{RawRule}
 use Rattle.spec_lbnf.specs.declared.definition.RawItem.TheVariants.{Word}
 use Rattle.spec_lbnf.specs.declared.definition.Def.{Def}
-use Rattle.spec_lbnf.specs.declared.definition.Def.TheVariants.{Rule, Internal, Terminator, Separator, Coercions, Entry}
+use Rattle.spec_lbnf.specs.declared.definition.Def.TheVariants.{Rule, Internal, Terminator, Separator, Coercions, Entry, Token, LineComment, BlockComment}
 use Rattle.spec_lbnf.specs.declared.token.Sign.TheVariants.{CloseBracket, Dot, Gives, Comma}
 use Rattle.spec_lbnf.specs.declared.token.FileToken.{FileToken}
 use Rattle.spec_lbnf.specs.declared.token.FileToken.TheVariants.{Identifier, Number, Text, Character}
 use Rattle.spec_lbnf.specs.declared.token.FileToken.TheVariants.{Sign as SignToken}
 use Rattle.spec_lbnf.specs.Words.{is_empty, words_in}
-use Rattle.spec_lbnf.specs.GrammarFile.{IsCategory, IsLabel, category_tokens, label_tokens, WrittenItem, category, string, IsWritten, written_tokens, written_items, SpellsRule, entry_tokens, nonempty_tokens, SpellsDef, is_semicolon, pieces_of, AreSpelledBy}
+use Rattle.spec_lbnf.specs.GrammarFile.{IsCategory, IsLabel, category_tokens, label_tokens, WrittenItem, category, string, IsWritten, written_tokens, written_items, SpellsRule, entry_tokens, nonempty_tokens, position_tokens, keyword, SpellsDef, is_semicolon, pieces_of, AreSpelledBy}
 use Rattle.spec_lbnf.specs.Faults.{bare}
 use Rattle.spec_lbnf.specs.Limits.{def_size, size_of}
 use Rattle.spec_lbnf.specs.Laws.{TwoBytesForEach}
@@ -220,6 +220,14 @@ least_def (Separator nonempty cat word) tokens is =
 least_def (Coercions name levels) tokens is = omega (arith, ap (least false) is.1)
 least_def (Entry cats) tokens is =
     omega (arith, ap (least false) is.2, least_entries cats true (recursion_from_All IsCategory cats is.1))
+least_def (Token name expr) tokens is = least_token is.position is.whole
+  where
+    least_token : (position : Bool)
+        → tokens ≡ position_tokens position ++ (keyword (codes "token") ∷ Identifier name ∷ is.own) → 2 ≤ least false tokens
+    least_token true e = omega (arith, ap (least false) e)
+    least_token false e = omega (arith, ap (least false) e)
+least_def (LineComment opening) tokens is = omega (arith, ap (least false) is.1)
+least_def (BlockComment opening closing) tokens is = omega (arith, ap (least false) is.2)
 
 -- how many bytes the parts of tokens take at least, the first of them behind a name or not
 abbrev parts_least : Bool → List (List FileToken) → ℕ
@@ -269,9 +277,9 @@ two_bytes_for_each bytes defs spelled =
     let parts : List (List FileToken) = slice_split is_semicolon tokens in
     omega (
       arith,
-      defs_least defs (pieces_of tokens) spelled.spelled,
+      defs_least defs (pieces_of tokens) spelled.form.spelled,
       pieces_least parts,
       parts_sum parts,
       split_least tokens false,
-      tokens_take 0 bytes spelled.tokens (length bytes) false spelled.scan (λ e. absurd (false≢true e)),
+      tokens_take 0 bytes spelled.tokens (length bytes) false spelled.form.scan (λ e. absurd (false≢true e)),
     )

@@ -3,8 +3,10 @@ pub mod FirstLemmas
 pub mod CheckLemmas
 pub mod CycleLemmas
 pub mod NameLemmas
+pub mod TokenNameLemmas
 pub mod SymbolLemmas
 pub mod EntryLemmas
+pub mod SymbolNameLemmas
 pub mod BoundaryLemmas
 pub mod BracketLemmas
 pub mod PieceLemmas
@@ -12,3 +14,6 @@ pub mod LeastLemmas
 pub mod DefSizeLemmas
 pub mod SmallLemmas
 pub mod MemoryLemmas
+pub mod Utf8Lemmas
+pub mod ExpressionLemmas
+pub mod DifferenceLemmas

@@ -1,13 +1,12 @@
 -- No fault that the definitions tell is want of memory.
-use Rattle.std.proofs.Common.{◌≡◌, ℕ, List, Bool, true, false, cond, inl, inr, sym, ap}
+use Rattle.std.proofs.Common.{◌≡◌, ℕ, List, Bool, true, false, inl, inr, sym, ap}
 use Rattle.std.proofs.lemmas.Bool.{false≢true}
 use Rattle.spec_lbnf.specs.declared.fault.GrammarFault.{GrammarFault}
-use Rattle.spec_lbnf.specs.declared.fault.GrammarFault.TheVariants.{UnknownCategory}
-use Rattle.spec_lbnf.specs.declared.fault.GrammarFault.TheVariants.{Memory as GrammarMemory, Unbuilt as UnbuiltKind}
+use Rattle.spec_lbnf.specs.declared.fault.GrammarFault.TheVariants.{Memory as GrammarMemory}
 use Rattle.spec_lbnf.specs.declared.fault.TextFault.{TextFault}
 use Rattle.spec_lbnf.specs.declared.fault.TextFault.TheVariants.{Memory as FileMemory}
 use Rattle.spec_lbnf.specs.declared.token.PlacedToken.{PlacedToken}
-use Rattle.spec_lbnf.specs.Faults.{LeavesOut, unbuilt_form, first_word, lower_label, label_bracket, FaultAt, long_category, left_out, misplaced, no_token, early_end, is_large, is_not_utf8, in_tokens}
+use Rattle.spec_lbnf.specs.Faults.{LeavesOut, first_word, lower_label, label_bracket, FaultAt, long_category, left_out, misplaced, no_token, early_end, is_large, is_not_utf8, in_tokens, bad_difference}
 use Rattle.spec_lbnf.specs.Laws.{NoMemoryFault, NoMemoryUnfitness}
 
 -- the fault of a file is want of memory
@@ -22,8 +21,7 @@ is_grammar_memory other = false
 
 -- nothing that is left out is want of memory
 no_memory_left_out : (front : List PlacedToken) (token : PlacedToken) → LeavesOut front token FileMemory → ⊥
-no_memory_left_out front token (unbuilt_form word first is_word among is) = false≢true (sym (ap is_file_memory is))
-no_memory_left_out front token (first_word word first is_word lower apart is) = false≢true (sym (ap is_file_memory is))
+no_memory_left_out front token (first_word word first is_word lower is) = false≢true (sym (ap is_file_memory is))
 no_memory_left_out front token (lower_label word behind is_word lower is) = false≢true (sym (ap is_file_memory is))
 no_memory_left_out front token (label_bracket named opens is) = false≢true (sym (ap is_file_memory is))
 
@@ -41,12 +39,7 @@ pub no_memory_fault : NoMemoryFault
 no_memory_fault bytes (is_large large is) = false≢true (sym (ap is_file_memory is))
 no_memory_fault bytes (is_not_utf8 few early is) = false≢true (sym (ap is_file_memory is))
 no_memory_fault bytes (in_tokens small tokens stop scan front is at_front) = no_memory_at bytes tokens stop front at_front
-
--- a category that is not known is no want of memory, of whichever kind it is
-no_memory_unknown : (predefined : Bool) (name : List ℕ) (number : ℕ)
-    → GrammarMemory ≡ cond predefined (UnbuiltKind number) (UnknownCategory name number) → ⊥
-no_memory_unknown true name number is = false≢true (sym (ap is_grammar_memory is))
-no_memory_unknown false name number is = false≢true (sym (ap is_grammar_memory is))
+no_memory_fault bytes (bad_difference tokens defs form offset first is) = false≢true (sym (ap is_file_memory is))
 
 -- no definitions are unfit for want of memory
 pub no_memory_unfitness : NoMemoryUnfitness
@@ -54,6 +47,6 @@ no_memory_unfitness defs (inl (number, first, inl (bad, is))) = false≢true (sy
 no_memory_unfitness defs (inl (number, first, inr (bad, is))) = false≢true (sym (ap is_grammar_memory is))
 no_memory_unfitness defs (inr (all, inl (many, is))) = false≢true (sym (ap is_grammar_memory is))
 no_memory_unfitness defs (inr (all, inr (few, inl (name, first, is)))) = false≢true (sym (ap is_grammar_memory is))
-no_memory_unfitness defs (inr (all, inr (few, inr (own, inl (name, number, first, is))))) = no_memory_unknown _ name number is
+no_memory_unfitness defs (inr (all, inr (few, inr (own, inl (name, number, first, is))))) = false≢true (sym (ap is_grammar_memory is))
 no_memory_unfitness defs (inr (all, inr (few, inr (own, inr (known, (name, cyclic, is)))))) =
     false≢true (sym (ap is_grammar_memory is))

@@ -12,7 +12,7 @@ use Rattle.spec_grammar.specs.Grammars.{name_number}
 use Rattle.spec_lbnf.specs.Laws.{NumbersNameBack, DistinctNames}
 
 -- a name that passes the test is the name
-same_name : (x y : List ℕ) → bytes_eq x y ≡ true → x ≡ y
+pub same_name : (x y : List ℕ) → bytes_eq x y ≡ true → x ≡ y
 same_name x y e = (bytes_eq-Decides x y).0 e
 
 -- a name that the test finds is in the list
@@ -26,7 +26,7 @@ pub there_found : (names : List (List ℕ)) (name : List ℕ) → Contains names
 there_found names name there = list_any-from_Contains nat_list_eq_equiv name names there
 
 -- the name stands at the number of a name that is found
-name_at_number : (names : List (List ℕ)) (name : List ℕ) → list_any (bytes_eq name) names ≡ true
+pub name_at_number : (names : List (List ℕ)) (name : List ℕ) → list_any (bytes_eq name) names ≡ true
     → slice_get names (name_number names name) ≡ Some name
 name_at_number [] name h = absurd (false≢true h)
 name_at_number (x ∷ names) name h = elim (cases_Bool (bytes_eq name x)) [
@@ -50,7 +50,7 @@ any_other name x (y ∷ names) ne = elim (cases_Bool (bytes_eq x y)) [
 ]
 
 -- a name is found without repetitions where it is found
-any_distinct : (name : List ℕ) (names : List (List ℕ))
+pub any_distinct : (name : List ℕ) (names : List (List ℕ))
     → list_any (bytes_eq name) (distinct names) ≡ list_any (bytes_eq name) names
 any_distinct name [] = refl
 any_distinct name (x ∷ names) = elim (cases_Bool (bytes_eq name x)) [
@@ -59,12 +59,12 @@ any_distinct name (x ∷ names) = elim (cases_Bool (bytes_eq name x)) [
 ]
 
 -- no name is found behind itself
-abbrev NoneTwice : List (List ℕ) → Type 0
+abbrev pub NoneTwice : List (List ℕ) → Type 0
 NoneTwice [] = Unit {0}
 NoneTwice (x ∷ names) = (list_any (bytes_eq x) names ≡ false) × NoneTwice names
 
 -- what is not found in a list is not found in a filter of it
-any_filter : (name : List ℕ) (passes : List ℕ → Bool) (names : List (List ℕ))
+pub any_filter : (name : List ℕ) (passes : List ℕ → Bool) (names : List (List ℕ))
     → list_any (bytes_eq name) names ≡ false → list_any (bytes_eq name) (filter passes names) ≡ false
 any_filter name passes [] h = refl
 any_filter name passes (x ∷ names) h =
@@ -79,7 +79,7 @@ any_filter name passes (x ∷ names) h =
     or_false false b e = (refl, e)
 
 -- a filter repeats no name that the list does not
-none_twice_filter : (passes : List ℕ → Bool) (names : List (List ℕ)) → NoneTwice names
+pub none_twice_filter : (passes : List ℕ → Bool) (names : List (List ℕ)) → NoneTwice names
     → NoneTwice (filter passes names)
 none_twice_filter passes [] h = tt
 none_twice_filter passes (x ∷ names) h = elim (cases_Bool (passes x)) [
@@ -97,12 +97,12 @@ none_other x (y ∷ names) = elim (cases_Bool (bytes_eq x y)) [
 ]
 
 -- a list without repetitions repeats no name
-none_twice : (names : List (List ℕ)) → NoneTwice (distinct names)
+pub none_twice : (names : List (List ℕ)) → NoneTwice (distinct names)
 none_twice [] = tt
 none_twice (x ∷ names) = (none_other x (distinct names), none_twice_filter (λ y. not (bytes_eq x y)) (distinct names) (none_twice names))
 
 -- a name that stands at a place is found
-found_at : (names : List (List ℕ)) (k : ℕ) (name : List ℕ) → slice_get names k ≡ Some name
+pub found_at : (names : List (List ℕ)) (k : ℕ) (name : List ℕ) → slice_get names k ≡ Some name
     → list_any (bytes_eq name) names ≡ true
 found_at [] k name e = absurd (none-some name e)
 found_at (x ∷ names) zero name e = rw ((bytes_eq-Decides name x).1 (sym (same_Some x name e))) refl
@@ -112,7 +112,7 @@ found_at (x ∷ names) (suc k) name e = elim (cases_Bool (bytes_eq name x)) [
 ]
 
 -- where no name is found behind itself, each stands at one place
-one_place : (names : List (List ℕ)) → NoneTwice names → (i j : ℕ) (name : List ℕ)
+pub one_place : (names : List (List ℕ)) → NoneTwice names → (i j : ℕ) (name : List ℕ)
     → slice_get names i ≡ Some name → slice_get names j ≡ Some name → i ≡ j
 one_place [] none i j name at_i at_j = absurd (none-some name at_i)
 one_place (x ∷ names) none zero zero name at_i at_j = refl

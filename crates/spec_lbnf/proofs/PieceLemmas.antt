@@ -1,22 +1,24 @@
 -- The pieces of a file's tokens, and that no definition has a semicolon among its tokens.
-use Rattle.std.proofs.Common.{◌≡◌, ℕ, zero, suc, List, [], ◌∷◌, ◌++◌, length, filter, Bool, true, false, not, ◌||◌, cond, refl, sym, ap, subst, ◌∙◌}
+use Rattle.std.proofs.Common.{◌≡◌, ℕ, zero, suc, List, [], ◌∷◌, ◌++◌, length, filter, Bool, true, false, not, ◌||◌, ◌⊎◌, inl, inr, cond, codes, refl, sym, ap, subst, ◌∙◌}
 use Rattle.std.specs.Prelude.{replicate}
 use Rattle.std.specs.List.{flat_map, AllByRecursion, slice_split, onto_first, list_any}
 use Rattle.std.proofs.lemmas.Bool.{false≢true}
 use Rattle.std.proofs.lemmas.List.{append-nil}
+use Rattle.spec_lexing.specs.declared.expression.Expr.{Expr}
 use Rattle.spec_grammar.specs.declared.rule.Label.{Label}
 use Rattle.spec_grammar.specs.declared.rule.Label.TheVariants.{Named, Wild, Nil, Cons, One}
 use Rattle.spec_lbnf.specs.declared.definition.CatName.{CatName}
 use Rattle.spec_lbnf.specs.declared.definition.RawRule.{RawRule}
 use Rattle.spec_lbnf.specs.declared.definition.Def.{Def}
-use Rattle.spec_lbnf.specs.declared.definition.Def.TheVariants.{Rule, Internal, Terminator, Separator, Coercions, Entry}
+use Rattle.spec_lbnf.specs.declared.definition.Def.TheVariants.{Rule, Internal, Terminator, Separator, Coercions, Entry, Token, LineComment, BlockComment}
 use Rattle.spec_lbnf.specs.declared.token.Sign.{Sign}
-use Rattle.spec_lbnf.specs.declared.token.Sign.TheVariants.{Semicolon, OpenBracket, CloseBracket}
+use Rattle.spec_lbnf.specs.declared.token.Sign.TheVariants.{Semicolon, Minus, OpenBracket, CloseBracket}
 use Rattle.spec_lbnf.specs.declared.token.FileToken.{FileToken}
-use Rattle.spec_lbnf.specs.declared.token.FileToken.TheVariants.{Identifier, Text}
+use Rattle.spec_lbnf.specs.declared.token.FileToken.TheVariants.{Identifier, Number, Text, Character}
 use Rattle.spec_lbnf.specs.declared.token.FileToken.TheVariants.{Sign as SignToken}
 use Rattle.spec_lbnf.specs.Words.{is_empty}
-use Rattle.spec_lbnf.specs.GrammarFile.{label_tokens, category_tokens, WrittenItem, category, string, written_tokens, entry_tokens, nonempty_tokens, SpellsRule, SpellsDef, is_semicolon, pieces_of, AreSpelledBy}
+use Rattle.spec_lbnf.specs.TokenExpressions.{Suffix, star_sign, plus_sign, question_sign, Alternatives, one_side, or_else, Differences, one_part, less, Sequence, one_factor, and_then, Factor, bare_atom, with_sign, Atom, character_atom, set_atom, text_atom, class_atom, empty_atom, bracket_atom, suffix_sign, alternatives_tokens, differences_tokens, sequence_tokens, factor_tokens, atom_tokens}
+use Rattle.spec_lbnf.specs.GrammarFile.{label_tokens, category_tokens, WrittenItem, category, string, written_tokens, entry_tokens, nonempty_tokens, position_tokens, keyword, SpellsRule, SpellsToken, SpellsDef, is_semicolon, pieces_of, AreSpelledBy}
 use Rattle.spec_lbnf.specs.Faults.{last_piece}
 
 -- no token is a semicolon
@@ -33,59 +35,148 @@ pub within_front : (xs ys : List FileToken) → AreWithin (xs ++ ys) → AreWith
 within_front [] ys within = tt
 within_front (x ∷ xs) ys within = (within.0, within_front xs ys within.1)
 
--- so many brackets are no semicolon
-within_brackets : (count : ℕ) (sign : Sign) → is_semicolon (SignToken sign) ≡ false → AreWithin (replicate count (SignToken sign))
-within_brackets zero sign h = tt
-within_brackets (suc count) sign h = (h, within_brackets count sign h)
+-- the token is a semicolon or a minus sign
+abbrev pub breaks : FileToken → Bool
+breaks (SignToken Semicolon) = true
+breaks (SignToken Minus) = true
+breaks other = false
 
--- a category has no semicolon
-within_category : (cat : CatName) → AreWithin (category_tokens cat)
-within_category cat =
-    within_both (replicate cat.depth (SignToken OpenBracket)) (Identifier cat.name ∷ replicate cat.depth (SignToken CloseBracket))
-    (within_brackets cat.depth OpenBracket refl) (refl, within_brackets cat.depth CloseBracket refl)
+-- no token is a semicolon or a minus sign
+abbrev pub ArePlain : List FileToken → Type 0
+ArePlain tokens = AllByRecursion (λ token. breaks token ≡ false) tokens
 
--- a label has no semicolon
-within_label : (label : Label) → AreWithin (label_tokens label)
-within_label (Named name) = (refl, tt)
-within_label Wild = (refl, tt)
-within_label Nil = (refl, (refl, tt))
-within_label Cons = (refl, (refl, (refl, tt)))
-within_label One = (refl, (refl, (refl, (refl, (refl, tt)))))
+-- two runs of plain tokens
+plain_both : (xs ys : List FileToken) → ArePlain xs → ArePlain ys → ArePlain (xs ++ ys)
+plain_both [] ys first second = second
+plain_both (x ∷ xs) ys first second = (first.0, plain_both xs ys first.1 second)
 
--- written items have no semicolon
-within_items : (written : List WrittenItem) → AreWithin (flat_map written_tokens written)
-within_items [] = tt
-within_items (category cat ∷ written) = within_both (category_tokens cat) (flat_map written_tokens written) (within_category cat) (within_items written)
-within_items (string text ∷ written) = (refl, within_items written)
+-- so many brackets are plain
+plain_brackets : (count : ℕ) (sign : Sign) → breaks (SignToken sign) ≡ false → ArePlain (replicate count (SignToken sign))
+plain_brackets zero sign h = tt
+plain_brackets (suc count) sign h = (h, plain_brackets count sign h)
 
--- categories with commas between them have no semicolon
-within_entries : (cats : List CatName) → AreWithin (entry_tokens cats)
-within_entries [] = tt
-within_entries (cat ∷ []) = within_category cat
-within_entries (cat ∷ next ∷ cats) =
-    within_both (category_tokens cat) _ (within_category cat) (refl, within_entries (next ∷ cats))
+-- a category is plain
+plain_category : (cat : CatName) → ArePlain (category_tokens cat)
+plain_category cat =
+    plain_both (replicate cat.depth (SignToken OpenBracket)) (Identifier cat.name ∷ replicate cat.depth (SignToken CloseBracket))
+    (plain_brackets cat.depth OpenBracket refl) (refl, plain_brackets cat.depth CloseBracket refl)
 
--- a macro behind its first word has no semicolon
-within_macro : (nonempty : Bool) (cat : CatName) (word : List ℕ)
-    → AreWithin (nonempty_tokens nonempty ++ (category_tokens cat ++ (Text word ∷ [])))
-within_macro true cat word = (refl, within_both (category_tokens cat) (Text word ∷ []) (within_category cat) (refl, tt))
-within_macro false cat word = within_both (category_tokens cat) (Text word ∷ []) (within_category cat) (refl, tt)
+-- a label is plain
+plain_label : (label : Label) → ArePlain (label_tokens label)
+plain_label (Named name) = (refl, tt)
+plain_label Wild = (refl, tt)
+plain_label Nil = (refl, (refl, tt))
+plain_label Cons = (refl, (refl, (refl, tt)))
+plain_label One = (refl, (refl, (refl, (refl, (refl, tt)))))
 
--- a rule has no semicolon
-within_rule : (rule : RawRule) (tokens : List FileToken) → SpellsRule rule tokens → AreWithin tokens
-within_rule rule tokens is =
-    let items : AreWithin is.side = subst AreWithin (sym is.items.whole) (within_items is.items.written) in
-    subst AreWithin (sym is.whole)
-    (within_both (label_tokens rule.label) _ (within_label rule.label) (refl, within_both (category_tokens rule.cat) _ (within_category rule.cat) (refl, items)))
+-- written items are plain
+plain_items : (written : List WrittenItem) → ArePlain (flat_map written_tokens written)
+plain_items [] = tt
+plain_items (category cat ∷ written) = plain_both (category_tokens cat) (flat_map written_tokens written) (plain_category cat) (plain_items written)
+plain_items (string text ∷ written) = (refl, plain_items written)
+
+-- categories with commas between them are plain
+plain_entries : (cats : List CatName) → ArePlain (entry_tokens cats)
+plain_entries [] = tt
+plain_entries (cat ∷ []) = plain_category cat
+plain_entries (cat ∷ next ∷ cats) =
+    plain_both (category_tokens cat) _ (plain_category cat) (refl, plain_entries (next ∷ cats))
+
+-- a macro behind its first word is plain
+plain_macro : (nonempty : Bool) (cat : CatName) (word : List ℕ)
+    → ArePlain (nonempty_tokens nonempty ++ (category_tokens cat ++ (Text word ∷ [])))
+plain_macro true cat word = (refl, plain_both (category_tokens cat) (Text word ∷ []) (plain_category cat) (refl, tt))
+plain_macro false cat word = plain_both (category_tokens cat) (Text word ∷ []) (plain_category cat) (refl, tt)
+
+-- a rule is plain
+plain_rule : (rule : RawRule) (tokens : List FileToken) → SpellsRule rule tokens → ArePlain tokens
+plain_rule rule tokens is =
+    let items : ArePlain is.side = subst ArePlain (sym is.items.whole) (plain_items is.items.written) in
+    subst ArePlain (sym is.whole)
+    (plain_both (label_tokens rule.label) _ (plain_label rule.label) (refl, plain_both (category_tokens rule.cat) _ (plain_category rule.cat) (refl, items)))
+
+-- a definition of another form than a token is plain
+pub plain_def : (def : Def) (tokens : List FileToken) → SpellsDef def tokens
+    → ArePlain tokens ⊎ ((name : List ℕ) × (expr : Expr) × (def ≡ Token name expr) × SpellsToken name expr tokens)
+plain_def (Rule rule) tokens is = inl (plain_rule rule tokens is)
+plain_def (Internal rule) tokens is = inl (subst ArePlain (sym is.2) (refl, plain_rule rule is.0 is.1))
+plain_def (Terminator nonempty cat word) tokens is = inl (subst ArePlain (sym is.1) (refl, plain_macro nonempty cat word))
+plain_def (Separator nonempty cat word) tokens is = inl (subst ArePlain (sym is.1) (refl, plain_macro nonempty cat word))
+plain_def (Coercions name levels) tokens is = inl (subst ArePlain (sym is.1) (refl, (refl, (refl, tt))))
+plain_def (Entry cats) tokens is = inl (subst ArePlain (sym is.2) (refl, plain_entries cats))
+plain_def (Token name expr) tokens is = inr (name, expr, refl, is)
+plain_def (LineComment opening) tokens is = inl (subst ArePlain (sym is.1) (refl, (refl, tt)))
+plain_def (BlockComment opening closing) tokens is = inl (subst ArePlain (sym is.2) (refl, (refl, (refl, tt))))
+
+-- a plain token is no semicolon
+plain_token : (token : FileToken) → breaks token ≡ false → is_semicolon token ≡ false
+plain_token (SignToken Semicolon) plain = absurd (false≢true (sym plain))
+plain_token other plain = refl
+
+-- plain tokens have no semicolon
+within_plain : (tokens : List FileToken) → ArePlain tokens → AreWithin tokens
+within_plain [] plain = tt
+within_plain (token ∷ tokens) plain = (plain_token token plain.0, within_plain tokens plain.1)
+
+-- a sign behind a factor is no semicolon
+within_suffix : (suffix : Suffix) → is_semicolon (SignToken (suffix_sign suffix)) ≡ false
+within_suffix star_sign = refl
+within_suffix plus_sign = refl
+within_suffix question_sign = refl
+
+mutual
+  -- alternatives have no semicolon
+  within_alternatives : (sides : Alternatives) → AreWithin (alternatives_tokens sides)
+  within_alternatives (one_side side) = within_differences side
+  within_alternatives (or_else sides side) =
+      within_both (alternatives_tokens sides) _ (within_alternatives sides) (refl, within_differences side)
+
+  -- nor have differences
+  within_differences : (side : Differences) → AreWithin (differences_tokens side)
+  within_differences (one_part part) = within_sequence part
+  within_differences (less left part) =
+      within_both (differences_tokens left) _ (within_differences left) (refl, within_sequence part)
+
+  -- nor has a sequence
+  within_sequence : (part : Sequence) → AreWithin (sequence_tokens part)
+  within_sequence (one_factor factor) = within_factor factor
+  within_sequence (and_then factors factor) =
+      within_both (sequence_tokens factors) (factor_tokens factor) (within_sequence factors) (within_factor factor)
+
+  -- nor has a factor
+  within_factor : (factor : Factor) → AreWithin (factor_tokens factor)
+  within_factor (bare_atom atom) = within_atom atom
+  within_factor (with_sign factor suffix) =
+      within_both (factor_tokens factor) _ (within_factor factor) (within_suffix suffix, tt)
+
+  -- nor has an atom
+  within_atom : (atom : Atom) → AreWithin (atom_tokens atom)
+  within_atom (character_atom scalar) = (refl, tt)
+  within_atom (set_atom name) = (refl, (refl, (refl, tt)))
+  within_atom (text_atom name) = (refl, (refl, (refl, tt)))
+  within_atom (class_atom k) = (refl, tt)
+  within_atom empty_atom = (refl, tt)
+  within_atom (bracket_atom sides) =
+      (refl, within_both (alternatives_tokens sides) _ (within_alternatives sides) (refl, tt))
+
+-- a kind of token has no semicolon
+within_token : (name : List ℕ) (expr : Expr) (tokens : List FileToken) → SpellsToken name expr tokens → AreWithin tokens
+within_token name expr tokens is =
+    subst AreWithin (sym is.whole) (by is.position)
+  where
+    own : AreWithin is.own
+    own = subst AreWithin (sym is.spelled.whole) (within_alternatives is.spelled.written)
+
+    by : (position : Bool) → AreWithin (position_tokens position ++ (keyword (codes "token") ∷ Identifier name ∷ is.own))
+    by true = (refl, (refl, (refl, own)))
+    by false = (refl, (refl, own))
 
 -- a definition has no semicolon
 pub within_def : (def : Def) (tokens : List FileToken) → SpellsDef def tokens → AreWithin tokens
-within_def (Rule rule) tokens is = within_rule rule tokens is
-within_def (Internal rule) tokens is = subst AreWithin (sym is.2) (refl, within_rule rule is.0 is.1)
-within_def (Terminator nonempty cat word) tokens is = subst AreWithin (sym is.1) (refl, within_macro nonempty cat word)
-within_def (Separator nonempty cat word) tokens is = subst AreWithin (sym is.1) (refl, within_macro nonempty cat word)
-within_def (Coercions name levels) tokens is = subst AreWithin (sym is.1) (refl, (refl, (refl, tt)))
-within_def (Entry cats) tokens is = subst AreWithin (sym is.2) (refl, within_entries cats)
+within_def def tokens is = elim (plain_def def tokens is) [
+  | inl plain ↦ within_plain tokens plain
+  | inr kind ↦ within_token kind.0 kind.1 tokens kind.3
+]
 
 -- tokens are cut into a first piece and others
 abbrev pub IsCut : List FileToken → Type 0

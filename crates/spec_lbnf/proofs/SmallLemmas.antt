@@ -9,7 +9,7 @@ use Rattle.spec_lbnf.specs.declared.definition.RawItem.{RawItem}
 use Rattle.spec_lbnf.specs.declared.definition.RawItem.TheVariants.{Word}
 use Rattle.spec_lbnf.specs.declared.definition.RawRule.{RawRule}
 use Rattle.spec_lbnf.specs.declared.definition.Def.{Def}
-use Rattle.spec_lbnf.specs.declared.definition.Def.TheVariants.{Rule, Internal, Terminator, Separator, Coercions, Entry}
+use Rattle.spec_lbnf.specs.declared.definition.Def.TheVariants.{Rule, Internal, Terminator, Separator, Coercions, Entry, Token, LineComment, BlockComment}
 use Rattle.spec_lbnf.specs.declared.token.Sign.TheVariants.{OpenBracket, Dot, Gives, Comma}
 use Rattle.spec_lbnf.specs.declared.token.FileToken.{FileToken}
 use Rattle.spec_lbnf.specs.declared.token.FileToken.TheVariants.{Text}
@@ -132,6 +132,9 @@ small_def (Coercions name levels) tokens is lacks = tt
 small_def (Entry cats) tokens is lacks =
     All-from_recursion IsShallow cats (small_entries cats (recursion_from_All IsCategory cats is.1)
     (peel_last [] (keyword (codes "entrypoints")) (entry_tokens cats) (λ e. cc e) (subst LacksLong is.2 lacks)))
+small_def (Token name expr) tokens is lacks = tt
+small_def (LineComment opening) tokens is lacks = tt
+small_def (BlockComment opening closing) tokens is lacks = tt
 
 -- tokens are their first part, or it, a semicolon and what the others are parts of
 abbrev IsFirstPart : List FileToken → List FileToken → List (List FileToken) → Type 0
@@ -198,14 +201,14 @@ small_defs : (bytes : List ℕ) (defs : List Def) → Spells bytes defs → All 
 small_defs bytes defs spelled =
     let tokens : List FileToken = bare spelled.tokens in
     let cut = cut_of tokens in
-    let lack = parts_lack cut.1 tokens cut.0 cut.2 spelled.short in
+    let lack = parts_lack cut.1 tokens cut.0 cut.2 spelled.form.short in
     let parts : AllByRecursion LacksLong (slice_split is_semicolon tokens) = rw cut.2 lack in
     All-from_recursion IsSmall defs
-    (small_spelled defs (pieces_of tokens) spelled.spelled (pieces_lack (slice_split is_semicolon tokens) parts))
+    (small_spelled defs (pieces_of tokens) spelled.form.spelled (pieces_lack (slice_split is_semicolon tokens) parts))
 
 -- and within the limits
 pub defs_within_limits : DefsWithinLimits
 defs_within_limits bytes defs spelled = record {
-  few = omega (arith, spelled.small.few, two_bytes_for_each bytes defs spelled);
+  few = omega (arith, spelled.form.small.few, two_bytes_for_each bytes defs spelled);
   small = small_defs bytes defs spelled;
 }

@@ -1,7 +1,6 @@
 -- What makes definitions unfit for a grammar, check by check, in the order of the checks.
 use Rattle.std.specs.Prelude.{◌≡◌, ℕ, ◌<◌, ◌≤◌, ◌⊎◌, List, [], ◌∷◌, ◌++◌, length, map, flat_map}
-use Rattle.std.specs.Prelude.{slice_get, Some, All, Contains, ◌≢◌, cond, bytes_eq, codes}
-use Rattle.std.specs.List.{list_any}
+use Rattle.std.specs.Prelude.{slice_get, Some, All, Contains, ◌≢◌, take}
 use Rattle.spec_text.specs.declared.limits.TheConstants.{MAX_RULES}
 use Rattle.spec_grammar.specs.Cycles.{IsCyclic, IsAcyclic}
 use Rattle.spec_grammar.specs.declared.rule.Label.{Label}
@@ -10,16 +9,15 @@ use Rattle.spec_lbnf.specs.declared.definition.CatName.{CatName}
 use Rattle.spec_lbnf.specs.declared.definition.RawRule.{RawRule}
 use Rattle.spec_lbnf.specs.declared.definition.Def.{Def}
 use Rattle.spec_lbnf.specs.declared.definition.Def.TheVariants.{Rule as RuleDef, Internal}
-use Rattle.spec_lbnf.specs.declared.definition.Def.TheVariants.{Coercions, Entry}
+use Rattle.spec_lbnf.specs.declared.definition.Def.TheVariants.{Coercions, Token}
 use Rattle.spec_lbnf.specs.declared.fault.GrammarFault.{GrammarFault}
 use Rattle.spec_lbnf.specs.declared.fault.GrammarFault.TheVariants.{BadCoercion, BadList}
 use Rattle.spec_lbnf.specs.declared.fault.GrammarFault.TheVariants.{TooManyRules, RepeatedToken}
-use Rattle.spec_lbnf.specs.declared.fault.GrammarFault.TheVariants.{UnknownCategory, Unbuilt}
-use Rattle.spec_lbnf.specs.declared.fault.GrammarFault.TheVariants.{Cyclic}
+use Rattle.spec_lbnf.specs.declared.fault.GrammarFault.TheVariants.{UnknownCategory, Cyclic}
 use Rattle.spec_grammar.specs.Grammars.{Grammar}
 use Rattle.spec_lbnf.specs.Expansion.{category_text, rules_of_def, rules_of}
-use Rattle.spec_lbnf.specs.Expansion.{categories_in, item_categories, internal_category}
-use Rattle.spec_lbnf.specs.Expansion.{expansion_of}
+use Rattle.spec_lbnf.specs.Expansion.{categories_in, internal_category, named_categories}
+use Rattle.spec_lbnf.specs.Expansion.{token_names, kind_names, expansion_of}
 
 -- this is so of the number, and of no lesser one
 pub record IsFirst (IsSo : ℕ → Type 0) (number : ℕ) : Type 0 where
@@ -98,35 +96,59 @@ abbrev pub own_categories : Def → List (List ℕ)
 own_categories def =
     internal_category def ++ map (λ (rule : RawRule). category_text rule.cat) (rules_of_def def)
 
--- the names of the predefined kinds
-abbrev pub predefined_names : List (List ℕ)
-predefined_names =
-    codes "Integer" ∷ codes "Double" ∷ codes "Ident" ∷ codes "String" ∷ codes "Char" ∷ []
+-- the names that the definition takes: that of a token, or the categories that it gives rules for
+abbrev pub own_names : Def → List (List ℕ)
+own_names (Token name expr) = name ∷ []
+own_names def = own_categories def
 
--- the name is that of a predefined kind
-abbrev pub IsPredefined : List ℕ → Type 0
-IsPredefined name = Contains predefined_names name
+-- the names that the definition of this number may not take: a token definition those of the token
+-- definitions before it, and any other those of all token definitions and the predefined ones
+abbrev pub taken_names : List Def → ℕ → Def → List (List ℕ)
+taken_names defs number (Token name expr) = token_names (take number defs)
+taken_names defs number def = kind_names defs
 
--- the name is not that of a predefined kind
-abbrev pub IsFree : List ℕ → Type 0
-IsFree name = IsPredefined name → ⊥
+-- the name is one that the definition of this number may not take
+abbrev pub IsTaken : List Def → ℕ → Def → List ℕ → Type 0
+IsTaken defs number def name = Contains (taken_names defs number def) name
 
--- no definition gives rules for a predefined name
+-- the definition of this number may take the name
+abbrev pub IsFree : List Def → ℕ → Def → List ℕ → Type 0
+IsFree defs number def name = IsTaken defs number def name → ⊥
+
+-- the definition of this number takes no name that it may not take
+abbrev pub TakesFree : List Def → ℕ → Type 0
+TakesFree defs number =
+    (def : Def) → slice_get defs number ≡ Some def → All (IsFree defs number def) (own_names def)
+
+-- no definition repeats a name
 abbrev pub HasOwnNames : List Def → Type 0
-HasOwnNames defs = All IsFree (flat_map own_categories defs)
+HasOwnNames defs = (number : ℕ) → TakesFree defs number
 
--- some rule, internal or not, has the category of this text
+-- the definition of this number takes a name that it may not take
+abbrev pub RepeatsName : List Def → ℕ → Type 0
+RepeatsName defs number =
+    (def : Def) × (slice_get defs number ≡ Some def)
+    × ((place : ℕ) × HasAt (IsTaken defs number def) (own_names def) place)
+
+-- the first definition that repeats a name repeats this one first
+pub record IsFirstRepeated (defs : List Def) (name : List ℕ) : Type 0 where
+  pub number : ℕ
+  pub first : IsFirst (RepeatsName defs) number
+  pub def : Def
+  pub is_def : slice_get defs number ≡ Some def
+  pub first_name : IsFirstName (IsTaken defs number def) (own_names def) name
+
+-- the names that may be named: categories of rules, internal or not, and names of kinds
+abbrev pub known_names : List Def → List (List ℕ)
+known_names defs = flat_map own_categories defs ++ kind_names defs
+
+-- the name may be named
 abbrev pub IsKnown : List Def → List ℕ → Type 0
-IsKnown defs name = Contains (flat_map own_categories defs) name
+IsKnown defs name = Contains (known_names defs) name
 
--- no rule has the category of this text
+-- no rule has the category of this text, and no kind of token the name
 abbrev pub IsUnknown : List Def → List ℕ → Type 0
 IsUnknown defs name = IsKnown defs name → ⊥
-
--- the categories that the definition names: entry points, or the categories among its rules' items
-abbrev pub named_categories : Def → List (List ℕ)
-named_categories (Entry cats) = map category_text cats
-named_categories def = flat_map (λ (rule : RawRule). item_categories rule.items) (rules_of_def def)
 
 -- each category that the definition names is known
 abbrev pub NamesKnown : List Def → Def → Type 0
@@ -165,23 +187,16 @@ abbrev pub AtCount : List Def → GrammarFault → Type 0
 AtCount defs fault =
     (MAX_RULES < length (rules_of defs)) × (fault ≡ TooManyRules (length (rules_of defs)))
 
--- the first predefined name that a definition gives rules for is at fault
+-- the first name that a definition repeats is at fault
 abbrev pub AtOwnName : List Def → GrammarFault → Type 0
 AtOwnName defs fault =
-    (name : List ℕ) × IsFirstName IsPredefined (flat_map own_categories defs) name
-    × (fault ≡ RepeatedToken name)
-
--- the fault of a category that is not known
-abbrev pub unknown_fault : List ℕ → ℕ → GrammarFault
-unknown_fault name number =
-    cond (list_any (bytes_eq name) predefined_names) (Unbuilt number)
-    (UnknownCategory name number)
+    (name : List ℕ) × IsFirstRepeated defs name × (fault ≡ RepeatedToken name)
 
 -- a category that is not known is at fault
 abbrev pub AtUnknown : List Def → GrammarFault → Type 0
 AtUnknown defs fault =
     (name : List ℕ) × (number : ℕ) × IsFirstUnknown defs name number
-    × (fault ≡ unknown_fault name number)
+    × (fault ≡ UnknownCategory name number)
 
 -- the first cyclic category is at fault
 abbrev pub AtCycle : List Def → GrammarFault → Type 0

@@ -1,6 +1,6 @@
 -- What a grammar file spells, or its first fault.
 use Rattle.std.specs.Prelude.{◌≡◌, ℕ, ◌<◌, ◌≤◌, List, [], ◌∷◌, ◌++◌, length, codes}
-use Rattle.std.specs.Prelude.{map, cond, false, ◌⊎◌, Contains, IsUtf8}
+use Rattle.std.specs.Prelude.{map, cond, false, ◌⊎◌, IsUtf8, slice_get, Some}
 use Rattle.std.specs.List.{list_any}
 use Rattle.std.specs.Str.Lossy.{utf8_valid_len}
 use Rattle.spec_text.specs.declared.limits.TheConstants.{MAX_FILE, MAX_CATEGORY}
@@ -8,7 +8,7 @@ use Rattle.spec_lbnf.specs.declared.definition.CatName.{CatName}
 use Rattle.spec_lbnf.specs.declared.definition.Def.{Def}
 use Rattle.spec_lbnf.specs.declared.fault.TextFault.{TextFault}
 use Rattle.spec_lbnf.specs.declared.fault.TextFault.TheVariants.{TooLarge, NotUtf8, Syntax}
-use Rattle.spec_lbnf.specs.declared.fault.TextFault.TheVariants.{Unsupported, Unbuilt}
+use Rattle.spec_lbnf.specs.declared.fault.TextFault.TheVariants.{Unsupported, BadDifference}
 use Rattle.spec_lbnf.specs.declared.token.Sign.TheVariants.{OpenBracket, OpenParen}
 use Rattle.spec_lbnf.specs.declared.token.FileToken.{FileToken}
 use Rattle.spec_lbnf.specs.declared.token.FileToken.TheVariants.{Identifier}
@@ -18,7 +18,8 @@ use Rattle.spec_lbnf.specs.GrammarFile.{starts_upper}
 use Rattle.spec_lbnf.specs.Expansion.{category_text}
 use Rattle.spec_lbnf.specs.FileTokens.{IsScan}
 use Rattle.spec_lbnf.specs.GrammarFile.{IsUpperName, IsCategory, category_tokens, keyword}
-use Rattle.spec_lbnf.specs.GrammarFile.{is_semicolon, pieces_of, SpellsDefs}
+use Rattle.spec_lbnf.specs.GrammarFile.{is_semicolon, SpellsDefs}
+use Rattle.spec_lbnf.specs.Differences.{HasGoodDifferences, IsFirstBad, minus_signs}
 
 -- the tokens without their offsets
 abbrev pub bare : List PlacedToken → List FileToken
@@ -50,14 +51,19 @@ pub record IsSmallText (bytes : List ℕ) : Type 0 where
   pub few : length bytes ≤ MAX_FILE
   pub utf8 : IsUtf8 bytes
 
--- the file spells the definitions: it is a small text, its tokens reach its end and spell them, and
--- no category is too long
-pub record Spells (bytes : List ℕ) (defs : List Def) : Type 0 where
+-- the file has the form of the definitions: it is a small text, its tokens, these, reach its end
+-- and spell them, and no category is too long
+pub record HasForm (bytes : List ℕ) (tokens : List PlacedToken) (defs : List Def) : Type 0 where
   pub small : IsSmallText bytes
-  pub tokens : List PlacedToken
   pub scan : IsScan bytes tokens (length bytes)
   pub spelled : SpellsDefs defs (bare tokens)
   pub short : LacksLong (bare tokens)
+
+-- the file spells the definitions: it has their form, and each difference is good
+pub record Spells (bytes : List ℕ) (defs : List Def) : Type 0 where
+  pub tokens : List PlacedToken
+  pub form : HasForm bytes tokens defs
+  pub good : HasGoodDifferences defs
 
 -- the tokens behind the last semicolon, those of the definition that is read
 abbrev pub last_piece : List FileToken → List FileToken
@@ -66,10 +72,6 @@ last_piece (token ∷ tokens) =
     cond (list_any is_semicolon tokens) (last_piece tokens)
     (cond (is_semicolon token) tokens (token ∷ tokens))
 
--- the first words of the forms of definition that are not built
-abbrev pub unbuilt_words : List (List ℕ)
-unbuilt_words = codes "token" ∷ codes "position" ∷ codes "comment" ∷ []
-
 -- the tokens are a label that is a name, alone or behind `internal`
 abbrev pub IsNamedLabel : List FileToken → Type 0
 IsNamedLabel piece =
@@ -77,24 +79,20 @@ IsNamedLabel piece =
     × ((IsUpperName label × (piece ≡ Identifier label ∷ []))
     ⊎ (piece ≡ keyword (codes "internal") ∷ Identifier label ∷ []))
 
--- behind so many definitions, and behind what the next has begun with, the token at this offset is
--- labelled BNF that this profile leaves out, and this is its fault
-pub data IsLeftOut (number : ℕ) (piece : List FileToken) (token : FileToken) (at : ℕ)
-    (fault : TextFault) : Type 0 where
-  -- the first word of a form of definition that is not built
-  unbuilt_form : (word : List ℕ) → piece ≡ [] → token ≡ Identifier word →
-      Contains unbuilt_words word → fault ≡ Unbuilt number → IsLeftOut number piece token at fault
-  -- another lower-case word, as the first of a definition
+-- behind what a definition has begun with, the token at this offset is labelled BNF that this
+-- profile leaves out, and this is its fault
+pub data IsLeftOut (piece : List FileToken) (token : FileToken) (at : ℕ) (fault : TextFault) :
+    Type 0 where
+  -- a lower-case word, as the first of a definition
   first_word : (word : List ℕ) → piece ≡ [] → token ≡ Identifier word →
-      starts_upper word ≡ false → (Contains unbuilt_words word → ⊥) →
-      fault ≡ Unsupported word at → IsLeftOut number piece token at fault
+      starts_upper word ≡ false → fault ≡ Unsupported word at → IsLeftOut piece token at fault
   -- a label behind `internal` that begins in lower case
   lower_label : (word : List ℕ) → piece ≡ keyword (codes "internal") ∷ [] →
       token ≡ Identifier word → starts_upper word ≡ false → fault ≡ Unsupported word at →
-      IsLeftOut number piece token at fault
+      IsLeftOut piece token at fault
   -- a bracket behind a label that is a name
   label_bracket : IsNamedLabel piece → token ≡ SignToken OpenParen →
-      fault ≡ Unsupported (codes "(") at → IsLeftOut number piece token at fault
+      fault ≡ Unsupported (codes "(") at → IsLeftOut piece token at fault
 
 -- the first whole category of more than 128 bytes among the tokens begins at this offset
 pub record IsFirstLong (tokens : List PlacedToken) (offset : ℕ) : Type 0 where
@@ -128,8 +126,7 @@ pub record ReachesEnd (tokens front : List PlacedToken) : Type 0 where
 -- behind the front the next token is left out of this profile, and this is its fault
 abbrev pub LeavesOut : List PlacedToken → PlacedToken → TextFault → Type 0
 LeavesOut front token fault =
-    IsLeftOut (length (pieces_of (bare front))) (last_piece (bare front)) token.token token.offset
-    fault
+    IsLeftOut (last_piece (bare front)) token.token token.offset fault
 
 -- of the tokens, which reach to the stop, this is the fault at a front that can go on
 pub data FaultAt (bytes : List ℕ) (tokens : List PlacedToken) (stop : ℕ)
@@ -152,8 +149,16 @@ pub data FaultAt (bytes : List ℕ) (tokens : List PlacedToken) (stop : ℕ)
       ((defs : List Def) → SpellsDefs defs (bare tokens) → ⊥) → fault ≡ Syntax stop →
       FaultAt bytes tokens stop front fault
 
+-- the first difference that is not good has its minus sign at this offset
+pub record IsFirstBadAt (tokens : List PlacedToken) (defs : List Def) (offset : ℕ) : Type 0 where
+  pub number : ℕ
+  pub first : IsFirstBad defs number
+  pub sign : PlacedToken
+  pub is_sign : slice_get (minus_signs tokens) number ≡ Some sign
+  pub is_offset : offset ≡ sign.offset
+
 -- the first fault of a file: its size, then its encoding, then the least offset at which it cannot
--- go on
+-- go on, then the first difference that is not good
 pub data IsFirstFault (bytes : List ℕ) (fault : TextFault) : Type 0 where
   is_large : MAX_FILE < length bytes → fault ≡ TooLarge (length bytes) → IsFirstFault bytes fault
   is_not_utf8 : length bytes ≤ MAX_FILE → utf8_valid_len bytes < length bytes →
@@ -161,3 +166,6 @@ pub data IsFirstFault (bytes : List ℕ) (fault : TextFault) : Type 0 where
   in_tokens : IsSmallText bytes → (tokens : List PlacedToken) → (stop : ℕ) →
       IsScan bytes tokens stop → (front : List PlacedToken) → IsFront tokens front →
       FaultAt bytes tokens stop front fault → IsFirstFault bytes fault
+  bad_difference : (tokens : List PlacedToken) → (defs : List Def) → HasForm bytes tokens defs →
+      (offset : ℕ) → IsFirstBadAt tokens defs offset → fault ≡ BadDifference offset →
+      IsFirstFault bytes fault

@@ -3,6 +3,7 @@ use Rattle.std.specs.Prelude.{◌≡◌, ℕ, ◌<◌, List, [], ◌∷◌, ◌+
 use Rattle.std.specs.Prelude.{false, not, All, filter, map, flat_map, replicate}
 use Rattle.std.specs.List.{slice_split}
 use Rattle.spec_text.specs.Bytes.{is_upper}
+use Rattle.spec_lexing.specs.declared.expression.Expr.{Expr}
 use Rattle.spec_grammar.specs.declared.rule.Label.{Label}
 use Rattle.spec_grammar.specs.declared.rule.Label.TheVariants.{Named, Wild, Nil, Cons, One}
 use Rattle.spec_lbnf.specs.declared.definition.CatName.{CatName}
@@ -12,12 +13,14 @@ use Rattle.spec_lbnf.specs.declared.definition.RawRule.{RawRule}
 use Rattle.spec_lbnf.specs.declared.definition.Def.{Def}
 use Rattle.spec_lbnf.specs.declared.definition.Def.TheVariants.{Rule, Internal, Terminator}
 use Rattle.spec_lbnf.specs.declared.definition.Def.TheVariants.{Separator, Coercions, Entry}
+use Rattle.spec_lbnf.specs.declared.definition.Def.TheVariants.{Token, LineComment, BlockComment}
 use Rattle.spec_lbnf.specs.declared.token.Sign.TheVariants.{Dot, Semicolon, Gives, Colon, Comma}
 use Rattle.spec_lbnf.specs.declared.token.Sign.TheVariants.{OpenBracket, CloseBracket, OpenParen}
 use Rattle.spec_lbnf.specs.declared.token.Sign.TheVariants.{CloseParen, Underscore}
 use Rattle.spec_lbnf.specs.declared.token.FileToken.{FileToken}
 use Rattle.spec_lbnf.specs.declared.token.FileToken.TheVariants.{Identifier, Number, Text}
 use Rattle.spec_lbnf.specs.declared.token.FileToken.TheVariants.{Sign as SignToken}
+use Rattle.spec_lbnf.specs.TokenExpressions.{SpellsExpr}
 use Rattle.spec_lbnf.specs.Words.{is_empty, words_in}
 
 -- the name begins with an upper-case letter
@@ -112,6 +115,20 @@ abbrev pub macro_tokens : List ℕ → Bool → CatName → List ℕ → List Fi
 macro_tokens first nonempty cat word =
     keyword first ∷ nonempty_tokens nonempty ++ (category_tokens cat ++ Text word ∷ [])
 
+-- the word `position`, where it is written
+abbrev pub position_tokens : Bool → List FileToken
+position_tokens true = keyword (codes "position") ∷ []
+position_tokens false = []
+
+-- the tokens spell a kind of token: perhaps `position`, then `token`, a name and an expression
+pub record SpellsToken (name : List ℕ) (expr : Expr) (tokens : List FileToken) : Type 0 where
+  pub is_name : IsUpperName name
+  pub position : Bool
+  pub own : List FileToken
+  pub spelled : SpellsExpr expr own
+  pub whole : tokens
+      ≡ position_tokens position ++ (keyword (codes "token") ∷ Identifier name ∷ own)
+
 -- the tokens spell the definition
 abbrev pub SpellsDef : Def → List FileToken → Type 0
 SpellsDef (Rule rule) tokens = SpellsRule rule tokens
@@ -127,6 +144,12 @@ SpellsDef (Coercions name levels) tokens =
 SpellsDef (Entry cats) tokens =
     (0 < length cats) × All IsCategory cats
     × (tokens ≡ keyword (codes "entrypoints") ∷ entry_tokens cats)
+SpellsDef (Token name expr) tokens = SpellsToken name expr tokens
+SpellsDef (LineComment opening) tokens =
+    (0 < length opening) × (tokens ≡ keyword (codes "comment") ∷ Text opening ∷ [])
+SpellsDef (BlockComment opening closing) tokens =
+    (0 < length opening) × (0 < length closing)
+    × (tokens ≡ keyword (codes "comment") ∷ Text opening ∷ Text closing ∷ [])
 
 -- the token is a semicolon
 abbrev pub is_semicolon : FileToken → Bool

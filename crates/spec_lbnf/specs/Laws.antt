@@ -1,18 +1,19 @@
 -- What is true of expansion and of its checks, for every list of definitions, and of the size of
 -- what a file spells.
 use Rattle.std.specs.Prelude.{◌≡◌, ℕ, ◌*◌, ◌≤◌, ◌↔◌, List, length, Some, slice_get, Contains}
-use Rattle.std.specs.Prelude.{IfSome}
+use Rattle.std.specs.Prelude.{IfSome, All}
 use Rattle.spec_grammar.specs.Cycles.{IsAcyclic}
 use Rattle.spec_lbnf.specs.declared.definition.Def.{Def}
 use Rattle.spec_lbnf.specs.declared.fault.GrammarFault.{GrammarFault}
 use Rattle.spec_lbnf.specs.declared.fault.GrammarFault.TheVariants.{Memory as GrammarMemory}
 use Rattle.spec_lbnf.specs.declared.fault.TextFault.TheVariants.{Memory as FileMemory}
+use Rattle.spec_lbnf.specs.Differences.{IsProper}
 use Rattle.spec_lbnf.specs.Faults.{Spells, IsFirstFault}
 use Rattle.spec_lbnf.specs.Limits.{size_of, AreFewAndSmall}
 use Rattle.spec_grammar.specs.Grammars.{Grammar, name_number, HasOwnSymbols}
 use Rattle.spec_lbnf.specs.Expansion.{distinct, expansion_of}
-use Rattle.spec_grammar.specs.Grammars.{IsSymbolOf}
-use Rattle.spec_lbnf.specs.Checks.{AreAllKnown, IsFirstCyclic, AreFit, IsUnfit}
+use Rattle.spec_grammar.specs.Grammars.{IsSymbolOf, HasDistinctNames}
+use Rattle.spec_lbnf.specs.Checks.{HasOwnNames, AreAllKnown, IsFirstCyclic, AreFit, IsUnfit}
 
 -- the rules that definitions give have symbols of their grammar alone
 abbrev pub OwnSymbols : Type 0
@@ -23,6 +24,10 @@ abbrev pub OwnEntry : Type 0
 OwnEntry =
     (defs : List Def) → AreAllKnown defs
     → IfSome (expansion_of defs).entry (IsSymbolOf (expansion_of defs))
+
+-- where no definition repeats a name, no two symbols of the grammar have one name
+abbrev pub OneSymbolEach : Type 0
+OneSymbolEach = (defs : List Def) → HasOwnNames defs → HasDistinctNames (expansion_of defs)
 
 -- no definitions are fit and unfit
 abbrev pub FitOrUnfit : Type 0
@@ -75,3 +80,7 @@ TwoBytesForEach =
 -- what a file spells is within the limits
 abbrev pub DefsWithinLimits : Type 0
 DefsWithinLimits = (bytes : List ℕ) (defs : List Def) → Spells bytes defs → AreFewAndSmall defs
+
+-- the expressions of what a file spells are sound, and its comments have texts
+abbrev pub ProperDefs : Type 0
+ProperDefs = (bytes : List ℕ) (defs : List Def) → Spells bytes defs → All IsProper defs

@@ -1,6 +1,8 @@
 pub mod FileTokens
 pub mod Words
+pub mod TokenExpressions
 pub mod GrammarFile
+pub mod Differences
 pub mod Faults
 pub mod Limits
 pub mod Expansion

@@ -6,6 +6,7 @@ use Rattle.spec_lbnf.specs.declared.definition.RawItem.TheVariants.{Cat, Word}
 use Rattle.spec_lbnf.specs.declared.definition.Def.{Def}
 use Rattle.spec_lbnf.specs.declared.definition.Def.TheVariants.{Rule, Internal, Terminator}
 use Rattle.spec_lbnf.specs.declared.definition.Def.TheVariants.{Separator, Coercions, Entry}
+use Rattle.spec_lbnf.specs.declared.definition.Def.TheVariants.{Token, LineComment, BlockComment}
 use Rattle.spec_lbnf.specs.Words.{words_in}
 
 -- how many parts a definition has: itself, its items, its entry points, and the words of its string
@@ -16,6 +17,9 @@ def_size (Terminator nonempty cat word) = 1 + length (words_in word)
 def_size (Separator nonempty cat word) = 1 + length (words_in word)
 def_size (Coercions name levels) = 1
 def_size (Entry cats) = 1 + length cats
+def_size (Token name expr) = 1
+def_size (LineComment opening) = 1
+def_size (BlockComment opening closing) = 1
 
 -- the parts of all definitions, counted together
 abbrev pub size_of : List Def → ℕ
@@ -38,6 +42,9 @@ IsSmall (Terminator nonempty cat word) = IsShallow cat
 IsSmall (Separator nonempty cat word) = IsShallow cat
 IsSmall (Coercions name levels) = Unit {0}
 IsSmall (Entry cats) = All IsShallow cats
+IsSmall (Token name expr) = Unit {0}
+IsSmall (LineComment opening) = Unit {0}
+IsSmall (BlockComment opening closing) = Unit {0}
 
 -- the definitions have at most 32,768 parts together, and each is small
 pub record AreFewAndSmall (defs : List Def) : Type 0 where

@@ -1,5 +1,6 @@
 //! The definitions of a grammar file, as they are written.
 use spec_grammar::Label;
+use spec_lexing::Expr;
 use spec_text::Name;
 use sqlite_items::Items;
 
@@ -53,4 +54,13 @@ pub enum Def {
     },
     /// `entrypoints Cat, Cat`: the categories that a text may be asked for, one or more.
     Entry(Items<CatName>),
+    /// `token Name Expr` or `position token Name Expr`: a kind of token by its name.
+    Token {
+        name: Name,
+        expr: Expr,
+    },
+    /// `comment "w"`: comments from the word to the end of the line.
+    LineComment(Name),
+    /// `comment "w" "v"`: comments from the first word to the next second word.
+    BlockComment(Name, Name),
 }

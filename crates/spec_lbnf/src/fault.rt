@@ -15,9 +15,9 @@ pub enum TextFault {
     Syntax { at: u32 },
     /// A word of labelled BNF that this profile leaves out, at its first byte.
     Unsupported { word: Name, at: u32 },
-    /// The definition of this number has a form that is not built. Definitions are numbered from 0,
-    /// and empty ones are not counted.
-    Unbuilt { def: u32 },
+    /// The difference whose sign is at this byte, the first in the file, has a left side that is no
+    /// class, or a right side that is no class of ASCII characters. All else in the file is right.
+    BadDifference { at: u32 },
 }
 
 /// Why definitions give no grammar, in the order of the checks. Definitions are numbered from 0.
@@ -35,15 +35,13 @@ pub enum GrammarFault {
     BadList { def: u32 },
     /// The definitions give more than 1,024 rules: so many.
     TooManyRules { count: u64 },
-    /// The first predefined name, in file order, that is the category of a rule, internal or not, of
-    /// a macro or of coercions.
+    /// The first name, in file order, that a definition repeats: a token definition that of an
+    /// earlier one, and a rule, internal or not, or made of a macro or of coercions, that of any
+    /// token definition or a predefined name as its category.
     RepeatedToken { name: Name },
-    /// The first category, in file order, that no rule has: its text, which is no predefined name,
-    /// and the number of the definition that names it.
+    /// The first category, in file order, that is neither a known category, nor a token
+    /// definition's name, nor predefined: its text, and the number of the definition that names it.
     UnknownCategory { name: Name, def: u32 },
-    /// The first category without a rule, in file order, has a predefined name: the number of the
-    /// definition that names it. Predefined kinds are not built.
-    Unbuilt { def: u32 },
     /// The category of least number that reaches itself by steps: its text. A category steps to an
     /// item of one of its rules where each other item of that rule derives the empty span.
     Cyclic { name: Name },

@@ -2,7 +2,8 @@
 ghost use Rattle.spec_lbnf.specs.Laws.{OwnSymbols, OwnEntry, FitOrUnfit, OneUnfitness};
 ghost use Rattle.spec_lbnf.specs.Laws.{NumbersNameBack, NoMemoryFault, NoMemoryUnfitness};
 ghost use Rattle.spec_lbnf.specs.Laws.{AcyclicOrCyclic, OneCyclic, DistinctNames};
-ghost use Rattle.spec_lbnf.specs.Laws.{TwoBytesForEach, DefsWithinLimits};
+ghost use Rattle.spec_lbnf.specs.Laws.{TwoBytesForEach, DefsWithinLimits, OneSymbolEach};
+ghost use Rattle.spec_lbnf.specs.Laws.{ProperDefs};
 
 /// Each rule of the grammar that definitions stand for is of a category of that grammar, and its
 /// items are categories and kinds of it, whether or not each category has a rule.
@@ -25,6 +26,12 @@ pub fn never_memory()
 /// Where all categories are known, the entry is a symbol of the grammar.
 pub fn own_entry()
     ensures { OwnEntry }
+{}
+
+/// Where no definition repeats a name, a name is that of one symbol at most, a category or a kind of
+/// token.
+pub fn one_symbol_each()
+    ensures { OneSymbolEach }
 {}
 
 /// No grammar both is without a cycle and has a first cyclic category, and at most one text is that
@@ -56,4 +63,10 @@ pub fn two_bytes_for_each()
 /// word of an item is empty.
 pub fn defs_within_limits()
     ensures { DefsWithinLimits }
+{}
+
+/// What a file spells has sound token expressions, each difference one of a class and a class of
+/// ASCII characters, and no comment with an empty text.
+pub fn proper_defs()
+    ensures { ProperDefs }
 {}

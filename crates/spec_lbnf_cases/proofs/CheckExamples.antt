@@ -6,7 +6,8 @@ use Rattle.std.proofs.lemmas.Bool.{false≢true}
 use Rattle.std.proofs.lemmas.List.{append-nil}
 use Rattle.std.proofs.lemmas.List.Elements.{All-nil, All-from_recursion}
 use Rattle.std.proofs.lemmas.List.FromFn.{length-map-range_with_len}
-use Rattle.std.proofs.lemmas.Option.{same_Some}
+use Rattle.std.proofs.lemmas.Option.{none-some, same_Some}
+use Rattle.spec_lexing.specs.declared.expression.Expr.{Expr}
 use Rattle.spec_grammar.specs.declared.rule.Label.{Label}
 use Rattle.spec_grammar.specs.declared.rule.Label.TheVariants.{Named, Wild, Nil, Cons, One}
 use Rattle.spec_grammar.specs.declared.rule.Symbol.{Symbol}
@@ -18,12 +19,12 @@ use Rattle.spec_lbnf.specs.declared.definition.RawItem.{RawItem}
 use Rattle.spec_lbnf.specs.declared.definition.RawItem.TheVariants.{Word}
 use Rattle.spec_lbnf.specs.declared.definition.RawRule.{RawRule}
 use Rattle.spec_lbnf.specs.declared.definition.Def.{Def}
-use Rattle.spec_lbnf.specs.declared.definition.Def.TheVariants.{Rule, Coercions}
-use Rattle.spec_lbnf.specs.Expansion.{level_rule, bracket_rule, rules_of, expansion_of}
+use Rattle.spec_lbnf.specs.declared.definition.Def.TheVariants.{Rule, Coercions, Token}
+use Rattle.spec_lbnf.specs.Expansion.{level_rule, bracket_rule, rules_of, named_categories, kind_names, expansion_of}
 use Rattle.spec_lbnf.specs.declared.fault.GrammarFault.{GrammarFault}
-use Rattle.spec_lbnf.specs.declared.fault.GrammarFault.TheVariants.{BadCoercion, BadList, Cyclic, RepeatedToken, TooManyRules, Unbuilt, UnknownCategory}
-use Rattle.spec_lbnf.specs.Checks.{IsBadCoercion, IsBadList, IsWellLabelled, predefined_names, IsFree, IsKnown, NamesKnown}
-use Rattle.spec_lbnf.specs.Checks.{IsFirst, HasAt, IsFirstName, IsIllLabelled, IsPredefined, IsUnknown, NamesUnknown, named_categories, IsFirstUnknown, HasOwnNames, IsFirstCyclic, unknown_fault}
+use Rattle.spec_lbnf.specs.declared.fault.GrammarFault.TheVariants.{BadCoercion, BadList, Cyclic, RepeatedToken, TooManyRules, UnknownCategory}
+use Rattle.spec_lbnf.specs.Checks.{IsBadCoercion, IsBadList, IsWellLabelled, own_names, IsTaken, IsFree, RepeatsName, IsFirstRepeated, known_names, IsKnown, NamesKnown}
+use Rattle.spec_lbnf.specs.Checks.{IsFirst, HasAt, IsFirstName, IsIllLabelled, IsUnknown, NamesUnknown, IsFirstUnknown, HasOwnNames, IsFirstCyclic}
 use Rattle.spec_lbnf.specs.Checks.{IsUnfit, AreFit}
 use Rattle.spec_lbnf_cases.specs.ExpansionExamples.{rule, category}
 use Rattle.spec_lbnf_cases.specs.CheckExamples.{word_rule, passing_rule, element, double_rule, named_list, internal_rule, SmallChecks}
@@ -34,10 +35,6 @@ use Rattle.spec_lbnf.proofs.CheckLemmas.{ill_or_well}
 -- a name that the test does not find is not in the list
 not_there : (names : List (List ℕ)) (name : List ℕ) → list_any (bytes_eq name) names ≡ false → Contains names name → ⊥
 not_there names name none there = false≢true (sym none ∙ there_found names name there)
-
--- a name that the test does not find among the predefined ones is free
-free : (name : List ℕ) → list_any (bytes_eq name) predefined_names ≡ false → IsFree name
-free name none = not_there predefined_names name none
 
 module _ {X : Type 0} (P : X → Type 0) where
   -- each element of a list of one
@@ -104,54 +101,121 @@ many_levels name levels are =
     let count = coercions_count name levels in
     inr (labelled, inl (omega (arith, are, count), ap TooManyRules (sym count)))
 
+-- the only definition takes free names
+own_one : (def : Def) → All (IsFree (def ∷ []) 0 def) (own_names def) → HasOwnNames (def ∷ [])
+own_one def free zero other is = subst (λ (d : Def). All (IsFree (def ∷ []) 0 d) (own_names d)) (same_Some def other is) free
+own_one def free (suc n) other is = absurd (none-some other is)
+
+-- and so do two definitions
+own_two : (a b : Def) → All (IsFree (a ∷ b ∷ []) 0 a) (own_names a) → All (IsFree (a ∷ b ∷ []) 1 b) (own_names b)
+    → HasOwnNames (a ∷ b ∷ [])
+own_two a b first second zero other is =
+    subst (λ (d : Def). All (IsFree (a ∷ b ∷ []) 0 d) (own_names d)) (same_Some a other is) first
+own_two a b first second (suc zero) other is =
+    subst (λ (d : Def). All (IsFree (a ∷ b ∷ []) 1 d) (own_names d)) (same_Some b other is) second
+own_two a b first second (suc (suc n)) other is = absurd (none-some other is)
+
+-- the first definition repeats its only name
+first_repeats : (def : Def) (defs : List Def) (name : List ℕ) → own_names def ≡ name ∷ [] → IsTaken (def ∷ defs) 0 def name
+    → IsFirstRepeated (def ∷ defs) name
+first_repeats def defs name own taken =
+    let named : IsFirstName (IsTaken (def ∷ defs) 0 def) (own_names def) name
+    = subst (λ (names : List (List ℕ)). IsFirstName (IsTaken (def ∷ defs) 0 def) names name) (sym own)
+    (0, at_head (IsTaken (def ∷ defs) 0 def) name [] taken, refl) in
+    record {
+      number = 0;
+      first = record { is_so = (def, refl, (0, named.1.is_so)); none_before = λ k less repeats. absurd (omega (arith, less)) };
+      def = def;
+      is_def = refl;
+      first_name = named;
+    }
+
 -- a predefined name with a rule
 own_name : IsUnfit (passing_rule (codes "Integer") (codes "T") ∷ []) (RepeatedToken (codes "Integer"))
 own_name =
     let name : List ℕ = codes "Integer" in
-    let defs : List Def = passing_rule name (codes "T") ∷ [] in
-    let there : IsPredefined name = found_there predefined_names name refl in
-    let first : IsFirstName IsPredefined (name ∷ []) name = (0, at_head IsPredefined name [] there, refl) in
-    let labelled = all_one IsWellLabelled (passing_rule name (codes "T")) (passing_label name (codes "T")) in
-    inr (labelled, inr (omega arith, inl (name, first, refl)))
+    let def : Def = passing_rule name (codes "T") in
+    let there : IsTaken (def ∷ []) 0 def name = found_there (kind_names (def ∷ [])) name refl in
+    let labelled = all_one IsWellLabelled def (passing_label name (codes "T")) in
+    inr (labelled, inr (omega arith, inl (name, first_repeats def [] name refl there, refl)))
 
--- a rule of S, and behind it one for S whose one item is another category
-module _ (label : Label) (items : List RawItem) (name : List ℕ) (other : bytes_eq name (codes "S") ≡ false) where
+-- a definition of a token is well labelled
+token_label : (name : List ℕ) (expr : Expr) → IsWellLabelled (Token name expr)
+token_label name expr = ((λ bad. bad), (λ bad. bad))
+
+-- a rule's category that is the name of a later token
+later_token : (expr : Expr) → IsUnfit (word_rule ∷ Token (codes "S") expr ∷ []) (RepeatedToken (codes "S"))
+later_token expr =
+    let name : List ℕ = codes "S" in
+    let defs : List Def = word_rule ∷ Token name expr ∷ [] in
+    let there : IsTaken defs 0 word_rule name = found_there (kind_names defs) name refl in
+    let labelled = all_two IsWellLabelled word_rule (Token name expr) word_label (token_label name expr) in
+    inr (labelled, inr (omega arith, inl (name, first_repeats word_rule (Token name expr ∷ []) name refl there, refl)))
+
+-- two tokens of one name
+two_tokens : (expr : Expr) → IsUnfit (Token (codes "T") expr ∷ Token (codes "T") expr ∷ []) (RepeatedToken (codes "T"))
+two_tokens expr =
+    let name : List ℕ = codes "T" in
+    let def : Def = Token name expr in
+    let defs : List Def = def ∷ def ∷ [] in
+    let taken : IsTaken defs 1 def name = found_there (name ∷ []) name refl in
+    let named : IsFirstName (IsTaken defs 1 def) (own_names def) name = (0, at_head (IsTaken defs 1 def) name [] taken, refl) in
+    let labelled = all_two IsWellLabelled def def (token_label name expr) (token_label name expr) in
+    let repeated : IsFirstRepeated defs name = record {
+      number = 1;
+      first = record { is_so = (def, refl, (0, named.1.is_so)); none_before = first_takes_free };
+      def = def;
+      is_def = refl;
+      first_name = named;
+    } in
+    inr (labelled, inr (omega arith, inl (name, repeated, refl)))
+  where
+    first_takes_free : (k : ℕ) → k < 1 → RepeatsName (Token (codes "T") expr ∷ Token (codes "T") expr ∷ []) k → ⊥
+    first_takes_free zero less (def, is, (place, (name, at, taken))) =
+        let own : IsTaken (Token (codes "T") expr ∷ Token (codes "T") expr ∷ []) 0 (Token (codes "T") expr) name
+        = subst (λ (d : Def). IsTaken (Token (codes "T") expr ∷ Token (codes "T") expr ∷ []) 0 d name) (sym (same_Some (Token (codes "T") expr) def is)) taken in
+        not_there [] name refl own
+    first_takes_free (suc k) less repeats = absurd (omega (arith, less))
+
+-- a rule of S, and behind it one for S whose one item is T
+module _ (label : Label) (items : List RawItem) where
   abbrev first_rule : Def
   first_rule = Rule (rule label 0 (codes "S") items)
 
+  abbrev second_rule : Def
+  second_rule = passing_rule (codes "S") (codes "T")
+
   abbrev two_rules : List Def
-  two_rules = first_rule ∷ passing_rule (codes "S") name ∷ []
+  two_rules = first_rule ∷ second_rule ∷ []
 
   two_free : HasOwnNames two_rules
   two_free =
-      let own : IsFree (codes "S") = free (codes "S") refl in
-      all_two IsFree (codes "S") (codes "S") own own
+      let none : Contains (kind_names two_rules) (codes "S") → ⊥ = not_there (kind_names two_rules) (codes "S") refl in
+      own_two first_rule second_rule (all_one (IsFree two_rules 0 first_rule) (codes "S") none)
+      (all_one (IsFree two_rules 1 second_rule) (codes "S") none)
 
-  second_unknown : NamesKnown two_rules first_rule → IsFirstUnknown two_rules name 1
+  second_unknown : NamesKnown two_rules first_rule → IsFirstUnknown two_rules (codes "T") 1
   second_unknown known = record {
     first = record {
-      is_so = (passing_rule (codes "S") name, refl, (0, is_named.1.is_so));
+      is_so = (second_rule, refl, (0, is_named.1.is_so));
       none_before =
-          none_but_second (NamesUnknown two_rules) first_rule (passing_rule (codes "S") name ∷ [])
+          none_but_second (NamesUnknown two_rules) first_rule (second_rule ∷ [])
           (λ unknown. none_at (IsKnown two_rules) (named_categories first_rule) (IsUnknown two_rules)
           (λ text un kn. un kn) known unknown.0 unknown.1);
     };
-    def = passing_rule (codes "S") name;
+    def = second_rule;
     is_def = refl;
     first_name = is_named;
   }
     where
-      is_named : IsFirstName (IsUnknown two_rules) (named_categories (passing_rule (codes "S") name)) name
-      is_named = subst (λ (names : List (List ℕ)). IsFirstName (IsUnknown two_rules) names name) (ap (λ text. text ∷ []) (sym (append-nil name)))
-          (0, at_head (IsUnknown two_rules) name [] (not_there (codes "S" ∷ codes "S" ∷ []) name (rw other refl)), refl)
+      is_named : IsFirstName (IsUnknown two_rules) (named_categories second_rule) (codes "T")
+      is_named = (0, at_head (IsUnknown two_rules) (codes "T") [] (not_there (known_names two_rules) (codes "T") refl), refl)
 
   -- where the first rule is good, the category is the first unknown one
-  no_rule : (fault : GrammarFault) → IsWellLabelled first_rule → NamesKnown two_rules first_rule
-      → fault ≡ unknown_fault name 1 → IsUnfit two_rules fault
-  no_rule fault good known is =
-      let second : IsWellLabelled (passing_rule (codes "S") name) = passing_label (codes "S") name in
-      let labelled = all_two IsWellLabelled first_rule (passing_rule (codes "S") name) good second in
-      inr (labelled, inr (omega arith, inr (two_free, inl (name, 1, second_unknown known, is))))
+  no_rule : IsWellLabelled first_rule → NamesKnown two_rules first_rule → IsUnfit two_rules (UnknownCategory (codes "T") 1)
+  no_rule good known =
+      let labelled = all_two IsWellLabelled first_rule second_rule good (passing_label (codes "S") (codes "T")) in
+      inr (labelled, inr (omega arith, inr (two_free, inl (codes "T", 1, second_unknown known, refl))))
 
 -- the one item of a right side is its item
 only_item : (before behind : List Symbol) (s item : Symbol) → item ∷ [] ≡ before ++ (s ∷ behind) → item ≡ s
@@ -173,7 +237,9 @@ word : AreFit (word_rule ∷ [])
 word = record {
   labelled = all_one IsWellLabelled word_rule word_label;
   few = omega arith;
-  own_names = all_one IsFree (codes "S") (free (codes "S") refl);
+  own_names =
+      own_one word_rule
+      (all_one (IsFree (word_rule ∷ []) 0 word_rule) (codes "S") (not_there (kind_names (word_rule ∷ [])) (codes "S") refl));
   known = all_one (NamesKnown (word_rule ∷ [])) word_rule (All-nil (IsKnown (word_rule ∷ [])));
   acyclic = λ c cyclic.
       let step = (cyclic.1).1 in
@@ -210,9 +276,13 @@ internal = record {
       let hidden = named_label (codes "B") (codes "U") (category (codes "T") ∷ []) in
       all_two IsWellLabelled internal_rule (passing_rule (codes "S") (codes "U")) hidden (passing_label (codes "S") (codes "U"));
   few = omega arith;
-  own_names = all_two IsFree (codes "U") (codes "S") (free (codes "U") refl) (free (codes "S") refl);
+  own_names =
+      let second : Def = passing_rule (codes "S") (codes "U") in
+      own_two internal_rule second
+      (all_one (IsFree with_internal 0 internal_rule) (codes "U") (not_there (kind_names with_internal) (codes "U") refl))
+      (all_one (IsFree with_internal 1 second) (codes "S") (not_there (kind_names with_internal) (codes "S") refl));
   known =
-      let there : IsKnown with_internal (codes "U") = found_there (codes "U" ∷ codes "S" ∷ []) (codes "U") refl in
+      let there : IsKnown with_internal (codes "U") = found_there (known_names with_internal) (codes "U") refl in
       all_two (NamesKnown with_internal) internal_rule (passing_rule (codes "S") (codes "U"))
       (All-nil (IsKnown with_internal)) (all_one (IsKnown with_internal) (codes "U") there);
   acyclic = λ c cyclic.
@@ -271,28 +341,29 @@ cycle : IsUnfit with_cycle (Cyclic (codes "S"))
 cycle =
     let first : Def = passing_rule (codes "R") (codes "S") in
     let second : Def = passing_rule (codes "S") (codes "S") in
-    let is_there : IsKnown with_cycle (codes "S") = found_there (codes "R" ∷ codes "S" ∷ []) (codes "S") refl in
+    let is_there : IsKnown with_cycle (codes "S") = found_there (known_names with_cycle) (codes "S") refl in
     let there = all_one (IsKnown with_cycle) (codes "S") is_there in
     let labelled = all_two IsWellLabelled first second (passing_label (codes "R") (codes "S")) (passing_label (codes "S") (codes "S")) in
-    let own_names = all_two IsFree (codes "R") (codes "S") (free (codes "R") refl) (free (codes "S") refl) in
+    let own =
+    own_two first second
+    (all_one (IsFree with_cycle 0 first) (codes "R") (not_there (kind_names with_cycle) (codes "R") refl))
+    (all_one (IsFree with_cycle 1 second) (codes "S") (not_there (kind_names with_cycle) (codes "S") refl)) in
     let known = all_two (NamesKnown with_cycle) first second there there in
-    inr (labelled, inr (omega arith, inr (own_names, inr (known, (codes "S", first_cycle, refl)))))
+    inr (labelled, inr (omega arith, inr (own, inr (known, (codes "S", first_cycle, refl)))))
 
 -- a word, and a category that no rule has, behind it
-behind_word : (name : List ℕ) (fault : GrammarFault) → bytes_eq name (codes "S") ≡ false → fault ≡ unknown_fault name 1
-    → IsUnfit (word_rule ∷ passing_rule (codes "S") name ∷ []) fault
-behind_word name fault other is =
-    let none = All-nil (IsKnown (word_rule ∷ passing_rule (codes "S") name ∷ [])) in
-    no_rule (Named (codes "A")) (Word (codes "a") ∷ []) name other fault word_label none is
+behind_word : IsUnfit (word_rule ∷ passing_rule (codes "S") (codes "T") ∷ []) (UnknownCategory (codes "T") 1)
+behind_word =
+    let none = All-nil (IsKnown (word_rule ∷ passing_rule (codes "S") (codes "T") ∷ [])) in
+    no_rule (Named (codes "A")) (Word (codes "a") ∷ []) word_label none
 
 -- a cycle, and such a category behind it
 behind_cycle :
     IsUnfit (passing_rule (codes "S") (codes "S") ∷ passing_rule (codes "S") (codes "T") ∷ []) (UnknownCategory (codes "T") 1)
 behind_cycle =
     let defs : List Def = passing_rule (codes "S") (codes "S") ∷ passing_rule (codes "S") (codes "T") ∷ [] in
-    let is_there : IsKnown defs (codes "S") = found_there (codes "S" ∷ codes "S" ∷ []) (codes "S") refl in
-    let good = passing_label (codes "S") (codes "S") in
-    no_rule Wild (element ∷ []) (codes "T") refl (UnknownCategory (codes "T") 1) good (all_one (IsKnown defs) (codes "S") is_there) refl
+    let is_there : IsKnown defs (codes "S") = found_there (known_names defs) (codes "S") refl in
+    no_rule Wild (element ∷ []) (passing_label (codes "S") (codes "S")) (all_one (IsKnown defs) (codes "S") is_there)
 
 pub small_checks : SmallChecks
 small_checks = record {
@@ -311,8 +382,9 @@ small_checks = record {
       let good = levels_label (codes "E") 1024 (omega arith) in
       second_coercion (Coercions (codes "E") 1024) (Coercions (codes "E") 0) good refl;
   own_name = own_name;
-  no_rule = behind_word (codes "T") (UnknownCategory (codes "T") 1) refl refl;
-  predefined = behind_word (codes "Char") (Unbuilt 1) refl refl;
+  two_tokens = two_tokens;
+  later_token = later_token;
+  no_rule = behind_word;
   no_rule_behind_cycle = behind_cycle;
   cycle = cycle;
 }

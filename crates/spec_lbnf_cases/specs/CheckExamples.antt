@@ -4,10 +4,11 @@ use Rattle.spec_grammar.specs.declared.rule.Label.TheVariants.{Named, Wild, Nil,
 use Rattle.spec_lbnf.specs.declared.definition.RawItem.{RawItem}
 use Rattle.spec_lbnf.specs.declared.definition.RawItem.TheVariants.{Word}
 use Rattle.spec_lbnf.specs.declared.definition.Def.{Def}
-use Rattle.spec_lbnf.specs.declared.definition.Def.TheVariants.{Rule, Internal, Coercions}
+use Rattle.spec_lexing.specs.declared.expression.Expr.{Expr}
+use Rattle.spec_lbnf.specs.declared.definition.Def.TheVariants.{Rule, Internal, Coercions, Token}
 use Rattle.spec_lbnf.specs.declared.fault.GrammarFault.TheVariants.{BadCoercion, BadList, Cyclic}
 use Rattle.spec_lbnf.specs.declared.fault.GrammarFault.TheVariants.{RepeatedToken, TooManyRules}
-use Rattle.spec_lbnf.specs.declared.fault.GrammarFault.TheVariants.{Unbuilt, UnknownCategory}
+use Rattle.spec_lbnf.specs.declared.fault.GrammarFault.TheVariants.{UnknownCategory}
 use Rattle.spec_lbnf.specs.Checks.{AreFit, IsUnfit}
 use Rattle.spec_lbnf_cases.specs.ExpansionExamples.{rule, category}
 
@@ -60,12 +61,15 @@ pub record SmallChecks : Type 0 where
   -- a predefined name that has a rule comes before a category that has none
   pub own_name :
       IsUnfit (passing_rule (codes "Integer") (codes "T") ∷ []) (RepeatedToken (codes "Integer"))
-  -- no rule has the category, whether or not its name is predefined
+  -- no rule has the category
   pub no_rule :
       IsUnfit (word_rule ∷ passing_rule (codes "S") (codes "T") ∷ [])
       (UnknownCategory (codes "T") 1)
-  pub predefined :
-      IsUnfit (word_rule ∷ passing_rule (codes "S") (codes "Char") ∷ []) (Unbuilt 1)
+  -- a token definition has the name of an earlier one, or a rule's category that of a later one
+  pub two_tokens : (expr : Expr)
+      → IsUnfit (Token (codes "T") expr ∷ Token (codes "T") expr ∷ []) (RepeatedToken (codes "T"))
+  pub later_token : (expr : Expr)
+      → IsUnfit (word_rule ∷ Token (codes "S") expr ∷ []) (RepeatedToken (codes "S"))
   -- a category that has no rule comes before one that reaches itself
   pub no_rule_behind_cycle :
       IsUnfit (passing_rule (codes "S") (codes "S") ∷ passing_rule (codes "S") (codes "T") ∷ [])

@@ -1,16 +1,20 @@
 -- What small definitions stand for, by hand.
 use Rattle.std.specs.Prelude.{◌≡◌, ℕ, List, [], ◌∷◌, codes, Some, None, true, false}
+use Rattle.spec_lexing.specs.declared.expression.Expr.{Expr}
 use Rattle.spec_lexing.specs.Lexicon.{lexicon_of}
+use Rattle.spec_lexing.specs.Predefined.{integer_expr, char_literal_expr}
 use Rattle.spec_grammar.specs.declared.rule.Label.{Label}
 use Rattle.spec_grammar.specs.declared.rule.Label.TheVariants.{Named, Wild, Nil, Cons, One}
 use Rattle.spec_grammar.specs.declared.rule.Symbol.TheVariants.{Category, Kind}
 use Rattle.spec_lexing.specs.declared.kind_def.KindDef.TheVariants.{Word as WordKind}
+use Rattle.spec_lexing.specs.declared.kind_def.KindDef.TheVariants.{Token as TokenKind}
 use Rattle.spec_lbnf.specs.declared.definition.RawItem.{RawItem}
 use Rattle.spec_lbnf.specs.declared.definition.RawItem.TheVariants.{Cat, Word}
 use Rattle.spec_lbnf.specs.declared.definition.RawRule.{RawRule}
 use Rattle.spec_lbnf.specs.declared.definition.Def.{Def}
 use Rattle.spec_lbnf.specs.declared.definition.Def.TheVariants.{Rule, Internal, Terminator}
 use Rattle.spec_lbnf.specs.declared.definition.Def.TheVariants.{Separator, Coercions, Entry}
+use Rattle.spec_lbnf.specs.declared.definition.Def.TheVariants.{Token, LineComment, BlockComment}
 use Rattle.spec_lbnf.specs.Expansion.{rules_of_def, expansion_of}
 use Rattle.spec_lbnf_cases.specs.ReadingExamples.{cat}
 
@@ -41,6 +45,14 @@ three_rules =
     ∷ Rule (rule Wild 0 (codes "S")
     (Word (codes "a") ∷ category (codes "T") ∷ Word (codes "a") ∷ []))
     ∷ Rule (rule (Named (codes "B")) 0 (codes "T") (Word (codes "b") ∷ [])) ∷ []
+
+-- token Hex with this expression, H . S ::= Hex, and I . S ::= Integer "w"
+abbrev pub hex_rules : Expr → List Def
+hex_rules expr =
+    Token (codes "Hex") expr
+    ∷ Rule (rule (Named (codes "H")) 0 (codes "S") (category (codes "Hex") ∷ []))
+    ∷ Rule (rule (Named (codes "I")) 0 (codes "S")
+    (category (codes "Integer") ∷ Word (codes "w") ∷ [])) ∷ []
 
 -- what small definitions stand for, by hand
 pub record SmallExpansions : Type 0 where
@@ -89,3 +101,38 @@ pub record SmallExpansions : Type 0 where
   -- without entry points the entry is the category of the first rule; without rules there is none
   pub first_rule : (expansion_of three_rules).entry ≡ Some (Category 0)
   pub without_rules : (expansion_of (Internal (list_rule Nil []) ∷ [])).entry ≡ None
+  -- kinds are the words, the token definitions and the active predefined kinds, and none is a
+  -- category; comments are kept
+  pub tokens : (expr : Expr)
+      → expansion_of (LineComment (codes "--") ∷ BlockComment (codes "(*") (codes "*)")
+      ∷ hex_rules expr)
+      ≡ record {
+        rules =
+            record { label = Named (codes "H"); category = 0; items = Kind 1 ∷ [] }
+            ∷ record { label = Named (codes "I"); category = 0; items = Kind 2 ∷ Kind 0 ∷ [] } ∷ [];
+        categories = codes "S" ∷ [];
+        lexicon = record {
+          line_comments = codes "--" ∷ [];
+          block_comments = (codes "(*", codes "*)") ∷ [];
+          kinds =
+              WordKind (codes "w") ∷ TokenKind (codes "Hex") expr
+              ∷ TokenKind (codes "Integer") integer_expr ∷ [];
+        };
+        entry = Some (Category 0);
+      }
+  -- a token definition takes the place of a predefined kind of its name
+  pub own_integer : (expr : Expr)
+      → (expansion_of (Token (codes "Integer") expr ∷ hex_rules expr)).lexicon.kinds
+      ≡ WordKind (codes "w") ∷ TokenKind (codes "Integer") expr ∷ TokenKind (codes "Hex") expr ∷ []
+  -- an entry point makes a predefined kind active, and may be one; an internal rule does not
+  pub entry_kind : (expansion_of (Entry (cat 0 (codes "Char") ∷ [])
+      ∷ Internal (rule (Named (codes "A")) 0 (codes "U") (category (codes "Ident") ∷ [])) ∷ []))
+      ≡ record {
+        rules = [];
+        categories = codes "U" ∷ [];
+        lexicon = lexicon_of (TokenKind (codes "Char") char_literal_expr ∷ []);
+        entry = Some (Kind 0);
+      }
+  -- the lists of a token kind are categories
+  pub token_lists : (expansion_of (Terminator false (cat 0 (codes "Ident")) (codes "w") ∷ [])).categories
+      ≡ codes "[Ident]" ∷ []

@@ -3,3 +3,4 @@ pub mod TokensLemmas
 pub mod MatchingTests
 pub mod LexerByTests
 pub mod KindsLemmas
+pub mod ExpressionLemmas

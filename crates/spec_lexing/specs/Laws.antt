@@ -1,9 +1,12 @@
 -- The laws of longest match, of matches and of tokens, over any list of kinds and any relation of
 -- what each of them matches.
-use Rattle.std.specs.Prelude.{◌≡◌, ℕ, ◌+◌, ◌<◌, ◌≤◌, List, [], ◌∷◌, length, Option}
+use Rattle.std.specs.Prelude.{◌≡◌, ℕ, ◌+◌, ◌<◌, ◌≤◌, List, [], ◌∷◌, length, map, Option}
+use Rattle.spec_lexing.specs.declared.expression.Expr.{Expr}
 use Rattle.spec_lexing.specs.declared.token.Token.{Token}
+use Rattle.spec_lexing.specs.Expressions.{expression_of}
 use Rattle.spec_lexing.specs.Lexicon.{Lexicon}
 use Rattle.spec_lexing.specs.LongestMatch.{IsLongestMatch, IsUnmatched}
+use Rattle.spec_lexing.specs.Predefined.{predefined_kinds, predefined_expressions}
 use Rattle.spec_lexing.specs.Tokens.{Match, AreMatchesFrom, AreTokensFrom, AreTokensOf}
 
 -- any two longest matches at a place are of one kind, by its place in the order, and end at one
@@ -63,3 +66,8 @@ HasFewTokens {K} Matches token_number =
     (kinds : List K) (text : List ℕ) (place : ℕ) (tokens : List Token) →
     AreTokensFrom Matches token_number kinds text place tokens →
     place + length tokens ≤ length text
+
+-- the expressions of the predefined kinds in code stand for those of their page
+abbrev pub PredefinedStand : Type 0
+PredefinedStand =
+    map (λ (kind : List ℕ × Expr). expression_of kind.1) predefined_kinds ≡ predefined_expressions

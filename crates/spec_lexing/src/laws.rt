@@ -2,7 +2,7 @@
 //! empty body.
 ghost use Rattle.spec_lexing.specs.Laws.{HasOneLongestMatch, HasMatchedPlaces, HasOneMatchList};
 ghost use Rattle.spec_lexing.specs.Laws.{HasOneTokenList, HasSomeTokenList, HasCoveringMatches};
-ghost use Rattle.spec_lexing.specs.Laws.{HasFewTokens};
+ghost use Rattle.spec_lexing.specs.Laws.{HasFewTokens, PredefinedStand};
 
 /// A kind of token as the laws see it: what it matches, and the number that its tokens bear.
 /// A kind with the number None gives no token, as white space.
@@ -37,4 +37,9 @@ pub fn some_token_list()
 pub fn matches_cover<K: TokenKind>()
     ensures cover { HasCoveringMatches K.matches }
     ensures most { HasFewTokens K.matches K.number }
+{}
+
+/// The expressions of the predefined kinds in code stand for what these kinds match.
+pub fn predefined_kinds_stand()
+    ensures { PredefinedStand }
 {}

@@ -7,14 +7,16 @@ use Rattle.spec_lexing.proofs.TokensLemmas.{one_token_list}
 use Rattle.spec_grammar.specs.Grammars.{Grammar, symbol_count}
 use Rattle.spec_lbnf.specs.Expansion.{expansion_of}
 use Rattle.spec_lbnf.specs.declared.definition.Def.{Def}
+use Rattle.spec_automata.specs.States.{HasTooManyStates}
 use Rattle.spec_lbnf.specs.Checks.{IsUnfit}
+use Rattle.spec_lbnf.specs.Faults.{Spells}
 use Rattle.lbnf_readers.proofs.FaultLemmas.{one_file_of_defs, one_first_fault, spelled_or_faulty}
 use Rattle.spec_lbnf.proofs.CheckLemmas.{fit_or_unfit, one_unfitness}
 use Rattle.spec_lexing.specs.declared.kind_def.KindDef.{KindDef}
 use Rattle.spec_script.specs.declared.question.TokenSpan.{TokenSpan}
 use Rattle.spec_script.specs.Script.{Constituent, Query, has, tokens_in, Command, opens, ask}
 use Rattle.spec_session.specs.GrammarReplies.{IsAccepted, IsRefused, IsRefusedFor, faulty, unfit}
-use Rattle.spec_session.specs.GrammarReplies.{too_many_symbols, fault_reason, unfit_reason}
+use Rattle.spec_session.specs.GrammarReplies.{too_many_states, too_many_symbols, fault_reason, unfit_reason}
 use Rattle.spec_session.specs.GrammarReplies.{symbols_reason, refusal_line}
 use Rattle.spec_session.specs.Steps.{version_reply, State, IsCurrent, IsReply}
 use Rattle.spec_session.specs.Questions.{HasSymbol, IsSpan, IsNoSpan, IsWithin, IsOutside, first_of, end_of}
@@ -32,11 +34,21 @@ pub accepted_or_refused : (block line : List ℕ) (g : Grammar) → IsAccepted b
 accepted_or_refused block line g h (reason, faulty fault first e, is) = spelled_or_faulty block h.0 fault h.1 first
 accepted_or_refused block line g h (reason, unfit defs why spells unfit_so e, is) =
     fit_or_unfit h.0 why h.2.fit (rw (one_file_of_defs block h.0 defs h.1 spells) unfit_so)
-accepted_or_refused block line g h (reason, too_many_symbols defs spells fit many e, is) =
+accepted_or_refused block line g h (reason, too_many_states defs spells fit many e, is) =
+    let same : h.0 ≡ defs = one_file_of_defs block h.0 defs h.1 spells in
+    subst (λ (d : List Def). HasTooManyStates (expansion_of d).lexicon → ⊥) same h.2.few_states many
+accepted_or_refused block line g h (reason, too_many_symbols defs spells fit few_states many e, is) =
     let same : h.0 ≡ defs = one_file_of_defs block h.0 defs h.1 spells in
     let few : symbol_count (expansion_of defs) ≤ 2048
     = subst (λ (d : List Def). symbol_count (expansion_of d) ≤ 2048) same h.2.few in
     omega (arith, few, many)
+
+-- what a block spells has too many states, however it is read
+same_states : (block : List ℕ) (defs others : List Def) → Spells block defs → Spells block others →
+    HasTooManyStates (expansion_of defs).lexicon → HasTooManyStates (expansion_of others).lexicon
+same_states block defs others spells spelled many =
+    subst (λ (d : List Def). HasTooManyStates (expansion_of d).lexicon)
+    (one_file_of_defs block defs others spells spelled) many
 
 -- a block is refused for one reason
 one_reason : (block reason other : List ℕ) → IsRefusedFor block reason → IsRefusedFor block other → reason ≡ other
@@ -44,20 +56,34 @@ one_reason block reason other (faulty fault first e) (faulty fault' first' e') =
     e ∙ ap fault_reason (one_first_fault block fault fault' first first') ∙ sym e'
 one_reason block reason other (faulty fault first e) (unfit defs why spells unfit_so e') =
     absurd (spelled_or_faulty block defs fault spells first)
-one_reason block reason other (faulty fault first e) (too_many_symbols defs spells fit many e') =
+one_reason block reason other (faulty fault first e) (too_many_states defs spells fit many e') =
+    absurd (spelled_or_faulty block defs fault spells first)
+one_reason block reason other (faulty fault first e) (too_many_symbols defs spells fit few many e') =
     absurd (spelled_or_faulty block defs fault spells first)
 one_reason block reason other (unfit defs why spells unfit_so e') (faulty fault first e) =
     absurd (spelled_or_faulty block defs fault spells first)
 one_reason block reason other (unfit defs why spells unfit_so e) (unfit defs' why' spells' unfit_too e') =
     let again : IsUnfit defs why' = rw (one_file_of_defs block defs defs' spells spells') unfit_too in
     e ∙ ap unfit_reason (one_unfitness defs why why' unfit_so again) ∙ sym e'
-one_reason block reason other (unfit defs why spells unfit_so e) (too_many_symbols defs' spells' fit many e') =
+one_reason block reason other (unfit defs why spells unfit_so e) (too_many_states defs' spells' fit many e') =
     absurd (fit_or_unfit defs why (rw (one_file_of_defs block defs defs' spells spells') fit) unfit_so)
-one_reason block reason other (too_many_symbols defs spells fit many e) (faulty fault first e') =
+one_reason block reason other (unfit defs why spells unfit_so e) (too_many_symbols defs' spells' fit few many e') =
+    absurd (fit_or_unfit defs why (rw (one_file_of_defs block defs defs' spells spells') fit) unfit_so)
+one_reason block reason other (too_many_states defs spells fit many e) (faulty fault first e') =
     absurd (spelled_or_faulty block defs fault spells first)
-one_reason block reason other (too_many_symbols defs spells fit many e) (unfit defs' why spells' unfit_so e') =
+one_reason block reason other (too_many_states defs spells fit many e) (unfit defs' why spells' unfit_so e') =
     absurd (fit_or_unfit defs why fit (rw (one_file_of_defs block defs defs' spells spells') unfit_so))
-one_reason block reason other (too_many_symbols defs spells fit many e) (too_many_symbols defs' spells' fit' many' e') =
+one_reason block reason other (too_many_states defs spells fit many e) (too_many_states defs' spells' fit' many' e') =
+    e ∙ sym e'
+one_reason block reason other (too_many_states defs spells fit many e) (too_many_symbols defs' spells' fit' few many' e') =
+    absurd (few (same_states block defs defs' spells spells' many))
+one_reason block reason other (too_many_symbols defs spells fit few many e) (faulty fault first e') =
+    absurd (spelled_or_faulty block defs fault spells first)
+one_reason block reason other (too_many_symbols defs spells fit few many e) (unfit defs' why spells' unfit_so e') =
+    absurd (fit_or_unfit defs why fit (rw (one_file_of_defs block defs defs' spells spells') unfit_so))
+one_reason block reason other (too_many_symbols defs spells fit few many e) (too_many_states defs' spells' fit' many' e') =
+    absurd (few (same_states block defs' defs spells' spells many'))
+one_reason block reason other (too_many_symbols defs spells fit few many e) (too_many_symbols defs' spells' fit' few' many' e') =
     let same : defs ≡ defs' = one_file_of_defs block defs defs' spells spells' in
     e ∙ ap (λ (d : List Def). symbols_reason (symbol_count (expansion_of d))) same ∙ sym e'
 

@@ -1,26 +1,28 @@
 -- A block is accepted as a grammar or refused: that one of the two is so cannot be denied.
-use Rattle.std.proofs.Common.{◌≡◌, ℕ, zero, suc, ◌<◌, ◌⊎◌, inl, inr, List, length, Some, slice_get, refl, subst, arith}
-use Rattle.std.specs.Prelude.{All, flat_map}
+use Rattle.std.proofs.Common.{◌≡◌, ℕ, zero, suc, ◌<◌, ◌⊎◌, inl, inr, List, length, Option, Some, None, slice_get, refl, sym, ◌∙◌, subst, arith}
+use Rattle.std.proofs.lemmas.Option.{same_Some, none-some, slice_get_within}
+use Rattle.std.specs.Prelude.{All}
 use Rattle.std.proofs.lemmas.Bool.{cases_lt}
 use Rattle.std.proofs.lemmas.List.Elements.{All-from_recursion}
+use Rattle.spec_automata.specs.States.{HasTooManyStates}
 use Rattle.spec_lbnf.specs.declared.definition.Def.{Def}
 use Rattle.spec_lbnf.specs.declared.fault.GrammarFault.{GrammarFault}
-use Rattle.spec_lbnf.specs.declared.fault.GrammarFault.TheVariants.{BadCoercion, BadList, Cyclic, RepeatedToken, TooManyRules}
+use Rattle.spec_lbnf.specs.declared.fault.GrammarFault.TheVariants.{BadCoercion, BadList, Cyclic, RepeatedToken, TooManyRules, UnknownCategory}
 use Rattle.spec_lbnf.specs.Faults.{Spells}
 use Rattle.spec_grammar.specs.Grammars.{Grammar, HasOwnSymbols, symbol_count}
-use Rattle.spec_lbnf.specs.Expansion.{expansion_of, rules_of}
-use Rattle.spec_lbnf.specs.Checks.{IsKnown, NamesKnown, AreAllKnown, IsFirstUnknown, IsFirstCyclic, named_categories, IsFree, HasOwnNames, own_categories}
-use Rattle.spec_lbnf.specs.Checks.{IsFirst, HasAt, IsFirstName, IsPredefined, IsUnknown, IsIllLabelled}
-use Rattle.spec_lbnf.specs.Checks.{IsWellLabelled, HasFewRules, AreFit, IsUnfit, AtLabels, unknown_fault}
+use Rattle.spec_lbnf.specs.Expansion.{expansion_of, named_categories, rules_of}
+use Rattle.spec_lbnf.specs.Checks.{IsKnown, NamesKnown, AreAllKnown, IsFirstUnknown, IsFirstCyclic, IsTaken, IsFree, TakesFree, HasOwnNames, own_names, IsFirstRepeated}
+use Rattle.spec_lbnf.specs.Checks.{IsFirst, HasAt, IsFirstName, IsUnknown, IsIllLabelled}
+use Rattle.spec_lbnf.specs.Checks.{IsWellLabelled, HasFewRules, AreFit, IsUnfit, AtLabels}
 use Rattle.spec_lbnf.proofs.FirstLemmas.{none_at}
-use Rattle.spec_lbnf.proofs.CheckLemmas.{ill_or_well}
+use Rattle.spec_lbnf.proofs.CheckLemmas.{ill_or_well, repeats_at}
 use Rattle.spec_lbnf.proofs.ListLemmas.{item_at}
 use Rattle.spec_lbnf.proofs.SymbolLemmas.{own_symbols}
 use Rattle.lbnf_readers.proofs.FaultLemmas.{defs_or_fault}
 use Rattle.spec_grammar.specs.Cycles.{IsCyclic, IsAcyclic}
 use Rattle.spec_session.specs.GrammarReplies.{IsAccepted, AreAccepted, IsRefused, IsRefusedFor}
-use Rattle.spec_session.specs.GrammarReplies.{faulty, unfit, too_many_symbols, fault_reason}
-use Rattle.spec_session.specs.GrammarReplies.{unfit_reason, symbols_reason, refusal_line}
+use Rattle.spec_session.specs.GrammarReplies.{faulty, unfit, too_many_states, too_many_symbols, fault_reason}
+use Rattle.spec_session.specs.GrammarReplies.{unfit_reason, states_reason, symbols_reason, refusal_line}
 use Rattle.spec_session.proofs.DenialLemmas.{IsUndeniable, decided, FirstWithout, AllOrFirst, all_or_first, first_place, holds_earlier}
 
 -- the first name that is not good is the first bad one, where no name is both
@@ -65,21 +67,73 @@ module _ (defs : List Def) where
         | inr first ↦ bad_so first (λ (found : (fault : GrammarFault) × AtLabels defs fault). denied (inr found))
       ])
 
-  -- no rules are given for predefined names, or there is a first one
-  abbrev AreFreeOrNot : Type 0
-  AreFreeOrNot = HasOwnNames defs ⊎ ((name : List ℕ) × IsFirstName IsPredefined (flat_map own_categories defs) name)
+  -- the definitions before this number take no name that they may not take
+  abbrev AreFreeBelow : ℕ → Type 0
+  AreFreeBelow n = (k : ℕ) → k < n → TakesFree defs k
+
+  -- they take none, or there is a first name that one of all repeats
+  abbrev AreFreeOrNot : ℕ → Type 0
+  AreFreeOrNot n = AreFreeBelow n ⊎ ((name : List ℕ) × IsFirstRepeated defs name)
+
+  -- one definition more that takes none
+  free_more : (n : ℕ) → TakesFree defs n → AreFreeBelow n → AreFreeBelow (suc n)
+  free_more n takes below k lt = elim (cases_lt k n) [
+    | inl before ↦ below k before
+    | inr behind ↦
+        let same : n ≡ k = omega (arith, lt, behind) in
+        subst (TakesFree defs) same takes
+  ]
+
+  -- with the definition of this number it stays so
+  next_free : (n : ℕ) (def : Def) → slice_get defs n ≡ Some def → AreFreeBelow n → IsUndeniable (AreFreeOrNot (suc n))
+  next_free n def is_def below denied =
+      let names : List (List ℕ) = own_names def in
+      all_or_first (IsFree defs n def) names
+      (λ (split : AllOrFirst (IsFree defs n def) names). elim split [
+        | inl all ↦
+            let takes : TakesFree defs n = λ other is.
+            subst (λ d. All (IsFree defs n d) (own_names d)) (same_Some def other (sym is_def ∙ is)) (All-from_recursion (IsFree defs n def) names all) in
+            denied (inl (free_more n takes below))
+        | inr first ↦ first.without (λ is.
+            let is_first = first_name (IsTaken defs n def) (IsFree defs n def) (λ name free taken. free taken) names first is in
+            denied (inr (
+              first.item,
+              record {
+                number = n;
+                first = record {
+                  is_so = (def, is_def, (is_first.0, is_first.1.is_so));
+                  none_before = λ k lt repeats. repeats_at defs k (below k lt) repeats;
+                };
+                def = def;
+                is_def = is_def;
+                first_name = is_first;
+              },
+            )))
+      ])
 
   -- that one of the two is so cannot be denied
-  free_or_not : IsUndeniable AreFreeOrNot
+  free_below : (n : ℕ) → IsUndeniable (AreFreeOrNot n)
+  free_below zero denied = denied (inl (λ k lt. absurd (omega (arith, lt))))
+  free_below (suc n) denied =
+      free_below n (λ (split : AreFreeOrNot n). elim split [
+        | inl below ↦ by (slice_get defs n) refl below
+        | inr found ↦ denied (inr found)
+      ])
+    where
+      by : (x : Option Def) → slice_get defs n ≡ x → AreFreeBelow n → ⊥
+      by None is below = denied (inl (free_more n (λ other there. absurd (none-some other (sym is ∙ there))) below))
+      by (Some def) is below = next_free n def is below denied
+
+  -- no definition repeats a name, or there is a first one that is repeated
+  abbrev HasOwnNamesOrNot : Type 0
+  HasOwnNamesOrNot = HasOwnNames defs ⊎ ((name : List ℕ) × IsFirstRepeated defs name)
+
+  -- that one of the two is so cannot be denied
+  free_or_not : IsUndeniable HasOwnNamesOrNot
   free_or_not denied =
-      let names : List (List ℕ) = flat_map own_categories defs in
-      all_or_first IsFree names
-      (λ (split : AllOrFirst IsFree names). elim split [
-        | inl all ↦ denied (inl (All-from_recursion IsFree names all))
-        | inr first ↦ first.without (λ is. denied (inr (
-          first.item,
-          first_name IsPredefined IsFree (λ name free predefined. free predefined) names first is,
-        )))
+      free_below (length defs) (λ (split : AreFreeOrNot (length defs)). elim split [
+        | inl below ↦ denied (inl (λ number def is. below number (slice_get_within defs number def is) def is))
+        | inr found ↦ denied (inr found)
       ])
 
   -- the first definition that names an unknown category has a first unknown one among those it names
@@ -216,12 +270,12 @@ fit_or_not defs denied =
     by_categories labelled few own_names =
         known_or_not defs (λ (split : AreKnownOrNot defs). elim split [
           | inl known ↦ by_cycles labelled few own_names known
-          | inr first ↦ denied (inr (unknown_fault first.0 first.1, inr (labelled, inr (few, inr (own_names, inl (first.0, first.1, first.2, refl))))))
+          | inr first ↦ denied (inr (UnknownCategory first.0 first.1, inr (labelled, inr (few, inr (own_names, inl (first.0, first.1, first.2, refl))))))
         ])
 
     by_names : All IsWellLabelled defs → HasFewRules defs → ⊥
     by_names labelled few =
-        free_or_not defs (λ (split : AreFreeOrNot defs). elim split [
+        free_or_not defs (λ (split : HasOwnNamesOrNot defs). elim split [
           | inl own_names ↦ by_categories labelled few own_names
           | inr first ↦ denied (inr (RepeatedToken first.0, inr (labelled, inr (few, inl (first.0, first.1, refl)))))
         ])
@@ -241,14 +295,23 @@ HasVerdict block =
 refused : (block reason : List ℕ) → IsRefusedFor block reason → HasVerdict block
 refused block reason why = inr (refusal_line reason, (reason, why, refl))
 
--- a block of definitions that are fit has a verdict, by the count of symbols
-fit_verdict : (block : List ℕ) (defs : List Def) → Spells block defs → AreFit defs → HasVerdict block
-fit_verdict block defs spelled fit =
+-- the automaton of what the definitions stand for has too many states, or has not
+abbrev AreFewStatesOrNot : List Def → Type 0
+AreFewStatesOrNot defs =
+    HasTooManyStates (expansion_of defs).lexicon ⊎ (HasTooManyStates (expansion_of defs).lexicon → ⊥)
+
+-- a block of definitions that are fit has a verdict, by the count of states and then of symbols
+fit_verdict : (block : List ℕ) (defs : List Def) → Spells block defs → AreFit defs → AreFewStatesOrNot defs
+    → HasVerdict block
+fit_verdict block defs spelled fit (inl many) =
+    refused block states_reason (too_many_states defs spelled fit many refl)
+fit_verdict block defs spelled fit (inr few_states) =
     let count : ℕ = symbol_count (expansion_of defs) in
     elim (cases_lt 2048 count) [
-      | inl many ↦ refused block (symbols_reason count) (too_many_symbols defs spelled fit many refl)
+      | inl many ↦
+          refused block (symbols_reason count) (too_many_symbols defs spelled fit few_states many refl)
       | inr few ↦
-          let accepted : AreAccepted defs = record { fit = fit; few = few } in
+          let accepted : AreAccepted defs = record { fit = fit; few_states = few_states; few = few } in
           inl (expansion_of defs, (defs, spelled, accepted, refl))
     ]
 
@@ -256,7 +319,9 @@ fit_verdict block defs spelled fit =
 pub some_verdict : (block : List ℕ) → IsUndeniable (HasVerdict block)
 some_verdict block denied = elim (defs_or_fault block) [
   | inl spelled ↦ fit_or_not spelled.0 (λ (split : AreFitOrNot spelled.0). elim split [
-    | inl fit ↦ denied (fit_verdict block spelled.0 spelled.1 fit)
+    | inl fit ↦ decided (HasTooManyStates (expansion_of spelled.0).lexicon)
+        (λ (states : AreFewStatesOrNot spelled.0).
+        denied (fit_verdict block spelled.0 spelled.1 fit states))
     | inr why ↦ denied (refused block (unfit_reason why.0) (unfit spelled.0 why.0 spelled.1 why.1 refl))
   ])
   | inr first ↦ denied (refused block (fault_reason first.0) (faulty first.0 first.1 refl))

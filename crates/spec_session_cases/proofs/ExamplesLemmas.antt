@@ -14,6 +14,8 @@ use Rattle.spec_lbnf.specs.Checks.{IsFirst, HasAt, IsIllLabelled, IsBadCoercion,
 use Rattle.lbnf_readers.specs.Scanning.{scan_of, behind_closing, behind_space, identifier_at, number_token_at, literal_from, string_at, character_at, sign_token_at, file_token_at, tokens_from}
 use Rattle.lbnf_readers.specs.FileReading.{next_on, take_token, sign_at, name_at, text_at, number_at, closes_at, bracketed_at, category_at, nil_at, one_at, colon_label_at, paren_label_at, sign_label_at, label_at, item_at, items_at, side_at, rule_at, macro_at, list_macro_at, coercions_at, more_entries_at, entries_at, to_end, def_by, def_at}
 use Rattle.lbnf_readers.specs.FileDefinitions.{piece_def, defs_at}
+use Rattle.std.proofs.lemmas.List.Elements.{All-from_recursion}
+use Rattle.spec_lbnf.specs.Differences.{IsGood}
 use Rattle.lbnf_readers.proofs.ScanLemmas.{scanned}
 use Rattle.lbnf_readers.proofs.FaultLemmas.{defs_are, fault_is}
 use Rattle.spec_script.specs.Script.{question_form, Part, header, grammar, of_command, nothing, header_alone}
@@ -147,6 +149,7 @@ unfolding encode_utf8 chars is_utf8 behind_closing behind_space identifier_at nu
 wild_block =
     let bytes : List ℕ = codes "_.S::=" in
     defs_are bytes (scan_of bytes).0 (scan_of bytes).1 (scanned bytes) (wild_rule ∷ []) (record { few = omega arith; utf8 = IsUtf8-from_is_utf8 bytes refl }) refl refl
+    (All-from_recursion IsGood [] tt)
 
 -- which is a bad coercion
 wild_unfit : IsUnfit (wild_rule ∷ []) (BadCoercion 0)

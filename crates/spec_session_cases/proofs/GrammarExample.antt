@@ -28,6 +28,7 @@ use Rattle.spec_lbnf.specs.Checks.{IsPredefined, IsFree, IsKnown, IsWellLabelled
 use Rattle.lbnf_readers.specs.Scanning.{scan_of, behind_closing, behind_space, identifier_at, number_token_at, literal_from, string_at, character_at, sign_token_at, file_token_at, tokens_from}
 use Rattle.lbnf_readers.specs.FileReading.{next_on, take_token, sign_at, name_at, text_at, number_at, closes_at, bracketed_at, category_at, nil_at, one_at, colon_label_at, paren_label_at, sign_label_at, label_at, item_at, items_at, side_at, rule_at, macro_at, list_macro_at, coercions_at, more_entries_at, entries_at, to_end, def_by, def_at}
 use Rattle.lbnf_readers.specs.FileDefinitions.{piece_def, defs_at}
+use Rattle.spec_lbnf.specs.Differences.{IsGood}
 use Rattle.lbnf_readers.proofs.ScanLemmas.{scanned}
 use Rattle.lbnf_readers.proofs.FaultLemmas.{defs_are}
 use Rattle.spec_script.specs.declared.question.TokenSpan.{TokenSpan}
@@ -41,6 +42,7 @@ use Rattle.spec_session.specs.Questions.{HasSymbol, IsOfSymbol, IsDerived, of_no
 use Rattle.spec_session.specs.TokenAnswers.{tokens_line, IsTokensAnswer, refused_tokens, tokens_told}
 use Rattle.spec_session.specs.Answers.{IsHasAnswer, refused_has, yes, no}
 use Rattle.spec_session.specs.Steps.{State, IsReply}
+use Rattle.spec_session_cases.proofs.StatesExample.{few_states}
 
 -- the grammar's block
 abbrev pub rule_block : List ℕ
@@ -62,6 +64,7 @@ spells : Spells rule_block rule_defs
 unfolding encode_utf8 chars is_utf8 behind_closing behind_space identifier_at number_token_at literal_from string_at character_at sign_token_at file_token_at tokens_from next_on take_token sign_at name_at text_at number_at closes_at bracketed_at category_at nil_at one_at colon_label_at paren_label_at sign_label_at label_at item_at items_at side_at rule_at macro_at list_macro_at coercions_at more_entries_at entries_at to_end def_by def_at piece_def defs_at
 spells =
     defs_are rule_block (scan_of rule_block).0 (scan_of rule_block).1 (scanned rule_block) rule_defs (record { few = omega arith; utf8 = IsUtf8-from_is_utf8 rule_block refl }) refl refl
+    (All-from_recursion IsGood [] tt)
 
 -- no predefined name has one byte
 own_name : IsPredefined (codes "S") → ⊥
@@ -98,7 +101,7 @@ fit = record {
 
 -- so the block is accepted
 pub accepted : IsAccepted rule_block rule_grammar
-accepted = (rule_defs, spells, record { fit = fit; few = omega arith }, refl)
+accepted = (rule_defs, spells, record { fit = fit; few_states = few_states; few = omega arith }, refl)
 
 -- the text's one token
 abbrev pub one_token : List Token

@@ -1,3 +1,4 @@
+mod StatesExample
 mod GrammarExample
 mod ExamplesLemmas
 mod SessionExamples

@@ -1,1 +1,5 @@
+pub mod FrontLemmas
+pub mod ScalarTextLemmas
+pub mod KindEndLemmas
 pub mod LexingLemmas
+pub mod TextLemmas

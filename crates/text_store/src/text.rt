@@ -1,17 +1,23 @@
 //! A text that keeps its tokens.
-ghost use Rattle.std.specs.Prelude.{◌≡◌, ◌^◌, ◌<◌, ◌≤◌, length, slice_get, Some, IfOk};
+ghost use Rattle.std.specs.Prelude.{◌≡◌, ◌<◌, length, slice_get, slice_range, IsUtf8, Some, IfOk};
+ghost use Rattle.std.specs.Prelude.{MatchResult};
 ghost use Rattle.std.specs.Option.{option_map};
-ghost use Rattle.std.specs.Str.{IsAscii};
-ghost use Rattle.spec_lexing.specs.Kinds.{HasWordsAlone};
-ghost use Rattle.spec_lexing.specs.Lexicon.{lexicon_of};
-ghost use Rattle.spec_lexing.specs.Tokens.{AreTokensOf, kinds_of};
+ghost use Rattle.spec_lexing.specs.Lexicon.{Lexicon};
+ghost use Rattle.spec_lexing.specs.Tokens.{kinds_of};
+ghost use Rattle.text_store.specs.TextStore.{FitText, Lexes, OpensBytes, OpensTokens, token_bytes};
+ghost use Rattle.text_store.specs.Lexing.{IsBytesFault};
 
+use crate::fault::EditFault;
 use crate::lexing::tokens_of;
-use spec_lexing::{KindDef, Token};
+use crate::limits::MAX_BYTES;
+use lbnf_regex::Automaton;
+use spec_lexing::Token;
+use spec_text::Name;
 use std::alloc::{AllocError, Global};
 use std::marker::Model;
 
-/// A text with its tokens. It has less than 2^32 bytes, and no more tokens than bytes.
+/// A text with its tokens. It has at most 1,048,576 bytes, which are UTF-8, and at most 16,384
+/// tokens. It does not know its automaton.
 #[derive(Drop)]
 pub struct Text {
     bytes: Vec<u8>,
@@ -19,33 +25,51 @@ pub struct Text {
 }
 
 impl Model for Text {
-    ghost use Rattle.std.specs.Prelude.{◌^◌, ◌<◌, ◌≤◌, length};
     ghost use Rattle.text_store.specs.TextStore.{TextValue};
+    ghost use Rattle.text_store.specs.Lexing.{MayKeep};
 
     ghost Value = { TextValue };
 
     ghost view = { λ t. record { bytes = t.bytes.items; tokens = t.tokens.items } };
 
-    ghost invariant = { λ t. (length t.bytes.items < 2 ^ 32)
-        × (length t.tokens.items ≤ length t.bytes.items) };
+    ghost invariant = { λ t. MayKeep t.bytes.items t.tokens.items };
+}
+
+/// Looks whether a text may have the bytes.
+fn check_bytes(bytes: &[u8]) -> Result<(), EditFault>
+    ensures { MatchResult result (λ _. FitText bytes.now) (IsBytesFault bytes.now) }
+{
+    let count = bytes.len();
+    if count > MAX_BYTES {
+        let count = count as u64;
+        return Err(EditFault::FullText { count });
+    }
+    match str::from_utf8(bytes) {
+        Ok(_) => Ok(()),
+        Err(fault) => {
+            let at = fault.valid_up_to() as u64;
+            Err(EditFault::NotUtf8 { at })
+        }
+    }
 }
 
 impl Text {
-    /// The text of these bytes, which are copied, with its tokens under the kinds of a grammar: all
-    /// of them, in the order of their numbers. White space before, between and behind the tokens
-    /// has none, and a byte where nothing matches is a stray token. The time is that of a look at
-    /// each kind at each place.
-    pub fn open(alloc: Global, kinds: &[KindDef], bytes: &[u8]) -> Result<Text, AllocError>
-        requires few { length kinds.now < 2 ^ 16 }
-        requires words { HasWordsAlone (lexicon_of kinds.now) }
-        requires ascii { IsAscii bytes.now }
-        requires short { length bytes.now < 2 ^ 32 }
-        ensures bytes { IfOk result (λ text. text.bytes ≡ bytes.now) }
-        ensures tokens { IfOk result
-            (λ text. AreTokensOf (lexicon_of kinds.now) bytes.now text.tokens) }
-        ensures most { IfOk result (λ text. length text.tokens ≤ length bytes.now) }
+    /// The text of these bytes, which are copied, with its tokens by longest match. White space and
+    /// comments have none, and one scalar where nothing matches is a stray token.
+    ///
+    /// From each place it reads as far as some kind may still go on, which may be to the end of the
+    /// text; so the time grows with the bytes where kinds are decided soon, and with their square at
+    /// the worst, as under a kind `(digit+ '.')* '!'` in a text that has no exclamation mark, or
+    /// where comments that are never closed are opened at each place. At a text with too many tokens
+    /// it stops at the first one too many.
+    pub fn open(alloc: Global, automaton: &Automaton, bytes: &[u8]) -> Result<Text, EditFault>
+        requires lexed { (lexicon : Lexicon) × Lexes lexicon automaton.now }
+        ensures bytes { OpensBytes bytes.now result }
+        ensures tokens { (lexicon : Lexicon) → Lexes lexicon automaton.now
+            → OpensTokens lexicon bytes.now result }
     {
-        let tokens = tokens_of(alloc, kinds, bytes)?;
+        check_bytes(bytes)?;
+        let tokens = tokens_of(alloc, automaton, bytes)?;
         let bytes = Vec::from_slice(alloc, bytes)?;
         Ok(Text { bytes, tokens })
     }
@@ -82,6 +106,17 @@ impl Text {
         (token.first, token.end)
     }
 
+    /// The bytes of the token, which are copied.
+    pub fn token_text(&self, alloc: Global, i: u32) -> Result<Name, AllocError>
+        requires { i < length self.now.tokens }
+        ensures { IfOk result (λ name.
+            option_map (token_bytes self.now.bytes) (slice_get self.now.tokens i) ≡ Some name) }
+    {
+        let token = self.tokens[i as usize];
+        let bytes = &self.bytes.as_slice()[token.first as usize..token.end as usize];
+        Ok(Name::of(Vec::from_slice(alloc, bytes)?))
+    }
+
     /// The tokens, in the order in which they stand. It takes no memory.
     pub fn tokens(&self) -> &[Token]
         ensures { result.now ≡ self.now.tokens }
@@ -94,5 +129,14 @@ impl Text {
         ensures { IfOk result (λ kinds. kinds.items ≡ kinds_of self.now.tokens) }
     {
         self.tokens.iter().map(|token| token.kind).collect(alloc)
+    }
+
+    /// An equal text. The bytes and the tokens are copied.
+    pub fn share(&self, alloc: Global) -> Result<Text, AllocError>
+        ensures { IfOk result (λ text. text ≡ self.now) }
+    {
+        let bytes = Vec::from_slice(alloc, self.bytes.as_slice())?;
+        let tokens = Vec::from_slice(alloc, self.tokens.as_slice())?;
+        Ok(Text { bytes, tokens })
     }
 }

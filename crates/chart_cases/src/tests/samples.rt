@@ -1,5 +1,5 @@
-//! Small grammars, told by their rules alone: the names are empty.
-use numbered_grammar::{Grammar, Items, KindDef, Label, Name, Rule, Symbol};
+//! Small grammars, told by their rules alone: the categories have numbers for names.
+use numbered_grammar::{Grammar, Items, KindDef, Label, LexiconParts, Name, Rule, Symbol};
 use std::alloc::Global;
 
 /// A rule by its category's number and its items.
@@ -35,8 +35,10 @@ pub const NOTHING: Sample = (0, 0, &[]);
 
 fn names(alloc: Global, count: u16) -> Option<Vec<Name>> {
     let mut names = Vec::new(alloc);
-    for _ in 0..count {
-        names.push(Name::of(Vec::new(alloc))).ok()?;
+    for number in 0..count {
+        let text = format!(in alloc; "{number}").ok()?;
+        let bytes = Vec::from_slice(alloc, text.as_str().as_bytes()).ok()?;
+        names.push(Name::of(bytes)).ok()?;
     }
     Some(names)
 }
@@ -62,7 +64,8 @@ pub fn grammar_of(alloc: Global, sample: Sample) -> Option<Grammar> {
         rules.push(rule).ok()?;
     }
     let names = names(alloc, categories)?;
-    Grammar::of_rules(alloc, rules, names, words(alloc, kinds)?).ok()?
+    let lexicon = LexiconParts::of_kinds(alloc, words(alloc, kinds)?);
+    Grammar::of_rules(alloc, rules, names, lexicon).ok()?
 }
 
 /// One category, and one rule for it that has it so many times, which is no grammar where that is
@@ -78,5 +81,6 @@ pub fn long_rule(alloc: Global, count: usize) -> Option<Grammar> {
         items,
     };
     let rules = vec![in alloc; rule].ok()?;
-    Grammar::of_rules(alloc, rules, names(alloc, 1)?, Vec::new(alloc)).ok()?
+    let lexicon = LexiconParts::of_kinds(alloc, Vec::new(alloc));
+    Grammar::of_rules(alloc, rules, names(alloc, 1)?, lexicon).ok()?
 }

@@ -1,4 +1,4 @@
-//! Files of all forms but token definitions: what they stand for, and why they are refused.
+//! Files of all forms: what they stand for, and why they are refused.
 use super::expanded;
 use crate::*;
 use lbnf_text::Label;
@@ -77,7 +77,6 @@ fn fault_text(alloc: Global, fault: &GrammarFault) -> Result<String, AllocError>
             let name = name.as_str();
             format!(in alloc; "category {name} {def}")
         }
-        GrammarFault::Unbuilt { def } => format!(in alloc; "unbuilt {def}"),
         GrammarFault::Cyclic { name } => {
             let name = name.as_str();
             format!(in alloc; "cyclic {name}")
@@ -149,7 +148,82 @@ const RULES: &[(&str, &str)] = &[
     ),
     ("internal Hid. T ::= U ;", "entry"),
     ("", "entry"),
+    (
+        "token Hex {\"0x\"} (digit|[\"abcdef\"])+ ; H. S ::= Hex ; I. S ::= Integer ;",
+        "H S:0 = '0'; I S:0 = '1'; entry S:0",
+    ),
+    (
+        "A. S ::= Char [Id] \"w\" Double ; separator Id \",\" ; position token Id letter+ ;",
+        "A S:0 = '4' [Id]:1 '0' '3'; [] [Id]:1 =; (:[]) [Id]:1 = '2'; \
+         (:) [Id]:1 = '2' '1' [Id]:1; entry S:0",
+    ),
+    (
+        "entrypoints Id ; A. S ::= Integer ; token Id letter ; token Integer digit ;",
+        "A S:0 = '1'; entry '0'",
+    ),
 ];
+
+/// Files, and their kinds and comments.
+const LEXICONS: &[(&str, &str)] = &[
+    (
+        "token Hex {\"0x\"} (digit|[\"abcdef\"])+ ; H. S ::= Hex ; I. S ::= Integer ;",
+        "Hex Integer",
+    ),
+    (
+        "A. S ::= Char \"w\" Double ; token Id letter+ ; token Ident letter ; entrypoints String ;",
+        "'w' Id Ident Double String Char",
+    ),
+    ("internal A. S ::= Integer ; B. T ::= Ident ;", "Ident"),
+    (
+        "comment \"--\" ; comment \"{-\" \"-}\" ; comment \"#\" ;",
+        "-- # {- -}",
+    ),
+];
+
+/// The name of the kind, or its word in quotes.
+fn add_kind(alloc: Global, text: &mut String, kind: &KindDef) -> Result<(), AllocError> {
+    match kind {
+        KindDef::Word(word) => {
+            let word = word.as_str();
+            text.push_str(format!(in alloc; " '{word}'")?.as_str())
+        }
+        KindDef::Token { name, .. } => add_word(text, name.as_str()),
+    }
+}
+
+fn add_word(text: &mut String, word: &str) -> Result<(), AllocError> {
+    text.push_str(" ")?;
+    text.push_str(word)
+}
+
+/// The words that begin and end comments, and the kinds, each with a space before it.
+fn lexicon_text(alloc: Global, grammar: &Grammar) -> Result<String, AllocError> {
+    let mut text = String::new(alloc);
+    for opening in grammar.line_comments() {
+        add_word(&mut text, opening.as_str())?;
+    }
+    for words in grammar.block_comments() {
+        add_word(&mut text, words.0.as_str())?;
+        add_word(&mut text, words.1.as_str())?;
+    }
+    for kind in grammar.kinds() {
+        add_kind(alloc, &mut text, kind)?;
+    }
+    Ok(text)
+}
+
+#[test]
+fn words_tokens_and_predefined_kinds_are_numbered_in_turn(rt: HostRuntime) -> Result<(), Fail> {
+    for (file, want) in LEXICONS {
+        let grammar = expanded(rt.alloc(), file.as_bytes())
+            .ok_or("the form")?
+            .ok()
+            .ok_or("a grammar")?;
+        let kinds = lexicon_text(rt.alloc(), &grammar)?;
+        assert_eq!(rt; kinds.as_str().trim_start(), *want, "at {file}");
+    }
+    Ok(())
+}
 
 #[test]
 fn each_form_gives_its_rules(rt: HostRuntime) -> Result<(), Fail> {
@@ -304,10 +378,10 @@ fn names_that_are_predefined_or_unknown_are_told(rt: HostRuntime) -> Result<(), 
         ("coercions E 1 ; S. S ::= E2 ;", "category E2 1"),
         ("entrypoints S ;", "category S 0"),
         ("A. S ::= ; entrypoints S, T, U ;", "category T 1"),
-        ("S. S ::= Integer ;", "unbuilt 0"),
-        ("A. S ::= ; B. T ::= Double ;", "unbuilt 1"),
-        ("terminator Ident \";\" ;", "unbuilt 0"),
-        ("A. S ::= ; entrypoints S, Char ;", "unbuilt 1"),
+        ("S. S ::= Integer ;", "grammar 1 1"),
+        ("A. S ::= ; B. T ::= Double ;", "grammar 2 2"),
+        ("terminator Ident \";\" ;", "grammar 2 1"),
+        ("A. S ::= ; entrypoints S, Char ;", "grammar 1 1"),
         ("internal A. T ::= U Ident ; B. S ::= T ;", "grammar 1 2"),
         ("A. S ::= S ;", "cyclic S"),
         ("coercions E 1 ; A. E1 ::= E ;", "cyclic E"),
@@ -354,6 +428,16 @@ const TWO_FAULTS: &[(&str, &str)] = &[
     ("S. S ::= Ident ; coercions E 1024 ;", "rules 1026"),
     ("entrypoints T ; coercions E 1024 ;", "rules 1025"),
     ("A. S ::= S ; coercions E 1024 ;", "rules 1026"),
+    ("token T 'a' ; token T 'b' ;", "token T"),
+    ("token T 'a' ; token U 'a' ; A. S ::= U ; token U 'b' ;", "token U"),
+    ("A. T ::= ; token T 'a' ;", "token T"),
+    ("internal A. T ::= ; token U 'a' ; token T 'a' ;", "token T"),
+    ("token T 'a' ; token T 'b' ; A. Integer ::= ;", "token T"),
+    ("A. Integer ::= ; token T 'a' ; token T 'b' ;", "token Integer"),
+    ("coercions E 1 ; token E1 'a' ;", "token E1"),
+    ("token Integer 'a' ; A. Integer ::= ;", "token Integer"),
+    ("token T 'a' ; A. [T] ::= ;", "list 1"),
+    ("token T 'a' ; A. S ::= [T] ;", "category [T] 1"),
     ("B. E ::= T ; A. Integer ::= ;", "token Integer"),
     ("entrypoints T ; A. Integer ::= ;", "token Integer"),
     ("A. E ::= Ident ; B. Char ::= ;", "token Char"),
@@ -366,17 +450,17 @@ const TWO_FAULTS: &[(&str, &str)] = &[
         "coercions E 1 ; A. E1 ::= E ; coercions Char 1 ;",
         "token Char",
     ),
-    ("S. S ::= Ident T ;", "unbuilt 0"),
+    ("S. S ::= Ident T ;", "category T 0"),
     ("S. S ::= T Ident ;", "category T 0"),
     ("S. S ::= T U ;", "category T 0"),
     ("A. S ::= U ; B. S ::= T ;", "category U 0"),
     ("entrypoints T ; S. S ::= U ;", "category T 0"),
     ("S. S ::= U ; entrypoints T ;", "category U 0"),
-    ("entrypoints Ident, T ; A. S ::= ;", "unbuilt 0"),
+    ("entrypoints Ident, T ; A. S ::= ;", "category T 0"),
     ("entrypoints T, Ident ; A. S ::= ;", "category T 0"),
     ("separator T \",\" ; entrypoints Ident ;", "category T 0"),
     ("A. S ::= S ; B. S ::= T ;", "category T 1"),
-    ("A. S ::= S ; B. S ::= Ident ;", "unbuilt 1"),
+    ("A. S ::= S ; B. S ::= Ident ;", "cyclic S"),
     ("A. S ::= S ; entrypoints T ;", "category T 1"),
     ("A. T ::= S ; B. S ::= S ;", "cyclic S"),
     ("A. T ::= S T ; B. S ::= S ; C. S ::= ;", "cyclic T"),

@@ -455,28 +455,6 @@ fn words_that_are_not_supported(rt: HostRuntime) -> Result<(), Fail> {
     Ok(())
 }
 
-#[test]
-fn definitions_that_are_not_built(rt: HostRuntime) -> Result<(), Fail> {
-    let cases = [
-        ("token T 'a' ;", "unbuilt 0"),
-        ("position token T 'a' ;", "unbuilt 0"),
-        ("comment \"--\" ;", "unbuilt 0"),
-        ("comment \"/*\" \"*/\" ;", "unbuilt 0"),
-        ("token", "unbuilt 0"),
-        ("A. E ::= ; token T 'a' ;", "unbuilt 1"),
-        (";; comment \"#\"", "unbuilt 0"),
-        (
-            "A. E ::= ;; {- a -} ; B. E ::= ; position token T digit ;",
-            "unbuilt 2",
-        ),
-    ];
-    for (text, want) in cases {
-        let answer = answer_to(rt.alloc(), text.as_bytes())?;
-        assert_eq!(rt; answer.as_str(), want, "at {text:?}");
-    }
-    Ok(())
-}
-
 /// Files that stop at a macro, and some that do not.
 const MACROS: &[(&str, &str)] = &[
     ("terminator \";\" ;", "syntax 11"),
@@ -534,7 +512,8 @@ fn the_fault_that_stands_first_is_told(rt: HostRuntime) -> Result<(), Fail> {
     let cases = [
         ("S S ; layout ;", "syntax 2"),
         ("layout ; ) ;", "unsupported layout 0"),
-        ("token ) ;", "unbuilt 0"),
+        ("token ) ;", "syntax 6"),
+        ("token T 'a ; layout ;", "syntax 8"),
         ("S. S ::= e \x00", "syntax 9"),
         ("S. S ::= . \"a", "syntax 9"),
         ("S. S ::= ; ) ; {-", "syntax 11"),
@@ -729,6 +708,6 @@ fn a_file_has_any_number_of_definitions(rt: HostRuntime) -> Result<(), Fail> {
     assert_eq!(rt; answer.as_str(), "defs 1025");
     text.extend_from_slice(b"; token T 'a' ;".as_slice())?;
     let answer = answer_to(rt.alloc(), text.as_slice())?;
-    assert_eq!(rt; answer.as_str(), "unbuilt 1025");
+    assert_eq!(rt; answer.as_str(), "defs 1026");
     Ok(())
 }

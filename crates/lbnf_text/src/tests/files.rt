@@ -13,6 +13,6 @@ pub fn answer_to(alloc: Global, bytes: &[u8]) -> Result<String, AllocError> {
         Err(TextFault::Unsupported { word, at }) => {
             format!(in alloc; "unsupported {} {at}", word.as_str())
         }
-        Err(TextFault::Unbuilt { def }) => format!(in alloc; "unbuilt {def}"),
+        Err(TextFault::BadDifference { at }) => format!(in alloc; "difference {at}"),
     }
 }

@@ -1,4 +1,5 @@
 //! What each form of definition gives, with answers by hand.
+use super::expressions::show_expr;
 use crate::{CatName, Def, Label, RawItem, RawRule, read_defs};
 use std::alloc::{AllocError, Global};
 use std::test::*;
@@ -102,11 +103,25 @@ fn show_def(alloc: Global, out: &mut Vec<u8>, def: &Def) -> Result<(), AllocErro
             }
             Ok(())
         }
+        Def::Token { name, expr } => {
+            out.extend_from_slice(b"token ".as_slice())?;
+            out.extend_from_slice(name.as_slice())?;
+            show_expr(alloc, out, expr)
+        }
+        Def::LineComment(opening) => {
+            out.extend_from_slice(b"comment".as_slice())?;
+            show_word(out, opening.as_slice())
+        }
+        Def::BlockComment(opening, closing) => {
+            out.extend_from_slice(b"comment".as_slice())?;
+            show_word(out, opening.as_slice())?;
+            show_word(out, closing.as_slice())
+        }
     }
 }
 
 /// The definitions of the file, each with a bar behind it, and nothing where it cannot be read.
-fn shown(alloc: Global, text: &str) -> Result<Vec<u8>, AllocError> {
+pub fn shown(alloc: Global, text: &str) -> Result<Vec<u8>, AllocError> {
     let mut out = Vec::new(alloc);
     if let Ok(defs) = read_defs(alloc, text.as_bytes()) {
         for def in defs.as_slice() {
@@ -146,6 +161,10 @@ fn each_form_gives_its_parts(rt: HostRuntime) -> Result<(), Fail> {
         ("coercions Exp 9999 ;", "coercions Exp 9999|"),
         ("entrypoints E ;", "entry E|"),
         ("entrypoints E, [F],G ;", "entry E [F] G|"),
+        ("token T 'a' ;", "token T 'a|"),
+        ("position token T eps", "token T eps|"),
+        ("comment \"//\" ;", "comment \"//\"|"),
+        ("comment \"/*\" \" */\" ;", "comment \"/*\" \" */\"|"),
         (
             "Internal . Terminator ::= Coercions",
             "rule Internal Terminator Coercions|",

@@ -1,6 +1,6 @@
 -- The session runs, or it has ended.
-use Rattle.std.proofs.Common.{ℕ, ◌-◌, ◌^◌, ◌<◌, ◌≤◌, List, IsTrue}
-use Rattle.cyk_io.specs.Streams.{coming, IsAtEnd}
+use Rattle.std.proofs.Common.{ℕ, ◌-◌, ◌^◌, ◌<◌, ◌≤◌, List}
+use Rattle.cyk_io.specs.Streams.{coming}
 use Rattle.chart_service.specs.Languages.{CanOpen}
 use Rattle.chart_service.specs.Progress.{Running}
 use Rattle.chart_service.proofs.serving.reply_all.Given as goal
@@ -14,7 +14,6 @@ invariant-loop-goes_on g l = record {
       (g.K.Sink.written l.sink) l.replies l.session;
   can : CanOpen g.C.Room.ROOM (l.session).language;
   few : (l.session).texts ≤ (l.ahead).offset;
-  end : IsTrue (l.ahead).ended → IsAtEnd (g.S.Source.left l.source);
   early : (l.ahead).offset < 2 ^ 50;
   read : g.S.Source.faults l.fn.source ≤ g.S.Source.faults l.source;
   write : g.K.Sink.faults l.fn.sink ≤ g.K.Sink.faults l.sink;

@@ -23,7 +23,6 @@ loop-rest-preserved g c =
         rest_of_block so_far.0 held n c.loop-rest.rest c.args.count counts.2 counts.1 so_far.2,
         kept_more-append _ so_far.0 (take n held) _ _ so_far.3 c.take_held.ensures.items,
       );
-      end = λ ended. c.refill.ensures.end (rw c.take_held.ensures.ended at ended);
       offset = omega (arith, c.refill.ensures.offset, c.take_held.ensures.offset);
       room = λ kept. c.take_held.ensures.fits kept;
       later = omega (arith, c.refill.ensures.cause.later);

@@ -1,6 +1,6 @@
-use Rattle.std.proofs.Common.{◌≡◌, ◌+◌, ◌≤◌, length, IsTrue}
+use Rattle.std.proofs.Common.{◌≡◌, ◌+◌, ◌≤◌, length}
 use Rattle.cyk_io.specs.Lines.{HasNoLf}
-use Rattle.cyk_io.specs.Streams.{Takes, IsAtEnd, coming}
+use Rattle.cyk_io.specs.Streams.{Takes, coming}
 use Rattle.cyk_io.proofs.line.read_line.Given as goal
 
 -- the line is what was taken so far, with no LF
@@ -9,7 +9,6 @@ invariant-loop-count g l = record {
   taken : Takes (coming l.fn.ahead (g.S.Source.left l.fn.source)) (coming l.ahead (g.S.Source.left l.source)) l.line;
   no_lf : HasNoLf l.line;
   len : length l.line ≡ l._count;
-  end : IsTrue (l.ahead).ended → IsAtEnd (g.S.Source.left l.source);
   offset : (l.ahead).offset ≡ (l.fn.ahead).offset + l._count;
   later : g.S.Source.faults l.fn.source ≤ g.S.Source.faults l.source;
 }

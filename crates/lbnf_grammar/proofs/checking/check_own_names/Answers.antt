@@ -1,16 +1,40 @@
-use Rattle.std.proofs.Common.{◌≡◌, [], All, MatchOption, subst, ◌∙◌, ap, rules}
-use Rattle.std.specs.List.{flat_map}
-use Rattle.spec_lbnf.specs.Checks.{own_categories, IsPredefined, IsFree, IsFirstName}
+use Rattle.std.proofs.Common.{◌≡◌, [], Some, slice_get, refl, ap, ◌∙◌, rules}
+use Rattle.std.proofs.lemmas.Option.{slice_get_read}
+use Rattle.spec_lbnf.specs.Expansion.{names_in, token_in}
+use Rattle.lbnf_grammar.specs.Checking.{HasTaken}
 use Rattle.lbnf_grammar.specs.Numbering.{with_new_names}
+use Rattle.lbnf_grammar.proofs.CheckingLemmas.{first_repeated, more_free, all_free, earlier_more}
+use Rattle.lbnf_grammar.proofs.FaultLemmas.{repeated_tells}
 use Rattle.lbnf_grammar.proofs.checking.check_own_names.Goals as goal
 
-pub returns-in-Ok-add_all : goal.returns-in-Ok-add_all
-returns-in-Ok-add_all c =
+pub returns-in-Some : goal.returns-in-Some
+returns-in-Some c =
     let defs = c.args.defs.now in
-    let list = c.as_slice.result.now in
-    let names = c.as_slice-2.result.now in
-    let are : list ≡ flat_map own_categories defs = search rules in
-    let items : names ≡ flat_map own_categories defs = search rules in
-    let free : All IsFree list
-    = subst (λ found. MatchOption found (All IsFree list) (λ name. IsFirstName IsPredefined list name.now)) c.in_default-first_predefined.is c.first_predefined.ensures in
-    (subst (All IsFree) are free, c.in-Ok-add_all.ensures ∙ ap (λ known. with_new_names known names) c.new-known.ensures ∙ ap (with_new_names []) items)
+    let i = c.loop-def.def-index in
+    let def = c.def-item.result in
+    let at : slice_get defs i ≡ Some def = slice_get_read defs _ i def refl c.loop-def-test.true c.def-item.is in
+    let has : HasTaken c.loop-def.earlier c.args.kinds.now def c.taken.result.now = search rules in
+    let first = rw c.in-Some.is at c.first_listed.ensures in
+    repeated_tells defs c.in-Some.name.now
+    (first_repeated defs c.args.kinds.now c.loop-def.earlier c.requires i c.loop-def.invariant.earlier def at c.taken.result.now has
+    c.as_slice.result.now (search rules) c.loop-def.invariant.free c.in-Some.name.now first) c.repeated.result c.repeated.ensures
+
+pub loop-def-preserved : goal.loop-def-preserved
+loop-def-preserved c =
+    let defs = c.args.defs.now in
+    let i = c.loop-def.def-index in
+    let def = c.def-item.result in
+    let at : slice_get defs i ≡ Some def = slice_get_read defs _ i def refl c.loop-def-test.true c.def-item.is in
+    let has : HasTaken c.loop-def.earlier c.args.kinds.now def c.taken.result.now = search rules in
+    let none = rw c.in_default-first_listed.is at c.first_listed.ensures in
+    record {
+      earlier =
+          earlier_more [] defs i def c.loop-def.earlier c.add_token_name.new.names at c.loop-def.invariant.earlier
+          (c.in-Ok-add_token_name.ensures ∙ ap (λ d. with_new_names c.loop-def.earlier (names_in (token_in d))) c.def-2.ensures);
+      free =
+          more_free defs c.args.kinds.now c.loop-def.earlier c.requires i c.loop-def.invariant.earlier def at c.taken.result.now has
+          c.as_slice.result.now (search rules) c.loop-def.invariant.free none;
+    }
+
+pub returns : goal.returns
+returns c = all_free c.args.defs.now c.loop-def.def-index c.loop-def-test.false c.loop-def.invariant.free

@@ -3,7 +3,7 @@ use Rattle.std.proofs.Common.{map, ◌≡◌, ℕ, ◌+◌, ◌<◌, length, Lis
 use Rattle.std.proofs.lemmas.List.{length_push}
 use Rattle.spec_automata.specs.Encoding.{one_of_these}
 use Rattle.lbnf_regex.specs.Patterns.{bytes_of_pattern}
-use Rattle.lbnf_regex.specs.States.{state_at, IsRow, AreRows}
+use Rattle.lbnf_regex.specs.States.{state_at, IsStateRow, AreRows}
 use Rattle.lbnf_regex.proofs.StateLemmas.{grows_len, grows_at, rows_grow, rows_push}
 use Rattle.lbnf_regex.proofs.states.make_table.Goals as goal
 
@@ -18,10 +18,10 @@ states-preserved c =
     let lt : n < length old = omega (arith, c.states-test.true, c.len.ensures, c.len-in-states.ensures) in
     let made : c.push-in-states.new.self ≡ rows ++ c.in_ok-row.row ∷ [] = c.in_ok-push-2.ensures.ok in
     let len : length c.push-in-states.new.self ≡ n + 1 = ap length made ∙ length_push rows c.in_ok-row.row in
-    let right : IsRow x new (state_at old n) 256 c.in_ok-row.row =
-    subst (λ (i : ℕ). IsRow x new (state_at old i) 256 c.in_ok-row.row) c.len-in-states-2.ensures c.in_ok-row.ensures.row in
-    let row : IsRow x new (state_at new n) 256 c.in_ok-row.row =
-    subst (λ (s : List ℕ). IsRow x new s 256 c.in_ok-row.row) (sym (grows_at old new g n lt)) right in
+    let right : IsStateRow x new (state_at old n) 256 c.in_ok-row.row =
+    subst (λ (i : ℕ). IsStateRow x new (state_at old i) 256 c.in_ok-row.row) c.len-in-states-2.ensures c.in_ok-row.ensures.row in
+    let row : IsStateRow x new (state_at new n) 256 c.in_ok-row.row =
+    subst (λ (s : List ℕ). IsStateRow x new s 256 c.in_ok-row.row) (sym (grows_at old new g n lt)) right in
     record {
       are = c.in_ok-row.ensures.states;
       few = c.in_ok-row.ensures.most;

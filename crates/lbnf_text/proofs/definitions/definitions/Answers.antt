@@ -15,8 +15,7 @@ returns-in_err-def c =
     let p = err_from_is_err_and c.from_residual.result c.from_residual.ensures.1 in
     let split = c.in-Some.ensures in
     let read = subst (AreReadDefs c.args.tokens.now c.args.stop c.pieces.list.items) split c.pieces.invariant in
-    let number : length c.pieces.list.items ≡ c.len-number.result = search rules in
-    rw (p.1, p.2) (still_fault c.in_err-def.field-0.0 _ _ (rw (← c.offset_of.ensures, number) c.in_err-def.ensures) (no_defs c.args.tokens.now c.args.stop c.pieces.list.items c.in-Some.first.now c.in-Some.behind.now c.cut.result.0.now c.cut.result.1.now read (sym c.is_semicolon.ensures ∙ c.if-is_semicolon.false) (c.cut.ensures.piece ∙ ap piece_at split) (c.cut.ensures.behind ∙ ap behind_piece split)))
+    rw (p.1, p.2) (still_fault c.in_err-def.field-0.0 _ _ (rw (← c.offset_of.ensures) c.in_err-def.ensures) (no_defs c.args.tokens.now c.args.stop c.pieces.list.items c.in-Some.first.now c.in-Some.behind.now c.cut.result.0.now c.cut.result.1.now read (sym c.is_semicolon.ensures ∙ c.if-is_semicolon.false) (c.cut.ensures.piece ∙ ap piece_at split) (c.cut.ensures.behind ∙ ap behind_piece split)))
 
 pub pieces-smaller : goal.pieces-smaller
 pieces-smaller c =
@@ -30,8 +29,7 @@ pieces-preserved c =
     let split = c.in-Some.ensures in
     let read = subst (AreReadDefs c.args.tokens.now c.args.stop c.pieces.list.items) split c.pieces.invariant in
     let pushed : c.push.new.self.items ≡ c.pieces.list.items ++ c.in_ok-def.def ∷ [] = search rules in
-    let number : length c.pieces.list.items ≡ c.len-number.result = search rules in
-    rw pushed (more_defs c.args.tokens.now c.args.stop c.pieces.list.items c.in-Some.first.now c.in-Some.behind.now c.cut.result.0.now c.cut.result.1.now read (sym c.is_semicolon.ensures ∙ c.if-is_semicolon.false) (c.cut.ensures.piece ∙ ap piece_at split) (c.cut.ensures.behind ∙ ap behind_piece split) c.in_ok-def.def (rw (← c.offset_of.ensures, number) c.in_ok-def.ensures))
+    rw pushed (more_defs c.args.tokens.now c.args.stop c.pieces.list.items c.in-Some.first.now c.in-Some.behind.now c.cut.result.0.now c.cut.result.1.now read (sym c.is_semicolon.ensures ∙ c.if-is_semicolon.false) (c.cut.ensures.piece ∙ ap piece_at split) (c.cut.ensures.behind ∙ ap behind_piece split) c.in_ok-def.def (rw (← c.offset_of.ensures) c.in_ok-def.ensures))
 
 pub returns : goal.returns
 returns c = all_read c.args.tokens.now c.args.stop c.pieces.list.items c.pieces.rest.now c.pieces.invariant c.in_default.ensures

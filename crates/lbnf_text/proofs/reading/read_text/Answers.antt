@@ -7,11 +7,6 @@ use Rattle.lbnf_readers.proofs.FaultLemmas.{defs_are, stop_is, fault_is}
 use Rattle.lbnf_text.proofs.FileLemmas.{told_fault, stop_within, few_tokens}
 use Rattle.lbnf_text.proofs.reading.read_text.Goals as goal
 
-pub definitions-requires : goal.definitions-requires
-definitions-requires c =
-    let scan : IsScan c.args.text.now c.in_ok-scan.scan.tokens.items c.in_ok-scan.scan.stop = search rules in
-    rw c.as_slice.ensures.value (omega (arith, few_tokens c.args.text.now c.in_ok-scan.scan.tokens.items c.in_ok-scan.scan.stop scan, c.requires))
-
 pub returns-in_err-defs : goal.returns-in_err-defs
 returns-in_err-defs c =
     let p = err_from_is_err_and c.from_residual-in_err-defs.result c.from_residual-in_err-defs.ensures.1 in

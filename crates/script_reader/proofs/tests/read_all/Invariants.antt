@@ -1,11 +1,9 @@
 -- Each command is read behind the last one.
-use Rattle.std.proofs.Common.{◌-◌, ◌^◌, ◌<◌, IsTrue, Some}
-use Rattle.cyk_io.specs.Streams.{IsAtEnd}
+use Rattle.std.proofs.Common.{◌-◌, ◌^◌, ◌<◌}
 use Rattle.script_reader.proofs.tests.read_all.Given as goal
 
 abbrev pub invariant-loop-is_open : goal.invariant-loop-is_open
 invariant-loop-is_open l = record {
-  end : IsTrue (l.ahead).ended → IsAtEnd (Some l.source);
   early : (l.ahead).offset < 2 ^ 50;
 }
 

@@ -17,4 +17,8 @@ returns c = record {
   expansion = refl;
   first_rule = refl;
   without_rules = refl;
+  tokens = λ expr. refl;
+  own_integer = λ expr. refl;
+  entry_kind = refl;
+  token_lists = refl;
 }

@@ -1,17 +1,24 @@
--- Nothing matches, or a kind of the grammar, or white space.
-use Rattle.text_store.proofs.LexingLemmas.{stray_lexeme, token_lexeme, white_lexeme}
+-- Nothing is accepted, or the longest front is white space, a comment, or a token.
+use Rattle.std.proofs.lemmas.List.{take_rest}
+use Rattle.text_store.proofs.LexingLemmas.{stray_lexeme, white_lexeme, comment_lexeme, token_lexeme}
 use Rattle.text_store.proofs.lexing.lexeme_at.Goals as goal
 
-pub returns-in_default : goal.returns-in_default
-returns-in_default c =
-    rw c.token_of.ensures (stray_lexeme c.args.kinds.now c.args.text.now c.args.start
-    c.requires.ascii c.requires.start c.in_default.ensures)
+pub returns-in_default-clause-is : goal.returns-in_default-clause-is
+returns-in_default-clause-is c lexicon is utf8 =
+    rw c.stray_at.ensures (stray_lexeme lexicon c.args.automaton.now is c.args.text.now c.args.start
+    c.requires.start utf8 (rw take_rest at c.in_default.ensures))
 
-pub returns-in-Kind : goal.returns-in-Kind
-returns-in-Kind c =
-    rw c.token_of-in-Kind.ensures (token_lexeme c.args.kinds.now c.args.text.now c.args.start
-    c.in-Some.found c.in-Kind.kind c.in-Some.ensures c.in-Kind.is)
+pub returns-in-White-clause-is : goal.returns-in-White-clause-is
+returns-in-White-clause-is c lexicon is utf8 =
+    white_lexeme lexicon c.args.automaton.now is c.args.text.now c.args.start c.requires.start utf8
+    c.in-Some.front (rw take_rest at c.in-Some.ensures) c.in-White.is
 
-pub returns-in-White : goal.returns-in-White
-returns-in-White c =
-    white_lexeme c.args.kinds.now c.args.text.now c.args.start c.in-Some.found c.in-Some.ensures c.in-White.is
+pub returns-in-Comment-clause-is : goal.returns-in-Comment-clause-is
+returns-in-Comment-clause-is c lexicon is utf8 =
+    comment_lexeme lexicon c.args.automaton.now is c.args.text.now c.args.start c.requires.start utf8
+    c.in-Some.front (rw take_rest at c.in-Some.ensures) c.in-Comment.is
+
+pub returns-in-Symbol-clause-is : goal.returns-in-Symbol-clause-is
+returns-in-Symbol-clause-is c lexicon is utf8 =
+    rw c.token_of.ensures (token_lexeme lexicon c.args.automaton.now is c.args.text.now c.args.start
+    c.requires.start utf8 c.in-Some.front (rw take_rest at c.in-Some.ensures) c.in-Symbol.kind c.in-Symbol.is)

@@ -1,7 +1,0 @@
--- The kinds so far are words.
-use Rattle.std.proofs.Common.{take, All}
-use Rattle.spec_lexing.specs.Kinds.{IsWordKind}
-use Rattle.text_store.proofs.tests.are_words.Given as goal
-
-abbrev pub invariant-loop-kind : goal.invariant-loop-kind
-invariant-loop-kind l = All IsWordKind (take l.kind-index l.kinds)
