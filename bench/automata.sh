@@ -1,11 +1,11 @@
 #!/usr/bin/env bash
-# Measures what an automaton of kinds takes with the program of crates/lexer_bench, beside the time in
-# which `flex` turns the same kinds into the source of a scanner, in turns in one run: (a) the five
-# predefined kinds with 20 words and two comments, (b) the same with 300 words, (c) with 1,000 words
-# that fill a grammar file of 65,536 bytes, which both refuse. It writes the median times, their
-# ratio, and the peak memory that the automaton leaves beside its table.
-# The status is 1 where the program takes longer than flex or more than 16 MB beside the table, and 2
-# where it fails or refuses what it should not.
+# Measures what an automaton of kinds takes with the program of crates/lexer_bench, beside the time
+# in which `flex` turns the same kinds into the source of a scanner, in turns in one run: (a) the
+# five predefined kinds with 20 words and two comments, (b) the same with 300 words, (c) with 1,000
+# words that fill a grammar file of 65,536 bytes, which both refuse. It writes the median times,
+# their ratio, and the peak memory that the automaton leaves beside its table.
+# The status is 1 where the program takes longer than flex or more than 16 MB beside the table, and
+# 2 where it fails or refuses what it should not.
 set -eu
 
 root=$(cd -- "$(dirname -- "${BASH_SOURCE[0]}")/.." && pwd)
@@ -37,7 +37,8 @@ TOKENS = [
     """'' char ['\\ - '\\ ["'\\nt .2 |2 '' .3""",
 ]
 SCANNER = r"""%option noyywrap
-WIDE ([\xC2-\xDF][\x80-\xBF]|[\xE0-\xEF][\x80-\xBF][\x80-\xBF]|[\xF0-\xF4][\x80-\xBF][\x80-\xBF][\x80-\xBF])
+NEXT [\x80-\xBF]
+WIDE ([\xC2-\xDF]{NEXT}|[\xE0-\xEF]{NEXT}{NEXT}|[\xF0-\xF4]{NEXT}{NEXT}{NEXT})
 ESC \\["'\\nt]
 %%
 [ \t\n\r\f\v]

@@ -4,10 +4,10 @@
     python3 tests/automata.py CMD [ARG ..]     prints `N passed, M failed`
 
 CMD reads lines as `crates/lexer_bench/out/lexer_bench` does. Each random expression is made alone
-into an automaton, which is asked for the longest match at the beginning of some texts; `re` is asked
-by `fullmatch` for each length. Texts are drawn from a few scalars of each length in UTF-8, with those
-at the borders of the lengths, and two of five begin with a match. There are no white scalars among
-them, since white space is a kind of its own.
+into an automaton, which is asked for the longest match at the beginning of some texts; `re` is
+asked by `fullmatch` for each length. Texts are drawn from a few scalars of each length in UTF-8,
+with those at the borders of the lengths, and two of five begin with a match. There are no white
+scalars among them, since white space is a kind of its own.
 """
 import random
 import re
@@ -33,9 +33,9 @@ COMMON = 'abA0é€'
 FITS, FULL = 'states 1023', 'too many states'
 BORDERS = '\x7f\x80\u07ff\u0800\uffff\U00010000\U0010ffff'
 BY_HAND = [
-    # Families with one state less than the most, the most, and one more: a word has a state for each
-    # letter; a block comment one for its opening text and one for each front of its closing text;
-    # `(a|b)* a (a|b)...` tells the last letters apart.
+    # Families with one state less than the most, the most, and one more: a word has a state for
+    # each letter; a block comment one for its opening text and one for each front of its closing
+    # text; `(a|b)* a (a|b)...` tells the last letters apart.
     (['word ' + 'a' * 1_020], 'states 1022', [('a' * 1_020, '1020 0'), ('a' * 1_019, 'none')]),
     (['word ' + 'a' * 1_021], FITS, [('a' * 1_022, '1021 0')]),
     (['word ' + 'a' * 1_022], FULL, []),
@@ -50,13 +50,15 @@ BY_HAND = [
     (["token 'a 'a - 'b .2"], 'states 2', [('ab', 'none'), ('b', 'none')]),
     (["token 'c 'a 'a - 'b .3", 'word c'], 'states 3', [('cb', '1 1'), ('ccb', '1 1')]),
     # The least kind of the longest match.
-    (['line //', 'word //'], 'states 5', [('//', '2 comment'), ('// é', '5 comment'), ('/', 'none')]),
+    (['line //', 'word //'], 'states 5', [('//', '2 comment'), ('// é', '5 comment')]),
     (['word ab', 'token lower +'], 'states 5', [('ab', '2 0'), ('abc', '3 1'), ('a', '1 1')]),
     (['token lower +', 'word ab'], 'states 5', [('ab', '2 0'), ('abc', '3 0')]),
-    (['word \t', 'word \t\t'], 'states 4', [('\t', '1 white'), ('\t\t', '2 1'), ('\v', '1 white')]),
+    (['word \t', 'word \t\t'], 'states 4', [('\t', '1 white'), ('\t\t', '2 1')]),
     # A block comment ends with its first closing text, of which nothing is in the opening text.
-    (['block < aba'], 'states 7', [('<ababa', '4 comment'), ('<aaba', '5 comment'), ('<ab', 'none')]),
-    (['block /* **/'], 'states 8', [('/***/*', '5 comment'), ('/****/', '6 comment'), ('/**/', 'none')]),
+    (['block < aba'], 'states 7', [('<ababa', '4 comment'), ('<aaba', '5 comment')]),
+    (['block < aba'], 'states 7', [('<ab', 'none'), ('<', 'none'), ('<aba', '4 comment')]),
+    (['block /* **/'], 'states 8', [('/***/*', '5 comment'), ('/****/', '6 comment')]),
+    (['block /* **/'], 'states 8', [('/**/', 'none'), ('/**a*/', 'none')]),
     (['block /* */'], 'states 7', [('/*/', 'none'), ('/*/*/', '5 comment'), ('/**/', '4 comment')]),
     (['block a a'], 'states 5', [('aa', '2 comment'), ('aba', '3 comment'), ('a', 'none')]),
     # 64 brackets, each with eight signs behind it.
@@ -169,7 +171,7 @@ def cases():
 
 
 def checks():
-    """Each lexicon: its lines, what `make` is owed, if it is known, and the texts with what they are."""
+    """Each lexicon: its lines, what `make` is owed, if known, and the texts with their matches."""
     yield from BY_HAND
     for given, texts in cases():
         pattern = re.compile(given.pattern)

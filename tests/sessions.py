@@ -46,6 +46,30 @@ CASES = [
 ]
 
 
+def whole(grammar, text, questions):
+    """The script of a grammar, a text and questions."""
+    return b'script 1\ngrammar %d\n%b\nopen %d\n%b\n%bend\n' % (
+        len(grammar), grammar, len(text), text, questions)
+
+
+REAL = {name: (EXAMPLES / (name + '.cf')).read_bytes() for name in ['json', 'imperative', 'lambda', 'lbnf']}
+for name, grammar in REAL.items():
+    CASES.append((
+        'the example ' + name,
+        whole(grammar, (EXAMPLES / (name + '.txt')).read_bytes(), (EXAMPLES / (name + '.ask')).read_bytes()),
+        (EXAMPLES / (name + '.replies')).read_bytes(),
+        0,
+    ))
+# Labelled BNF in itself reads all four.
+for name, tokens in [('json', 155), ('imperative', 181), ('lambda', 52), ('lbnf', 363)]:
+    CASES.append((
+        'labelled BNF reads the grammar ' + name,
+        whole(REAL['lbnf'], REAL[name], b'has\n'),
+        b'grammar rules 50 categories 13 kinds 36\nversion 0 tokens %d\nyes\nend\n' % tokens,
+        0,
+    ))
+
+
 def case(name, given, wanted, status):
     CASES.append((name, given, wanted, status))
 

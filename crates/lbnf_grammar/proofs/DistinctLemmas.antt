@@ -1,10 +1,11 @@
 -- Adding names one by one leaves them without repetitions, in the order of first meeting.
-use Rattle.std.proofs.Common.{◌≡◌, ℕ, ◌+◌, ◌≤◌, List, [], ◌∷◌, ◌++◌, length, Bool, true, false, not, ◌&&◌, ◌||◌, filter, refl, sym, ap, ◌∙◌, inl, inr, arith, append-nil, append_assoc, length-append, true≢false, take, cond, Some, slice_get}
+use Rattle.std.proofs.Common.{◌≡◌, ℕ, ◌+◌, ◌≤◌, List, [], ◌∷◌, ◌++◌, length, Bool, true, false, not, ◌&&◌, ◌||◌, filter, refl, sym, ap, ◌∙◌, inl, inr, arith, append-nil, append_assoc, length-append, true≢false, take, map, cond, Some, slice_get}
 use Rattle.std.specs.List.{list_any, AllByRecursion}
 use Rattle.std.specs.Str.{bytes_eq}
 use Rattle.std.specs.Cmp.Lexicographic.{nat_list_eq_equiv}
 use Rattle.std.proofs.lemmas.Bool.{cases_Bool}
 use Rattle.std.proofs.Math.Bool.{or-false, or_assoc}
+use Rattle.std.proofs.lemmas.List.{map-append}
 use Rattle.std.proofs.lemmas.List.Elements.{filter_agree, filter-append}
 use Rattle.std.proofs.lemmas.List.Folds.{list_any-append}
 use Rattle.std.proofs.lemmas.List.Sums.{fold-append}
@@ -172,3 +173,14 @@ passing_more passes start names i name at old new so_far added =
 pub filter_members : {X : Type 0} (p q : X → Bool) (xs : List X) → AllByRecursion (λ x. p x ≡ q x) xs → filter p xs ≡ filter q xs
 filter_members p q [] agree = refl
 filter_members p q (x ∷ xs) agree = λ i. cond (agree.0 i) (x ∷ filter_members p q xs agree.1 i) (filter_members p q xs agree.1 i)
+
+-- the names of the first items are added, and then that of the next
+pub named_more : {X : Type 0} (name : X → List ℕ) (start : List (List ℕ)) (xs : List X) (i : ℕ) (x : X) → slice_get xs i ≡ Some x
+    → (old new : List (List ℕ)) → old ≡ with_new_names start (map name (take i xs))
+    → new ≡ with_new_name old (name x) → new ≡ with_new_names start (map name (take (i + 1) xs))
+named_more name start xs i x at old new so_far added =
+    added
+    ∙ ap (λ l. with_new_name l (name x)) so_far
+    ∙ added_in_turn start (map name (take i xs)) (name x ∷ [])
+    ∙ ap (with_new_names start) (sym (map-append name (take i xs) (x ∷ [])))
+    ∙ ap (λ l. with_new_names start (map name l)) (sym (take_next xs i x at))

@@ -36,10 +36,6 @@ one_expression a b tokens is_a is_b =
     let same : first.0 ≡ second.0 = same_Some _ _ (sym first.1 ∙ second.1) in
     same_Some a b (sym first.2 ∙ ap whole_of same ∙ second.2)
 
--- the first state holds nothing
-first_held : first_state ≡ state_of (held outside None None None) None
-first_held = refl
-
 -- some expression can be read
 pub some_expression : GoesOn IsNothing ExpressionOf []
 some_expression =
@@ -269,10 +265,6 @@ filled_tells tokens short =
     token_tells filled_text (Text (codes "-")) (codes "-") refl
     (λ token text has is. let same = (filled_some token text has).0 in elim is [ inl e ↦ cc (same, e) | inr e ↦ cc (same, e) ])
     tokens short
-
--- some text can be read
-some_filled : GoesOn IsAny (TokenOf filled_text) []
-some_filled = token_some filled_text (Text (codes "-")) (codes "-") refl
 
 -- behind a comment's opening text: nothing, or a closing text
 abbrev pub CommentEnd : List ℕ → Spelling Def

@@ -14,7 +14,7 @@ use Rattle.lbnf_readers.specs.declared.expression_state.OpenAtom.TheVariants.{Br
 use Rattle.lbnf_readers.specs.declared.expression_state.OpenAtom.TheVariants.{AnyOf as OpenSet}
 use Rattle.lbnf_readers.specs.declared.expression_state.OpenAtom.TheVariants.{Word as OpenWord}
 use Rattle.lbnf_readers.specs.declared.expression_state.ExpressionState.{ExpressionState}
-use Rattle.lbnf_readers.specs.ExpressionReading.{if_below, split_last, side_of, level_expr, factor_step, sign_step, plain_step, step, whole_of}
+use Rattle.lbnf_readers.specs.ExpressionReading.{split_last, side_of, level_expr, factor_step, sign_step, plain_step, step, whole_of}
 
 -- the levels around the innermost, each by the alternatives that a bar ended, the differences that a
 -- minus sign is behind, and the sequence
@@ -204,10 +204,6 @@ pub levels_count : (around : Around) → length (levels_of around) ≡ depth_of 
 levels_count outside = refl
 levels_count (within around sides left part) =
     omega (arith, length-append (levels_of around) (level_of sides left part ∷ []), levels_count around)
-
--- what is below a limit
-pub is_below : {A : Type 0} (count limit : ℕ) (value : A) → count < limit → if_below count limit value ≡ Some value
-is_below count limit value lt = rw (lt-ltb count limit lt) refl
 
 -- the expression of a level is that of its alternatives
 pub level_is : (sides : Option Alternatives) (left : Option Differences) (part : Sequence)

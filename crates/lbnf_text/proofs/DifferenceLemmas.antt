@@ -1,18 +1,21 @@
 -- Looking at differences one after another.
-use Rattle.std.proofs.Common.{◌≡◌, ℕ, zero, suc, ◌+◌, ◌-◌, ◌^◌, ◌<◌, ◌≤◌, List, [], ◌∷◌, ◌++◌, length, map, All, Result, Ok, Err, Option, Some, None, slice_get, refl, sym, ap, subst, ◌∙◌, arith, inl, inr, length-append, true, false, Bool, IsTrue, ◌↔◌, IsUtf8}
+use Rattle.std.proofs.Common.{◌≡◌, ℕ, zero, suc, ◌+◌, ◌-◌, ◌^◌, ◌<◌, ◌≤◌, List, [], ◌∷◌, ◌++◌, length, map, All, Result, Ok, Err, Option, Some, None, slice_get, refl, sym, ap, subst, ◌∙◌, arith, inl, inr, get_or, drop, length-append, true, false, Bool, IsTrue, ◌↔◌, IsUtf8}
 use Rattle.std.specs.Bool.{MatchBool}
 use Rattle.std.specs.Str.{IsAscii, IsNotAscii, chars}
 use Rattle.std.proofs.lemmas.Bool.{cases_lt, false≢true}
 use Rattle.std.proofs.lemmas.Str.{chars-IsAscii, encodes-chars}
 use Rattle.std.proofs.lemmas.Str.Ascii.{All-from_ascii, IsAscii-from_all, encodes-IsAscii}
+use Rattle.std.proofs.lemmas.List.{at_drop_more, at_drop_all}
 use Rattle.std.proofs.lemmas.Option.{slice_get_within}
 use Rattle.std.proofs.lemmas.List.Elements.{All-nil, All-cons, All-append}
 use Rattle.spec_lexing.specs.declared.expression.Expr.{Expr}
-use Rattle.spec_lexing.specs.declared.expression.Expr.TheVariants.{Minus}
-use Rattle.spec_lexing.specs.Expressions.{all_in_turn, one_of, expression_of}
-use Rattle.spec_lexing.proofs.ExpressionLemmas.{expression-Minus}
+use Rattle.spec_lexing.specs.declared.expression.Expr.TheVariants.{Minus, Seq, Alt}
+use Rattle.spec_lexing.specs.Classes.{IsClass, IsAsciiClass}
+use Rattle.spec_lexing.specs.Expressions.{Expression, all_in_turn, one_of, expression_of}
+use Rattle.spec_lexing.proofs.ExpressionLemmas.{expression-Minus, expression-Seq, expression-Alt}
 use Rattle.spec_lbnf.specs.Checks.{IsFirst, HasAt}
-use Rattle.spec_lbnf.specs.Differences.{Difference, differences_in, IsGood, IsBad}
+use Rattle.spec_lbnf.specs.declared.definition.Def.{Def}
+use Rattle.spec_lbnf.specs.Differences.{Difference, differences_in, differences_of_def, differences_of, IsGood, IsBad}
 use Rattle.spec_lbnf.proofs.FirstLemmas.{none_at}
 use Rattle.lbnf_text.specs.BadDifferences.{differences_in_all, Looks}
 
@@ -33,7 +36,7 @@ place_in_front (x ∷ xs) ys zero lt = refl
 place_in_front (x ∷ xs) ys (suc k) lt = place_in_front xs ys k (omega arith)
 
 place_behind : {X : Type 0} (xs ys : List X) (k : ℕ) → slice_get (xs ++ ys) (length xs + k) ≡ slice_get ys k
-place_behind [] ys k = refl
+place_behind [] ys k = ap (slice_get ys) (omega arith)
 place_behind (x ∷ xs) ys k =
     let one : length (x ∷ xs) + k ≡ suc (length xs + k) = omega arith in
     rw one (place_behind xs ys k)
@@ -155,3 +158,65 @@ ascii_name name utf8 false wide =
       let same : chars name ≡ name = sym (encodes-IsAscii (chars name) bytes) ∙ encodes-chars name utf8 in
       let ascii : IsAscii name = subst IsAscii same bytes in
       absurd (omega (arith, wide.1, ascii wide.0)))
+
+-- a sequence is no class
+no_class : (parts : List Expression) → IsClass (all_in_turn parts) → ⊥
+no_class [] is = is
+no_class (part ∷ parts) is = is
+
+no_ascii_class : (parts : List Expression) → IsAsciiClass (all_in_turn parts) → ⊥
+no_ascii_class [] is = is
+no_ascii_class (part ∷ parts) is = is
+
+pub seq_is_no_class : (parts : List Expr) → IsTrue false ↔ IsClass (expression_of (Seq parts))
+seq_is_no_class parts =
+    (λ no. absurd (false≢true no), λ is. absurd (no_class (map expression_of parts) (subst IsClass (expression-Seq parts) is)))
+
+pub seq_is_no_ascii_class : (parts : List Expr) → IsTrue false ↔ IsAsciiClass (expression_of (Seq parts))
+seq_is_no_ascii_class parts =
+    (λ no. absurd (false≢true no), λ is. absurd (no_ascii_class (map expression_of parts) (subst IsAsciiClass (expression-Seq parts) is)))
+
+-- the differences in a form with parts are those in its parts
+pub seq_is : (parts : List Expr) → differences_in (expression_of (Seq parts)) ≡ differences_in_all parts
+seq_is parts = ap differences_in (expression-Seq parts) ∙ in_seq parts
+
+pub alt_is : (parts : List Expr) → differences_in (expression_of (Alt parts)) ≡ differences_in_all parts
+alt_is parts = ap differences_in (expression-Alt parts) ∙ in_alt parts
+
+-- behind the differences on the left of another, its own number fits
+pub next_number : (left right : Expr) (before number : ℕ)
+    → before + length (differences_in (expression_of (Minus left right))) < 2 ^ 32
+    → number ≡ before + length (differences_in (expression_of left)) → number + 1 < 2 ^ 32
+next_number left right before number few is =
+    let size =
+        ap (λ e. length (differences_in e)) (expression-Minus left right)
+        ∙ length-append (differences_in (expression_of left)) ((expression_of left, expression_of right) ∷ differences_in (expression_of right)) in
+    omega (arith, few, is, size)
+
+-- the differences in the next one, and in those behind it
+pub next_expr : (xs : List Expr) (i : ℕ) (x : Expr) → i < length xs → get_or xs i x ≡ x
+    → differences_in_all (drop i xs) ≡ differences_in (expression_of x) ++ differences_in_all (drop (i + 1) xs)
+next_expr xs i x lt is =
+    at_drop_more differences_in_all xs i x lt
+    ∙ ap (λ (y : Expr). differences_in (expression_of y) ++ differences_in_all (drop (i + 1) xs)) is
+
+pub no_more_exprs : (xs : List Expr) (i : ℕ) → length xs ≤ i → differences_in_all (drop i xs) ≡ []
+no_more_exprs xs i past = at_drop_all differences_in_all xs i past
+
+pub next_def : (xs : List Def) (i : ℕ) (x : Def) → i < length xs → get_or xs i x ≡ x
+    → differences_of (drop i xs) ≡ differences_of_def x ++ differences_of (drop (i + 1) xs)
+next_def xs i x lt is =
+    at_drop_more differences_of xs i x lt
+    ∙ ap (λ (y : Def). differences_of_def y ++ differences_of (drop (i + 1) xs)) is
+
+pub no_more_defs : (xs : List Def) (i : ℕ) → length xs ≤ i → differences_of (drop i xs) ≡ []
+no_more_defs xs i past = at_drop_all differences_of xs i past
+
+-- the differences in the parts are no more than those in the form
+pub seq_few : (expr : Expr) (parts now : List Expr) (before : ℕ) → now ≡ parts → expr ≡ Seq parts
+    → before + length (differences_in (expression_of expr)) < 2 ^ 32 → before + length (differences_in_all now) < 2 ^ 32
+seq_few expr parts now before same is few = rw same (rw (is, seq_is parts) at few)
+
+pub alt_few : (expr : Expr) (parts now : List Expr) (before : ℕ) → now ≡ parts → expr ≡ Alt parts
+    → before + length (differences_in (expression_of expr)) < 2 ^ 32 → before + length (differences_in_all now) < 2 ^ 32
+alt_few expr parts now before same is few = rw same (rw (is, alt_is parts) at few)

@@ -1,5 +1,6 @@
 -- Steps of the reader of token expressions.
-use Rattle.std.proofs.Common.{◌≡◌, ◌≢◌, ℕ, List, [], ◌∷◌, ◌++◌, length, Option, Some, None, refl, sym, ap, ◌∙◌, arith, true, false, IsTrue}
+use Rattle.std.proofs.lemmas.Bool.{lt-ltb, false≢true}
+use Rattle.std.proofs.Common.{◌≡◌, ◌≢◌, ◌+◌, ◌<◌, Result, Ok, Err, ℕ, List, [], ◌∷◌, ◌++◌, length, Option, Some, None, refl, sym, ap, ◌∙◌, arith, true, false, IsTrue}
 use Rattle.std.specs.Prelude.{option_map}
 use Rattle.spec_lexing.specs.declared.expression.Expr.{Expr}
 use Rattle.spec_lexing.specs.declared.expression.Expr.TheVariants.{AnyOf, Word}
@@ -17,7 +18,15 @@ use Rattle.lbnf_readers.specs.declared.expression_state.OpenAtom.TheVariants as 
 use Rattle.lbnf_readers.specs.declared.expression_state.ExpressionState.{ExpressionState}
 use Rattle.lbnf_readers.specs.ExpressionReading.{atom_step, plain_step, sign_step, step, whole_of, begin_atom}
 use Rattle.lbnf_readers.specs.FileReading.{got, stuck, text_value, expression_from}
-use Rattle.lbnf_text.specs.Expressions.{closed_by}
+use Rattle.lbnf_readers.specs.ExpressionReading.{with_factor, level_expr, suffix_step, close_step, first_state}
+use Rattle.lbnf_readers.proofs.StateLemmas.{split_last-push}
+use Rattle.spec_lbnf.specs.TokenExpressions.{Suffix, suffix_expr}
+use Rattle.spec_lbnf.specs.Words.{is_empty}
+use Rattle.lbnf_readers.specs.FileReading.{expression_at}
+use Rattle.lbnf_text.specs.declared.parser.Stop.{Stop}
+use Rattle.lbnf_text.specs.declared.parser.Stop.TheVariants.{Memory, Stuck}
+use Rattle.lbnf_text.specs.Expressions.{closed_by, StepsTo}
+use Rattle.lbnf_text.specs.Parsing.{Gives, stopped}
 
 -- several parts, or none, are taken together
 pub taken_together : (parts : List Expr) → length parts ≢ 1 → (together : List Expr → Expr) → alone_or together parts ≡ together parts
@@ -29,36 +38,6 @@ module _ (state : ExpressionState) where
   -- the state without an atom that is open
   abbrev pub bare_state : ExpressionState
   bare_state = record { outer = state.outer; level = state.level; atom = None }
-
-  -- a sign does not look at the atom that is open
-  bare_sign : (s : Sign) → sign_step bare_state s ≡ sign_step state s
-  unfolding sign_step
-  bare_sign sign.Dot = refl
-  bare_sign sign.Semicolon = refl
-  bare_sign sign.Gives = refl
-  bare_sign sign.Colon = refl
-  bare_sign sign.OpenBracket = refl
-  bare_sign sign.CloseBracket = refl
-  bare_sign sign.OpenParen = refl
-  bare_sign sign.CloseParen = refl
-  bare_sign sign.OpenBrace = refl
-  bare_sign sign.CloseBrace = refl
-  bare_sign sign.Comma = refl
-  bare_sign sign.Bar = refl
-  bare_sign sign.Star = refl
-  bare_sign sign.Plus = refl
-  bare_sign sign.Question = refl
-  bare_sign sign.Minus = refl
-  bare_sign sign.Underscore = refl
-
-  -- where no atom is open, a token is read plainly
-  pub step_plainly : (token : FileToken) → state.atom ≡ None → step state token ≡ plain_step bare_state token
-  unfolding step plain_step
-  step_plainly (Identifier name) none = rw none refl
-  step_plainly (Number value) none = rw none refl
-  step_plainly (Text value) none = rw none refl
-  step_plainly (Character scalar) none = rw none refl
-  step_plainly (SignToken s) none = rw none (sym (bare_sign s))
 
   -- behind the first sign of an atom its string is read
   pub opened_set : (token : FileToken) → atom_step state part.Bracket token ≡ option_map (λ name. begin_atom state (part.AnyOf name)) (text_value token)
@@ -137,7 +116,7 @@ module _ (state : ExpressionState) where
 -- where an atom is open, a token is read within it
 pub step_within : (state : ExpressionState) (opened : OpenAtom) (token : FileToken) → state.atom ≡ Some opened
     → step state token ≡ atom_step (bare_state state) opened token
-unfolding step
+unfolding step atom_step
 step_within state part.Bracket token is = rw is (opened_set state token ∙ sym (opened_set (bare_state state) token))
 step_within state part.Brace token is = rw is (opened_word state token ∙ sym (opened_word (bare_state state) token))
 step_within state (part.AnyOf name) token is = rw is (closed_set state name token ∙ sym (closed_set (bare_state state) name token))
@@ -165,3 +144,37 @@ pub no_end : (tokens : List PlacedToken) (state : ExpressionState) → tokens �
     → expression_from tokens state ≡ stuck tokens
 unfolding expression_from
 no_end tokens state none not_whole = rw (none, not_whole) refl
+
+-- the level with a sign behind its last factor
+pub with_sign : (level : Level) (suffix : Suffix) (front : List Expr) (last : Expr) (factors : List Expr)
+    → level.factors ≡ front ++ last ∷ [] → level.signs < 8 → factors ≡ front ++ suffix_expr suffix last ∷ []
+    → suffix_step level suffix
+    ≡ Some (record { alternatives = level.alternatives; left = level.left; minus_signs = level.minus_signs; factors = factors; signs = level.signs + 1 })
+with_sign level suffix front last factors is few pushed = rw (is, split_last-push front last, lt-ltb level.signs 8 few, pushed) refl
+
+-- a list that has an item is not empty
+some_items : {A : Type 0} (xs : List A) → (xs ≡ [] → IsTrue false) → is_empty xs ≡ false
+some_items [] some = absurd (false≢true (some refl))
+some_items (x ∷ xs) some = refl
+
+-- the state behind a close bracket
+pub with_close : (state : ExpressionState) (outer : List Level) (around next : Level) → (state.level.factors ≡ [] → IsTrue false)
+    → state.outer ≡ outer ++ around ∷ [] → next ≡ with_factor around (level_expr state.level)
+    → close_step state ≡ Some (record { outer = outer; level = next; atom = None })
+with_close state outer around next some is made = rw (some_items state.level.factors some, is, split_last-push outer around, made) refl
+
+-- at first nothing is read
+pub nothing_read : (tokens : List PlacedToken) → expression_at tokens ≡ expression_from tokens first_state
+unfolding expression_at
+nothing_read tokens = refl
+
+module _ (old tokens : List PlacedToken) (state : ExpressionState) (read : expression_at old ≡ expression_from tokens state) where
+  -- a token that cannot stand is where the reader stops
+  pub not_read : (token : PlacedToken) (behind : List PlacedToken) (stop : Stop) → tokens ≡ token ∷ behind
+      → (step state token.token ≡ None) × (stop ≡ Stuck) → expression_at old ≡ stopped stop tokens
+  not_read token behind stop split (none, is) = rw is (read ∙ no_token tokens token behind state split none)
+
+  -- where no token is left, the answer is the expression that is whole
+  pub all_read : (answer : Result Expr Stop) → tokens ≡ [] → StepsTo (whole_of state) answer → Gives (expression_at old) answer tokens
+  all_read (Ok expr) none some = read ∙ whole_end tokens state expr none some
+  all_read (Err stop) none steps = λ free. rw (steps free).1 (read ∙ no_end tokens state none (steps free).0)

@@ -101,6 +101,7 @@ fn is_good(left: &Expr, right: &Expr) -> bool
 /// Looks at the differences in the expression, before which there are so many: how many there are
 /// up to its end, or the number of the first that is bad.
 #[cycle(look_at)]
+#[tactic(auto, using(crate::proofs::DifferenceLemmas::seq_few, crate::proofs::DifferenceLemmas::alt_few))]
 fn look_at(expr: &Expr, before: u32) -> Result<u32, u32>
     requires { before + length (differences_in (expression_of expr.now)) < 2 ^ 32 }
     ensures { Looks (differences_in (expression_of expr.now)) before result }

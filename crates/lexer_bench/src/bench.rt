@@ -43,7 +43,12 @@ fn make(rt: &impl Print, alloc: Global, bench: &mut Bench) -> io::Result<Outcome
     if kinds.len() > MOST_KINDS {
         return Ok(Outcome::Unknown);
     }
-    match automaton(alloc, parts.lines.as_slice(), parts.blocks.as_slice(), kinds) {
+    match automaton(
+        alloc,
+        parts.lines.as_slice(),
+        parts.blocks.as_slice(),
+        kinds,
+    ) {
         Ok(made) => {
             println!(rt; "states {}", made.state_count())?;
             bench.automaton = Some(made);

@@ -1,7 +1,7 @@
 //! Measures automata, and tries them on texts. Standard input says line by line what is done:
 //!
-//! - `line W`, `block W V`, `word W` and `token E` add a line comment, a block comment, a word, and a
-//!   token with an expression in reverse Polish notation (`polish`).
+//! - `line W`, `block W V`, `word W` and `token E` add a line comment, a block comment, a word, and
+//!   a token with an expression in reverse Polish notation (`polish`).
 //! - `make` makes the automaton of what was added, and writes how many states it has, or that they
 //!   are too many.
 //! - `text T` writes the longest match at the beginning of T: its length and its kind, or none.

@@ -1,7 +1,7 @@
-//! Token expressions in reverse Polish notation, with white space between its words: `eps`, `digit`,
-//! `letter`, `upper`, `lower`, `char`, `'c` (the scalar c), `[w` (one of the scalars of w) and `{w`
-//! (the word w) are expressions. `*`, `+` and `?` stand behind one, `-` behind two, and `.N` and
-//! `|N` behind N, which are in turn or of which each may be.
+//! Token expressions in reverse Polish notation, with white space between its words: `eps`,
+//! `digit`, `letter`, `upper`, `lower`, `char`, `'c` (the scalar c), `[w` (one of the scalars of w)
+//! and `{w` (the word w) are expressions. `*`, `+` and `?` stand behind one, `-` behind two, and
+//! `.N` and `|N` behind N, which are in turn or of which each may be.
 use crate::parts::name;
 use spec_lexing::{Class, Expr};
 use sqlite_items::{Boxed, Items};

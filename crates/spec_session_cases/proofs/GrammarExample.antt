@@ -1,5 +1,5 @@
 -- A grammar of one rule, `A. S ::= "a"`, and the text `a` under it, worked by hand.
-use Rattle.std.proofs.Common.{◌≡◌, ℕ, zero, suc, inr, List, [], ◌∷◌, ◌++◌, length, Some, slice_get, codes, decimal, refl, sym, ◌∙◌, ap, subst, arith, get_or, length-append}
+use Rattle.std.proofs.Common.{◌≡◌, ℕ, zero, suc, inr, List, [], ◌∷◌, ◌++◌, length, All, Some, slice_get, codes, decimal, refl, sym, ◌∙◌, ap, subst, arith, get_or, length-append}
 use Rattle.std.specs.Char.{encode_utf8}
 use Rattle.std.specs.Str.{chars, is_utf8}
 use Rattle.std.proofs.lemmas.Fmt.{decimal_digit}
@@ -24,7 +24,7 @@ use Rattle.spec_lbnf.specs.declared.definition.Def.TheVariants.{Rule}
 use Rattle.spec_lbnf.specs.Faults.{Spells}
 use Rattle.spec_grammar.specs.Grammars.{Grammar, IsTokenNamed}
 use Rattle.spec_lbnf.specs.Expansion.{expansion_of}
-use Rattle.spec_lbnf.specs.Checks.{IsPredefined, IsFree, IsKnown, IsWellLabelled, NamesKnown, AreFit}
+use Rattle.spec_lbnf.specs.Checks.{IsTaken, IsFree, HasOwnNames, own_names, IsKnown, IsWellLabelled, NamesKnown, AreFit}
 use Rattle.lbnf_readers.specs.Scanning.{scan_of, behind_closing, behind_space, identifier_at, number_token_at, literal_from, string_at, character_at, sign_token_at, file_token_at, tokens_from}
 use Rattle.lbnf_readers.specs.FileReading.{next_on, take_token, sign_at, name_at, text_at, number_at, closes_at, bracketed_at, category_at, nil_at, one_at, colon_label_at, paren_label_at, sign_label_at, label_at, item_at, items_at, side_at, rule_at, macro_at, list_macro_at, coercions_at, more_entries_at, entries_at, to_end, def_by, def_at}
 use Rattle.lbnf_readers.specs.FileDefinitions.{piece_def, defs_at}
@@ -66,14 +66,21 @@ spells =
     defs_are rule_block (scan_of rule_block).0 (scan_of rule_block).1 (scanned rule_block) rule_defs (record { few = omega arith; utf8 = IsUtf8-from_is_utf8 rule_block refl }) refl refl
     (All-from_recursion IsGood [] tt)
 
--- no predefined name has one byte
-own_name : IsPredefined (codes "S") → ⊥
+-- no name of a kind has one byte
+own_name : IsTaken rule_defs 0 rule_def (codes "S") → ⊥
 own_name (zero, lt, e) = omega (arith, ap length e)
 own_name (suc zero, lt, e) = omega (arith, ap length e)
 own_name (suc (suc zero), lt, e) = omega (arith, ap length e)
 own_name (suc (suc (suc zero)), lt, e) = omega (arith, ap length e)
 own_name (suc (suc (suc (suc zero))), lt, e) = omega (arith, ap length e)
 own_name (suc (suc (suc (suc (suc k)))), lt, e) = omega (arith, lt)
+
+-- so the definition repeats no name
+own_free : HasOwnNames rule_defs
+own_free zero def is =
+    subst (λ d. All (IsFree rule_defs 0 d) (own_names d)) (same_Some rule_def def is)
+    (All-from_recursion (IsFree rule_defs 0 rule_def) (codes "S" ∷ []) (own_name, tt))
+own_free (suc number) def is = absurd (none-some def is)
 
 -- the right side has no category
 no_category : (before : List Symbol) (b : ℕ) (behind : List Symbol) → Kind 0 ∷ [] ≡ before ++ (Category b ∷ behind) → ⊥
@@ -94,7 +101,7 @@ fit : AreFit rule_defs
 fit = record {
   labelled = All-from_recursion IsWellLabelled rule_defs ((λ bad. cc bad.0, λ bad. omega (arith, bad)), tt);
   few = omega arith;
-  own_names = All-from_recursion IsFree (codes "S" ∷ []) (own_name, tt);
+  own_names = own_free;
   known = All-from_recursion (NamesKnown rule_defs) rule_defs (All-from_recursion (IsKnown rule_defs) [] tt, tt);
   acyclic = λ c is. no_step c is.1.0 is.1.1;
 }

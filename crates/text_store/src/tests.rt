@@ -49,16 +49,13 @@ fn words(alloc: Global, texts: &[&str]) -> Result<Vec<KindDef>, AllocError>
 fn lexer(alloc: Global, texts: &[&str]) -> Result<Automaton, Fail>
     ensures { IfOk result (λ a. (lexicon : Lexicon) × Lexes lexicon a) }
 {
-    let line = name(alloc, "--")?;
-    let opening = name(alloc, "{-")?;
-    let closing = name(alloc, "-}")?;
-    let lines = vec![in alloc; line]?;
-    let blocks = vec![in alloc; (opening, closing)]?;
+    let lines = [name(alloc, "--")?];
+    let blocks = [(name(alloc, "{-")?, name(alloc, "-}")?)];
     let kinds = words(alloc, texts)?;
     if kinds.len() > 65535 {
         return Err("a list of few words".into());
     }
-    match automaton(alloc, lines.as_slice(), blocks.as_slice(), kinds.as_slice()) {
+    match automaton(alloc, &lines, &blocks, kinds.as_slice()) {
         Ok(automaton) => Ok(automaton),
         Err(LexFault::Memory) => Err("memory".into()),
         Err(LexFault::TooManyStates) => Err("a lexicon of few states".into()),

@@ -3,8 +3,8 @@ use Rattle.std.proofs.lemmas.Result.{err_from_is_err_and}
 use Rattle.spec_lbnf.specs.declared.definition.Def.{Def}
 use Rattle.spec_lbnf.specs.FileTokens.{IsScan}
 use Rattle.lbnf_readers.specs.FileDefinitions.{defs_of}
-use Rattle.lbnf_readers.proofs.FaultLemmas.{defs_are, stop_is, fault_is}
-use Rattle.lbnf_text.proofs.FileLemmas.{told_fault, stop_within, few_tokens}
+use Rattle.lbnf_readers.proofs.FaultLemmas.{defs_are, bad_is, stop_is, fault_is}
+use Rattle.lbnf_text.proofs.FileLemmas.{told_fault, stop_within, signs_for_each, few_differences}
 use Rattle.lbnf_text.proofs.reading.read_text.Goals as goal
 
 pub returns-in_err-defs : goal.returns-in_err-defs
@@ -19,8 +19,28 @@ returns-then-scan-text c =
     let early : c.in_ok-scan.scan.stop < length c.args.text.now = omega arith in
     inr (stop_is c.args.text.now c.in_ok-scan.scan.tokens.items c.in_ok-scan.scan.stop scan c.in_ok-defs.defs.items (record { few = c.requires; utf8 = c.utf8.text }) early (rw (← c.as_slice.ensures.value) c.in_ok-defs.ensures))
 
-pub returns : goal.returns
-returns c =
+pub bad_difference-requires-clause-signs : goal.bad_difference-requires-clause-signs
+bad_difference-requires-clause-signs c =
     let scan : IsScan c.args.text.now c.in_ok-scan.scan.tokens.items c.in_ok-scan.scan.stop = search rules in
     let end : c.in_ok-scan.scan.stop ≡ length c.args.text.now = omega (arith, stop_within c.args.text.now c.in_ok-scan.scan.tokens.items c.in_ok-scan.scan.stop scan) in
-    defs_are c.args.text.now c.in_ok-scan.scan.tokens.items c.in_ok-scan.scan.stop scan c.in_ok-defs.defs.items (record { few = c.requires; utf8 = c.utf8.text }) end (rw (← c.as_slice.ensures.value) c.in_ok-defs.ensures)
+    let same = signs_for_each c.args.text.now c.in_ok-scan.scan.tokens.items c.in_ok-scan.scan.stop scan c.in_ok-defs.defs.items (record { few = c.requires; utf8 = c.utf8.text }) end (rw (← c.as_slice.ensures.value) c.in_ok-defs.ensures) in
+    rw (c.as_slice-2.ensures.value, c.as_slice-3.ensures.value) same
+
+pub bad_difference-requires-clause-few : goal.bad_difference-requires-clause-few
+bad_difference-requires-clause-few c =
+    let scan : IsScan c.args.text.now c.in_ok-scan.scan.tokens.items c.in_ok-scan.scan.stop = search rules in
+    let end : c.in_ok-scan.scan.stop ≡ length c.args.text.now = omega (arith, stop_within c.args.text.now c.in_ok-scan.scan.tokens.items c.in_ok-scan.scan.stop scan) in
+    let few = few_differences c.args.text.now c.in_ok-scan.scan.tokens.items c.in_ok-scan.scan.stop scan c.in_ok-defs.defs.items (record { few = c.requires; utf8 = c.utf8.text }) end (rw (← c.as_slice.ensures.value) c.in_ok-defs.ensures) in
+    rw c.as_slice-2.ensures.value few
+
+pub returns-in-None : goal.returns-in-None
+returns-in-None c =
+    let scan : IsScan c.args.text.now c.in_ok-scan.scan.tokens.items c.in_ok-scan.scan.stop = search rules in
+    let end : c.in_ok-scan.scan.stop ≡ length c.args.text.now = omega (arith, stop_within c.args.text.now c.in_ok-scan.scan.tokens.items c.in_ok-scan.scan.stop scan) in
+    defs_are c.args.text.now c.in_ok-scan.scan.tokens.items c.in_ok-scan.scan.stop scan c.in_ok-defs.defs.items (record { few = c.requires; utf8 = c.utf8.text }) end (rw (← c.as_slice.ensures.value) c.in_ok-defs.ensures) (rw c.as_slice-2.ensures.value at c.in-None.ensures)
+
+pub returns-in-Some : goal.returns-in-Some
+returns-in-Some c =
+    let scan : IsScan c.args.text.now c.in_ok-scan.scan.tokens.items c.in_ok-scan.scan.stop = search rules in
+    let end : c.in_ok-scan.scan.stop ≡ length c.args.text.now = omega (arith, stop_within c.args.text.now c.in_ok-scan.scan.tokens.items c.in_ok-scan.scan.stop scan) in
+    inr (bad_is c.args.text.now c.in_ok-scan.scan.tokens.items c.in_ok-scan.scan.stop scan c.in_ok-defs.defs.items c.in-Some.at (record { few = c.requires; utf8 = c.utf8.text }) end (rw (← c.as_slice.ensures.value) c.in_ok-defs.ensures) (rw (c.as_slice-2.ensures.value, c.as_slice-3.ensures.value) at c.in-Some.ensures))

@@ -1,0 +1,99 @@
+//! Small grammars, told by their rules alone: the names are empty.
+use numbered_grammar::{Grammar, Items, KindDef, Label, Name, Rule, Symbol};
+use std::alloc::Global;
+
+/// A rule by its category's number and its items.
+pub type Side = (u16, &'static [Symbol]);
+
+/// How many categories and kinds there are, and the rules.
+pub type Sample = (u16, u16, &'static [Side]);
+
+const S: Symbol = Symbol::Category(0);
+
+const A: Symbol = Symbol::Category(1);
+
+const B: Symbol = Symbol::Category(2);
+
+const FIRST: Symbol = Symbol::Kind(0);
+
+const SECOND: Symbol = Symbol::Kind(1);
+
+const NUMBER: Symbol = Symbol::Kind(4);
+
+const EMPTY: &[Symbol] = &[];
+
+/// `S ::= S S`, `S ::= a`.
+pub const TWINS: Sample = (1, 1, &[(0, &[S, S]), (0, &[FIRST])]);
+
+/// `S ::= S S S`, `S ::= a`.
+pub const TRIPLES: Sample = (1, 1, &[(0, &[S, S, S]), (0, &[FIRST])]);
+
+/// `S ::= A B`, `A ::=`, `B ::=`, `A ::= a`.
+pub const PAIRS: Sample = (3, 1, &[(0, &[A, B]), (1, EMPTY), (2, EMPTY), (1, &[FIRST])]);
+
+/// Statements `S ::= skip`, and lists `A ::=`, `A ::= S ; A` of them.
+pub const LISTS: Sample = (2, 2, &[(0, &[FIRST]), (1, EMPTY), (1, &[S, SECOND, A])]);
+
+/// Sums, products and numbers: `S ::= S + A`, `A ::= A * B`, `B ::= number`, `S ::= A`, `A ::= B`,
+/// `B ::= ( S )`.
+pub const SUMS: Sample = (
+    3,
+    5,
+    &[
+        (0, &[S, FIRST, A]),
+        (1, &[A, SECOND, B]),
+        (2, &[NUMBER]),
+        (0, &[A]),
+        (1, &[B]),
+        (2, &[Symbol::Kind(2), S, Symbol::Kind(3)]),
+    ],
+);
+
+fn names(alloc: Global, count: u16) -> Option<Vec<Name>> {
+    let mut names = Vec::new(alloc);
+    for _ in 0..count {
+        names.push(Name::of(Vec::new(alloc))).ok()?;
+    }
+    Some(names)
+}
+
+fn words(alloc: Global, count: u16) -> Option<Vec<KindDef>> {
+    let mut kinds = Vec::new(alloc);
+    for _ in 0..count {
+        kinds.push(KindDef::Word(Name::of(Vec::new(alloc)))).ok()?;
+    }
+    Some(kinds)
+}
+
+fn rule_of(alloc: Global, category: u16, items: &[Symbol]) -> Option<Rule> {
+    Some(Rule {
+        label: Label::Wild,
+        category,
+        items: Items::from_slice(alloc, items).ok()?,
+    })
+}
+
+/// The grammar of the sample, `None` where memory ran out or it is no grammar.
+pub fn grammar_of(alloc: Global, sample: Sample) -> Option<Grammar> {
+    let (categories, kinds, sides) = sample;
+    let mut rules = Vec::new(alloc);
+    for (category, items) in sides {
+        rules.push(rule_of(alloc, *category, items)?).ok()?;
+    }
+    let names = names(alloc, categories)?;
+    Grammar::of_rules(alloc, rules, names, words(alloc, kinds)?).ok()?
+}
+
+/// Category 2 is two of the next, and so on up to category 23, which is nothing: its tree has
+/// 2^22 - 1 nodes. Category 1 is that category alone, and category 0 is category 1 alone.
+pub fn doubling(alloc: Global) -> Option<Grammar> {
+    let mut rules = Vec::new(alloc);
+    for category in 0..23 {
+        let next = Symbol::Category(category + 1);
+        let items = [next, next];
+        let count = if category < 2 { 1 } else { 2 };
+        rules.push(rule_of(alloc, category, &items[..count])?).ok()?;
+    }
+    rules.push(rule_of(alloc, 23, &[])?).ok()?;
+    Grammar::of_rules(alloc, rules, names(alloc, 24)?, Vec::new(alloc)).ok()?
+}

@@ -1,0 +1,3 @@
+pub mod TreeNodes
+pub mod Laws
+pub mod Codes
