@@ -189,7 +189,22 @@ for name, more in [
     ('an empty line behind the text', b'\nend\n'),
     ('an edit', b'edit 0 1 1\nb\nend\n'),
     ('a question for a tree', b'tree S 0 2\nend\n'),
-    ('a question for tokens', b'tokens\nend\n'),
+    ('a question for tokens without its LF', b'tokens'),
+    ('a question for tokens with a space behind', b'tokens \nend\n'),
+    ('a question for tokens that ends in CR LF', b'tokens\r\nend\n'),
+    ('a question for tokens in upper case', b'TOKENS\nend\n'),
+    ('a question for a token', b'token\nend\n'),
+    ('a question for tokens with a name', b'tokens S\nend\n'),
+    ('a question for tokens with one number', b'tokens 0\nend\n'),
+    ('a question for tokens with one number and a space behind', b'tokens 0 \nend\n'),
+    ('a question for tokens with three numbers', b'tokens 0 1 2\nend\n'),
+    ('a question for tokens with a name and a span', b'tokens S 0 2\nend\n'),
+    ('a question for tokens with two spaces before its numbers', b'tokens  0 2\nend\n'),
+    ('a question for tokens with two spaces between its numbers', b'tokens 0  2\nend\n'),
+    ('a question for tokens with a space behind its numbers', b'tokens 0 2 \nend\n'),
+    ('a question for tokens with a leading zero', b'tokens 00 2\nend\n'),
+    ('a question for tokens with a number of ten digits', b'tokens 0 1000000000\nend\n'),
+    ('a question for tokens without a space', b'tokens0 2\nend\n'),
     ('a question of one word without its LF', b'has'),
     ('a question of one word with a space behind', b'has \nend\n'),
     ('a question of one word that ends in CR LF', b'has\r\nend\n'),
@@ -272,6 +287,11 @@ for name, more, wanted in [
     ('a word for a category', b'has a 0 1\n' + END, b'refused category\n'),
     ('a list for a category', b'has [S] 0 2\n' + END, b'refused category\n'),
     ('a question of 256 bytes', b'has ' + b'A' * 248 + b' 0 0\n' + END, b'refused category\n'),
+    ('the tokens of the text', b'tokens\n' + END, b'tokens 2 word:a word:a\n'),
+    ('the tokens of each span', b'tokens 0 0\ntokens 0 1\ntokens 0 2\ntokens 1 1\ntokens 1 2\ntokens 2 2\n' + END,
+     b'tokens 0\ntokens 1 word:a\ntokens 2 word:a word:a\ntokens 0\ntokens 1 word:a\ntokens 0\n'),
+    ('tokens of spans that the text does not have', b'tokens 0 3\ntokens 3 3\ntokens 1 0\ntokens 9 8\ntokens 0 999999999\n' + END,
+     b'refused span 2\n' * 5),
     ('each span of two tokens', b'has S 0 0\nhas S 0 1\nhas S 0 2\nhas S 1 1\nhas S 1 2\nhas S 2 2\n' + END, b'no\nyes\nyes\nno\nyes\nno\n'),
 ]:
     case(name, HGO + more, OPENED + wanted + b'end\n', 0)
@@ -307,6 +327,19 @@ for name, text, tokens, questions, answers in [
     ('a text of 4,096 bytes of 64 words', (b'a' + b' ' * 63) * 64, 64, b'has S 0 64\nhas S 63 64\nhas S 0 65\n', b'yes\nyes\nrefused span 64\n'),
 ]:
     case(name, HG + open_text(text) + questions + END, RULES + version(tokens) + answers + b'end\n', 0)
+
+
+# The tokens of such texts, by their bytes: a control byte is told by its number, and a backslash doubled.
+for name, text, wanted in [
+    ('no tokens of an empty text', b'', b'tokens 0\n'),
+    ('no tokens of white space', b' \n\t', b'tokens 0\n'),
+    ('stray tokens among words', b'a?ab', b'tokens 4 word:a stray:? word:a stray:b\n'),
+    ('stray tokens that are escaped', b'\x00a\\\x1f\x7f', b'tokens 5 stray:\\x00 word:a stray:\\\\ stray:\\x1f stray:\\x7f\n'),
+    ('stray tokens of signs', b'":"', b'tokens 3 stray:" stray:: stray:"\n'),
+    ('many tokens', b'a' * 4096, b'tokens 4096' + b' word:a' * 4096 + b'\n'),
+]:
+    tokens = int(wanted.split()[1])
+    case(name, HG + open_text(text) + b'tokens\n' + END, RULES + version(tokens) + wanted + END, 0)
 
 
 def with_grammar(grammar, more):

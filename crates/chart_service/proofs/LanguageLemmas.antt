@@ -5,7 +5,7 @@ use Rattle.std.specs.Str.{IsUtf8}
 use Rattle.std.proofs.lemmas.Bool.{cases_lt}
 use Rattle.std.proofs.lemmas.Option.{same_Some, none-some}
 use Rattle.std.proofs.lemmas.List.Elements.{All-map, All-nil}
-use Rattle.spec_lbnf.proofs.NameLemmas.{distinct_names}
+use Rattle.spec_lbnf.proofs.SymbolNameLemmas.{one_symbol_each}
 use Rattle.spec_lexing.specs.declared.kind_def.KindDef.TheVariants.{Word as WordKind}
 use Rattle.spec_lexing.specs.Classes.{IsSoundDef}
 use Rattle.spec_lexing.specs.Lexicon.{Lexicon, lexicon_of}
@@ -13,7 +13,7 @@ use Rattle.spec_lexing.specs.Kinds.{IsWordKind, HasWordsAlone}
 use Rattle.spec_lexing.proofs.KindsLemmas.{lexicon_of_words}
 use Rattle.spec_automata.specs.States.{HasTooManyStates}
 use Rattle.spec_lbnf.specs.declared.definition.Def.{Def}
-use Rattle.spec_grammar.specs.Grammars.{Grammar, symbol_count}
+use Rattle.spec_grammar.specs.Grammars.{Grammar, HasDistinctNames, symbol_count}
 use Rattle.spec_lbnf.specs.Expansion.{expansion_of, rules_of, words_of}
 use Rattle.spec_lbnf.specs.declared.fault.TextFault.{TextFault}
 use Rattle.spec_lbnf.specs.declared.fault.TextFault.TheVariants.{TooLarge}
@@ -36,7 +36,7 @@ use Rattle.binary_form.specs.declared.fault.BinaryFault.TheVariants.{Memory as B
 use Rattle.chart_service.specs.declared.accepting.LanguageFault.{LanguageFault}
 use Rattle.chart_service.specs.declared.accepting.LanguageFault.TheVariants.{Text, Lex, Binary}
 use Rattle.chart_service.specs.declared.accepting.LanguageFault.TheVariants.{Grammar as UnfitGrammar}
-use Rattle.chart_service.specs.Languages.{HasDistinctNames, CanOpen, IsFaultOf, MakesLexer, reason_of, IsRefusal}
+use Rattle.chart_service.specs.Languages.{CanOpen, IsFaultOf, MakesLexer, reason_of, IsRefusal}
 
 -- a count is within this room or above 2,048, which is no more than the room
 pub room_or_many : (count room : ℕ) → 2048 ≤ room → (count ≤ room) ⊎ (2048 < count)
@@ -58,9 +58,9 @@ pub spelled_words : (defs : List Def) (g : Grammar) → g ≡ expansion_of defs 
 spelled_words defs g e =
     subst (λ (x : Grammar). HasWordsAlone x.lexicon) (sym e) (words_alone (words_of (rules_of defs)))
 
--- and no category's text stands twice in it
-spelled_distinct : (defs : List Def) (g : Grammar) → g ≡ expansion_of defs → HasDistinctNames g
-spelled_distinct defs g e = subst HasDistinctNames (sym e) (distinct_names _).once
+-- and no two symbols of it have one name, where the definitions are fit
+spelled_distinct : (defs : List Def) → AreFit defs → (g : Grammar) → g ≡ expansion_of defs → HasDistinctNames g
+spelled_distinct defs fit g e = subst HasDistinctNames (sym e) (one_symbol_each defs fit.own_names)
 
 -- an automaton of words that are UTF-8 lexes texts as the lexicon of the words does
 pub words_lexed : (lexicon : Lexicon) → HasWordsAlone lexicon → All IsSoundDef lexicon.kinds
@@ -117,7 +117,7 @@ module _ (block : List ℕ) (defs : List Def) (g : Grammar) (spells : Spells blo
   pub can_open : (room : ℕ) (binary own : Grammar) → 2048 ≤ room → MakesBinary g (Ok binary) → own ≡ g
       → CanOpen room own
   can_open room binary own enough made same = record {
-    names = spelled_distinct defs own (same ∙ e);
+    names = spelled_distinct defs fit own (same ∙ e);
     few = omega (arith, enough, subst (λ (x : Grammar). symbol_count x ≤ 2048) (sym same) made.0);
   }
 

@@ -1,5 +1,6 @@
 pub mod LanguageLemmas
 pub mod AnsweringLemmas
+pub mod TokenLineLemmas
 pub mod RepliesLemmas
 pub mod SessionLemmas
 pub mod ToldLemmas

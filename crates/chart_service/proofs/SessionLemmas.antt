@@ -69,17 +69,21 @@ opened_in {C} old new state text line version i v replies language count current
 pub answered_in : {C E : Type 0} → (session : Session C) (state : State) (version : Version C)
     (query : Query) → IsIn session state → session.current ≡ Some version
     → (r : Result (String Global) E)
-    → ((text : List ℕ) (tokens : List Token) → IsOpened session.language version.chart text tokens
-    → IfOk r (λ line. IsAnswer session.language tokens query (string_bytes line)))
+    → (IsOpened session.language version.chart version.text.bytes version.text.tokens
+    → IfOk r (λ line. IsAnswer session.language version.text.bytes version.text.tokens query (string_bytes line)))
     → IfOk r (λ line. IsReply session.language state (ask query) (string_bytes line))
 answered_in {C} session state version query i current r answers =
     let Keeps : Option (Version C) → Type 0 = λ now. MatchOption now (Unit {0})
     (λ v. (t : List ℕ) × IsCurrent state t × IsVersionOf session.language t v) in
     let k = subst Keeps current i.current in
-    let o = (k.2).is_opened in
-    if_ok (λ line. IsAnswer session.language version.text.tokens query (string_bytes line))
+    let bytes : List ℕ = version.text.bytes in
+    let same : k.0 ≡ bytes = sym (k.2).bytes in
+    let is_current : IsCurrent state bytes = subst (IsCurrent state) same k.1 in
+    let Opens : List ℕ → Type 0 = λ text. IsOpened session.language version.chart text version.text.tokens in
+    let o = subst Opens same (k.2).is_opened in
+    if_ok (λ line. IsAnswer session.language bytes version.text.tokens query (string_bytes line))
     (λ line. IsReply session.language state (ask query) (string_bytes line))
-    (λ line a. (k.0, version.text.tokens, k.1, o.are_tokens, a)) r (answers k.0 version.text.tokens o)
+    (λ line a. (bytes, version.text.tokens, is_current, o.are_tokens, a)) r (answers o)
 
 -- and the session is then as it was
 pub asked_in : {C : Type 0} → (session : Session C) (state : State) (meaning : Command) (query : Query)

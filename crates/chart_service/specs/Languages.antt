@@ -9,7 +9,7 @@ use Rattle.spec_lbnf.specs.declared.fault.GrammarFault.TheVariants.{Memory as Gr
 use Rattle.spec_lbnf.specs.Expansion.{expansion_of}
 use Rattle.spec_lbnf.specs.Faults.{Spells}
 use Rattle.spec_lbnf.specs.Checks.{AreFit}
-use Rattle.spec_grammar.specs.Grammars.{Grammar, symbol_count}
+use Rattle.spec_grammar.specs.Grammars.{Grammar, HasDistinctNames, symbol_count}
 use Rattle.spec_session.specs.GrammarReplies.{fault_reason, unfit_reason}
 use Rattle.spec_session.specs.GrammarReplies.{states_reason, symbols_reason, refusal_line}
 use Rattle.lbnf_text.specs.Reading.{ReadsDefs}
@@ -25,12 +25,6 @@ use Rattle.binary_form.specs.declared.fault.BinaryFault.TheVariants.{TooManySymb
 use Rattle.chart_service.specs.declared.accepting.LanguageFault.{LanguageFault}
 use Rattle.chart_service.specs.declared.accepting.LanguageFault.TheVariants.{Text, Lex, Binary}
 use Rattle.chart_service.specs.declared.accepting.LanguageFault.TheVariants.{Grammar as Unfit}
-
--- no category's text stands twice
-abbrev pub HasDistinctNames : Grammar → Type 0
-HasDistinctNames g =
-    (c d : ℕ) (name : List ℕ) → slice_get g.categories c ≡ Some name
-    → slice_get g.categories d ≡ Some name → c ≡ d
 
 -- texts can be opened under the grammar, over cells with this room: its names are distinct, and its
 -- symbols have room

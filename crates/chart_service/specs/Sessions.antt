@@ -4,14 +4,13 @@ use Rattle.std.specs.Prelude.{◌≡◌, ℕ, ◌≤◌, List, length, Bool, IsT
 use Rattle.std.specs.Prelude.{MatchOption, IsAscii}
 use Rattle.spec_lexing.specs.declared.token.Token.{Token}
 use Rattle.spec_lexing.specs.Tokens.{AreTokensOf, kinds_of}
-use Rattle.spec_grammar.specs.Grammars.{Grammar}
+use Rattle.spec_grammar.specs.Grammars.{Grammar, HasDistinctNames}
 use Rattle.spec_script.specs.Script.{Command, opens, ask}
 use Rattle.spec_session.specs.Steps.{State, IsCurrent, IsReply, Leaves}
 use Rattle.script_reader.specs.declared.command.Command.{Command as ReadCommand}
 use Rattle.script_reader.specs.declared.command.Command.TheVariants.{Open, Ask, End}
 use Rattle.script_reader.specs.Forms.{query_of}
 use Rattle.valiant.specs.Charts.{ChartValue, IsChartOf}
-use Rattle.chart_service.specs.Languages.{HasDistinctNames}
 use Rattle.chart_service.specs.declared.session.Session.{Session}
 use Rattle.chart_service.specs.declared.session.Version.{Version}
 

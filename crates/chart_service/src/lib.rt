@@ -14,6 +14,7 @@ mod session;
 mod status;
 #[cfg(test)]
 mod tests;
+mod token_lines;
 
 pub use options::Options;
 pub use serving::serve;

@@ -142,7 +142,9 @@ impl<C: Cell> Session<C> {
             (ask (query_of query.now)) (string_bytes line)) }
     {
         match &self.current {
-            Some(version) => answer_to(alloc, &self.language, &version.chart, query),
+            Some(version) => {
+                answer_to(alloc, &self.language, &version.text, &version.chart, query)
+            }
             None => unreachable!(),
         }
     }

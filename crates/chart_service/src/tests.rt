@@ -127,6 +127,20 @@ fn each_way_to_end_has_its_last_line(rt: HostRuntime) -> Result<(), Fail> {
     Ok(())
 }
 
+#[test]
+fn tokens_are_told_with_their_bytes(rt: HostRuntime) -> Result<(), Fail> {
+    let script = b"script 1\ngrammar 14\nA. S ::= \"a\" ;\nopen 5\na?\\\x00a\ntokens 0 4\nend\n";
+    let (status, sink) = serve_whole(rt.alloc(), script.as_slice())?;
+    let session = b"grammar rules 1 categories 1 kinds 1
+version 0 tokens 5
+tokens 4 word:a stray:? stray:\\\\ stray:\\x00
+end
+";
+    assert_eq!(rt; status, 0);
+    assert_eq!(rt; sink.as_bytes(), session.as_slice());
+    Ok(())
+}
+
 /// How many bytes reply to the parts that stand in so many bytes of the script.
 fn replied_in(read: usize) -> usize {
     let mut replied = 0;

@@ -1,14 +1,19 @@
 -- What the bytes behind a question's first word name, cut at their spaces from left to right.
 use Rattle.std.proofs.Common.{◌≡◌, ℕ, zero, suc, ◌^◌, ◌<◌, true, false, nat_eq, subst, List, []}
 use Rattle.std.proofs.Common.{◌∷◌, ◌++◌, length, drop, codes, decimal, Contains, sym, ◌∙◌, ap}
-use Rattle.std.proofs.Common.{arith}
+use Rattle.std.proofs.Common.{arith, Option, Some, None}
+use Rattle.std.specs.Borrow.{Bor}
 use Rattle.spec_script.specs.Script.{AreOfWord, Constituent}
-use Rattle.spec_script.specs.declared.question.Constituent.TheVariants.{EntryWhole, CategoryWhole}
-use Rattle.spec_script.specs.declared.question.Constituent.TheVariants.{CategorySpan}
-use Rattle.spec_script.specs.Script.{constituent_text}
-use Rattle.spec_script.proofs.ScriptLemmas.{Lacks, each_differs, cut_same, digits_lack, word_lacks_space, has_space}
+use Rattle.spec_script.specs.declared.question.Constituent.TheVariants.{EntryWhole, NamedWhole}
+use Rattle.spec_script.specs.declared.question.Constituent.TheVariants.{NamedSpan}
+use Rattle.spec_script.specs.declared.question.TokenSpan.{TokenSpan}
+use Rattle.spec_script.specs.declared.question.TokenSpan.TheVariants.{Whole, Span}
+use Rattle.spec_script.specs.Script.{constituent_text, span_text, ends_text, Query, has, tokens_in}
+use Rattle.spec_script.proofs.ScriptLemmas.{Lacks, each_differs, cut_same, same_rest, digits_lack, word_lacks_space, has_space}
 use Rattle.cyk_io.specs.Lines.{HasNoLf}
-use Rattle.script_reader.specs.Forms.{IsNameOf, IsHas}
+use Rattle.spec_script.specs.declared.question.Constituent.{Constituent as NamedBy}
+use Rattle.script_reader.specs.Forms.{AreEnds, meant, IsNameOf, ReadsConstituent, IsSpanText, ReadsTokenSpan, IsQuestion}
+use Rattle.script_reader.specs.Forms.{ReadsHas, ReadsTokens}
 
 -- what holds of all bytes holds of those behind some, and of those before some
 behind_some : (front back : List ℕ) → HasNoLf (front ++ back) → HasNoLf back
@@ -29,6 +34,30 @@ of_word bytes no_space no_lf k d lt = (each_differs 32 bytes no_space k d lt, no
 of_word_lacks_space : (bytes : List ℕ) → AreOfWord bytes → Lacks bytes 32
 of_word_lacks_space bytes each h = (each h.0 32 h.1).0 h.2
 
+-- the bytes are no ends of a span
+abbrev NoEnds : List ℕ → Type 0
+NoEnds bytes = (first end : ℕ) → AreEnds bytes first end → ⊥
+
+-- without a space there is one number at most
+pub no_first : (span : List ℕ) → (Contains span 32 → ⊥) → NoEnds span
+no_first span other first end h =
+    other (subst (λ word. Contains word 32) (sym h.spelled) (has_space (decimal first) (decimal end)))
+
+-- where a space stands between two parts
+module _ (span left right : List ℕ) (cut : span ≡ left ++ (32 ∷ right)) (no_left : Lacks left 32) where
+  -- the ends are those on its two sides
+  sides : (first end : ℕ) → AreEnds span first end → (left ≡ decimal first) × (right ≡ decimal end)
+  sides first end h =
+      cut_same 32 left right (decimal first) (decimal end) no_left
+      (digits_lack first 32 h.short.0 (omega arith)) (sym cut ∙ h.spelled)
+
+  -- so each side of it is a number
+  pub no_first_number : ((n : ℕ) → n < 10 ^ 9 → left ≡ decimal n → ⊥) → NoEnds span
+  no_first_number other first end h = other first h.short.0 (sides first end h).0
+
+  pub no_end_number : ((n : ℕ) → n < 10 ^ 9 → right ≡ decimal n → ⊥) → NoEnds span
+  no_end_number other first end h = other end h.short.1 (sides first end h).1
+
 -- the bytes name no constituent
 abbrev NamesNone : List ℕ → Type 0
 NamesNone bytes = (constituent : Constituent) → IsNameOf bytes constituent → ⊥
@@ -40,72 +69,117 @@ no_space_first bytes some other EntryWhole h =
     let P : List ℕ → Type 0 = λ (word : List ℕ). false ≡ nat_eq (length word) 0 in
     let never : false ≡ true = subst P h.spelled some in
     cc
-no_space_first bytes some other (CategoryWhole category) h = other category h.spelled
-no_space_first bytes some other (CategorySpan category first end) h =
-    other (category ++ (32 ∷ (decimal first ++ (32 ∷ decimal end)))) h.spelled
+no_space_first bytes some other (NamedWhole name) h = other name h.spelled
+no_space_first bytes some other (NamedSpan name first end) h = other (name ++ (32 ∷ ends_text first end)) h.spelled
 
--- bytes that are a space, a word, a space and what stands behind it
-module _ (category : List ℕ) (each : AreOfWord category) (span : List ℕ) where
-  -- the whole of them
-  abbrev bytes : List ℕ
-  bytes = 32 ∷ (category ++ (32 ∷ span))
+-- bytes that are a space, a word, a space and what is no span name none
+pub no_named_span : (name : List ℕ) → AreOfWord name → (span : List ℕ) → NoEnds span →
+    NamesNone (32 ∷ (name ++ (32 ∷ span)))
+no_named_span name each span other EntryWhole h = absurd (omega (arith, ap length h.spelled))
+no_named_span name each span other (NamedWhole word) h =
+    let spaced : Contains word 32 =
+    subst (λ bytes. Contains bytes 32) (ap (drop 1) h.spelled) (has_space name span) in
+    absurd (word_lacks_space word h.nameable spaced)
+no_named_span name each span other (NamedSpan word first end) h =
+    let parts = cut_same 32 name span word (ends_text first end)
+    (of_word_lacks_space name each) (word_lacks_space word h.nameable.0) (ap (drop 1) h.spelled) in
+    other first end (record { short = (h.nameable.1, h.nameable.2); spelled = parts.1 })
 
-  -- the span is of these numbers
-  abbrev IsSpan : ℕ → ℕ → Type 0
-  IsSpan first end =
-      (first < 10 ^ 9) × (end < 10 ^ 9) × (span ≡ decimal first ++ (32 ∷ decimal end))
+-- the bytes name no span of tokens
+abbrev NamesNoSpan : List ℕ → Type 0
+NamesNoSpan bytes = (span : TokenSpan) → IsSpanText bytes span → ⊥
 
-  -- they name a constituent over a span, whose two numbers stand behind the word
-  span_named : (constituent : Constituent) → IsNameOf bytes constituent →
-      (first : ℕ) × (end : ℕ) × IsSpan first end
-  span_named EntryWhole h = absurd (omega (arith, ap length h.spelled))
-  span_named (CategoryWhole name) h =
-      let spaced : Contains name 32 =
-      subst (λ word. Contains word 32) (ap (drop 1) h.spelled) (has_space category span) in
-      absurd (word_lacks_space name h.nameable spaced)
-  span_named (CategorySpan name first end) h =
-      let parts = cut_same 32 category span name (decimal first ++ (32 ∷ decimal end))
-      (of_word_lacks_space category each) (word_lacks_space name h.nameable.0)
-      (ap (drop 1) h.spelled) in
-      (first, end, (h.nameable.1, h.nameable.2, parts.1))
+-- bytes that do not begin with a space name none
+pub no_span_behind : (bytes : List ℕ) → false ≡ nat_eq (length bytes) 0 →
+    ((ends : List ℕ) → bytes ≡ 32 ∷ ends → ⊥) → NamesNoSpan bytes
+no_span_behind bytes some other Whole h =
+    let P : List ℕ → Type 0 = λ (word : List ℕ). false ≡ nat_eq (length word) 0 in
+    let never : false ≡ true = subst P h.spelled some in
+    cc
+no_span_behind bytes some other (Span first end) h = other (ends_text first end) h.spelled
 
-  -- without a space there is one number at most
-  pub no_first : (Contains span 32 → ⊥) → NamesNone bytes
-  no_first other constituent h =
-      let named = span_named constituent h in
-      other
-      (subst (λ word. Contains word 32) (sym named.2.2)
-      (has_space (decimal named.0) (decimal named.1)))
+-- where bytes are a beginning of one space and what stands behind it
+module _ (bytes space ends : List ℕ) (one : space ≡ 32 ∷ []) (e : bytes ≡ space ++ ends) where
+  spaced : bytes ≡ 32 ∷ ends
+  spaced = e ∙ ap (λ front. front ++ ends) one
 
-  module _ (left right : List ℕ) (cut : span ≡ left ++ (32 ∷ right)) (no_left : Lacks left 32) where
-    -- which are those on its two sides
-    numbers : (first end : ℕ) → IsSpan first end → (left ≡ decimal first) × (right ≡ decimal end)
-    numbers first end named =
-        cut_same 32 left right (decimal first) (decimal end) no_left
-        (digits_lack first 32 named.0 (omega arith)) (sym cut ∙ named.2)
+  -- they name no span where this is none
+  pub no_span : NoEnds ends → NamesNoSpan bytes
+  no_span other Whole h = absurd (omega (arith, ap length spaced, ap length h.spelled))
+  no_span other (Span first end) h =
+      other first end (record { short = h.short; spelled = ap (drop 1) (sym spaced ∙ h.spelled) })
 
-    -- each side of it is a number
-    pub no_first_number : ((n : ℕ) → n < 10 ^ 9 → left ≡ decimal n → ⊥) → NamesNone bytes
-    no_first_number other constituent h =
-        let named = span_named constituent h in
-        other named.0 named.2.0 (numbers named.0 named.1 named.2).0
-
-    pub no_end_number : ((n : ℕ) → n < 10 ^ 9 → right ≡ decimal n → ⊥) → NamesNone bytes
-    no_end_number other constituent h =
-        let named = span_named constituent h in
-        other named.1 named.2.1 (numbers named.0 named.1 named.2).1
+  -- and else this one
+  pub span_is : (first end : ℕ) → AreEnds ends first end → IsSpanText bytes (Span first end)
+  span_is first end h = record { short = h.short; spelled = spaced ∙ ap (λ behind. 32 ∷ behind) h.spelled }
 
 -- behind a beginning of a line without LF stands none
 pub no_lf_behind : (line beginning rest : List ℕ) →
     line ≡ beginning ++ rest → HasNoLf line → HasNoLf rest
 no_lf_behind line beginning rest e h = behind_some beginning rest (subst HasNoLf e h)
 
--- a line that does not begin so asks none
-pub no_beginning : (line beginning : List ℕ) → beginning ≡ codes "has" →
-    ((rest : List ℕ) → line ≡ beginning ++ rest → ⊥) →
-    (constituent : Constituent) → IsHas line constituent → ⊥
-no_beginning line beginning same other constituent h =
-    other (constituent_text constituent) (rw same h.spelled)
+-- where a line begins so or not
+module _ (line beginning : List ℕ) where
+  -- a line that begins so begins with the word
+  begins : {word : List ℕ} → beginning ≡ word → (rest : List ℕ) → line ≡ beginning ++ rest → line ≡ word ++ rest
+  begins same rest e = e ∙ ap (λ front. front ++ rest) same
+
+  -- a line that does not begin with `has` asks of no constituent whether it is derived
+  pub no_has : beginning ≡ codes "has" → ((rest : List ℕ) → line ≡ beginning ++ rest → ⊥) →
+      (constituent : Constituent) → IsQuestion line (has constituent) → ⊥
+  no_has same other constituent h = other (constituent_text constituent) (rw same h.spelled)
+
+  -- one that does asks it of what the rest names
+  pub has_none : beginning ≡ codes "has" → (rest : List ℕ) → line ≡ beginning ++ rest → NamesNone rest →
+      (constituent : Constituent) → IsQuestion line (has constituent) → ⊥
+  has_none same rest e other constituent h =
+      other constituent (record {
+        nameable = h.askable;
+        spelled = same_rest (codes "has") rest (constituent_text constituent) (sym (begins same rest e) ∙ h.spelled);
+      })
+
+  pub has_is : beginning ≡ codes "has" → (rest : List ℕ) → line ≡ beginning ++ rest →
+      (constituent : Constituent) → IsNameOf rest constituent → IsQuestion line (has constituent)
+  has_is same rest e constituent h = record {
+    askable = h.nameable;
+    spelled = begins same rest e ∙ ap (λ behind. codes "has" ++ behind) h.spelled;
+  }
+
+  pub has_read : beginning ≡ codes "has" → (rest : List ℕ) → line ≡ beginning ++ rest →
+      (r : Option (NamedBy (Bor (List ℕ)))) → ReadsConstituent rest r → ReadsHas line r
+  has_read same rest e None h = has_none same rest e h
+  has_read same rest e (Some constituent) h = has_is same rest e (meant constituent) h
+
+  -- the same of `tokens` and spans of tokens
+  pub no_tokens : beginning ≡ codes "tokens" → ((rest : List ℕ) → line ≡ beginning ++ rest → ⊥) →
+      (span : TokenSpan) → IsQuestion line (tokens_in span) → ⊥
+  no_tokens same other span h = other (span_text span) (rw same h.spelled)
+
+  pub tokens_none : beginning ≡ codes "tokens" → (rest : List ℕ) → line ≡ beginning ++ rest → NamesNoSpan rest →
+      (span : TokenSpan) → IsQuestion line (tokens_in span) → ⊥
+  tokens_none same rest e other span h =
+      other span (record {
+        short = h.askable;
+        spelled = same_rest (codes "tokens") rest (span_text span) (sym (begins same rest e) ∙ h.spelled);
+      })
+
+  pub tokens_are : beginning ≡ codes "tokens" → (rest : List ℕ) → line ≡ beginning ++ rest →
+      (span : TokenSpan) → IsSpanText rest span → IsQuestion line (tokens_in span)
+  tokens_are same rest e span h = record {
+    askable = h.short;
+    spelled = begins same rest e ∙ ap (λ behind. codes "tokens" ++ behind) h.spelled;
+  }
+
+  pub tokens_read : beginning ≡ codes "tokens" → (rest : List ℕ) → line ≡ beginning ++ rest →
+      (r : Option TokenSpan) → ReadsTokenSpan rest r → ReadsTokens line r
+  tokens_read same rest e None h = tokens_none same rest e h
+  tokens_read same rest e (Some span) h = tokens_are same rest e span h
+
+-- a line that asks neither asks nothing
+pub no_query : (line : List ℕ) → ((constituent : Constituent) → IsQuestion line (has constituent) → ⊥) →
+    ((span : TokenSpan) → IsQuestion line (tokens_in span) → ⊥) → (query : Query) → IsQuestion line query → ⊥
+no_query line no_constituent no_tokens (has constituent) h = no_constituent constituent h
+no_query line no_constituent no_tokens (tokens_in span) h = no_tokens span h
 
 -- where bytes without LF are a beginning and what it names
 module _ (bytes beginning named : List ℕ) (e : bytes ≡ beginning ++ named)
@@ -119,7 +193,7 @@ module _ (bytes beginning named : List ℕ) (e : bytes ≡ beginning ++ named)
   whole_of_word no_space = of_word named no_space no_lf_named
 
   -- and so is what stands before the next space
-  pub front_of_word : (category span : List ℕ) → named ≡ category ++ (32 ∷ span) →
-      Lacks category 32 → AreOfWord category
-  front_of_word category span cut no_space =
-      of_word category no_space (before_some category (32 ∷ span) (subst HasNoLf cut no_lf_named))
+  pub front_of_word : (name span : List ℕ) → named ≡ name ++ (32 ∷ span) →
+      Lacks name 32 → AreOfWord name
+  front_of_word name span cut no_space =
+      of_word name no_space (before_some name (32 ∷ span) (subst HasNoLf cut no_lf_named))

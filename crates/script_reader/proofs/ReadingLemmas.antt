@@ -6,7 +6,7 @@ use Rattle.std.specs.Option.{ok_or}
 use Rattle.std.proofs.lemmas.Fmt.{decimal_injective}
 use Rattle.cyk_io.specs.Streams.{Takes}
 use Rattle.cyk_io.specs.Lines.{IsLine}
-use Rattle.spec_script.specs.Script.{Query, has, Command, opens, ask, Part, header, grammar, of_command, Script, nothing}
+use Rattle.spec_script.specs.Script.{Query, Command, opens, ask, Part, header, grammar, of_command, Script, nothing}
 use Rattle.spec_script.specs.Script.{header_alone, with_grammar, question_form, line_of, block_of, text_of, IsWithinLimits}
 use Rattle.spec_script.specs.Script.{AreQuestions, IsComplete, MayFollow}
 use Rattle.spec_script.proofs.ScriptLemmas.{tested, each_differs, lacks_if_each_differs, cut_same, same_rest, same_front}
@@ -14,10 +14,9 @@ use Rattle.spec_script.proofs.ScriptLemmas.{line_lacks_lf, line_is_short, part_l
 use Rattle.script_reader.specs.declared.command.Block.{Block}
 use Rattle.script_reader.specs.declared.command.Command.{Command as Found}
 use Rattle.script_reader.specs.declared.command.Command.TheVariants.{Open, Ask, End}
-use Rattle.script_reader.specs.declared.command.Query.TheVariants.{Has}
 use Rattle.script_reader.specs.declared.stop.Stop.{Stop}
 use Rattle.script_reader.specs.declared.stop.Stop.TheVariants.{Breaks}
-use Rattle.script_reader.specs.Forms.{meant, query_of, ReadsQuestion}
+use Rattle.script_reader.specs.Forms.{query_of, ReadsQuestion}
 use Rattle.script_reader.specs.Reading.{TakesPart, TakesGrammar, TakesCommand, NothingFollows}
 use Rattle.script_reader.specs.Reading.{StopsBehind, TellsOpen}
 use Rattle.script_reader.specs.LinesAndBlocks.{TakesLine, NoLineComes, TakesCount, NoCountComes}
@@ -145,9 +144,9 @@ module _ (from to : ℕ) (old new : Option (List ℕ)) (line : List ℕ) (taken 
       → IfOk (ok_or r stop) (TakesCommand true from to old new)
   question_taken None h stop = tt
   question_taken (Some (Open text)) h stop = absurd h
-  question_taken (Some (Ask (Has constituent))) h stop =
+  question_taken (Some (Ask query)) h stop =
       let size : length line ≤ 256 = taken.2.1 in
-      line_taken (of_command (ask (has (meant constituent)))) (h.nameable, omega (arith, size, ap length h.spelled)) h.spelled refl
+      line_taken (of_command (ask (query_of query))) (h.askable, omega (arith, size, ap length h.spelled)) h.spelled refl
   question_taken (Some End) h stop =
       let IsTaken : List ℕ → Type 0 = λ bytes. Takes old new (bytes ++ 10 ∷ []) in
       record { early = taken.0; taken = subst IsTaken h taken.1; offset = omega (arith, taken.3, ap length h) }
@@ -163,10 +162,10 @@ module _ (from to : ℕ) (old new : Option (List ℕ)) (line : List ℕ) (taken 
       where
         none : (query : Query) (more : List ℕ) → IsWithinLimits (of_command (ask query))
             → told ≡ text_of (of_command (ask query)) ++ more → ⊥
-        none (has constituent) more w e =
-            other.1 constituent (record {
-              nameable = w.0;
-              spelled = (part_comes told is (of_command (ask (has constituent))) more w e).2;
+        none query more w e =
+            other.1 query (record {
+              askable = w.0;
+              spelled = (part_comes told is (of_command (ask query)) more w e).2;
             })
 
     pub question_stops : (at : ℕ) → at ≡ from → (r : Option Found) → ReadsQuestion line r

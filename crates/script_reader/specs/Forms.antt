@@ -4,12 +4,14 @@ use Rattle.std.specs.Prelude.{◌≡◌, ℕ, ◌^◌, ◌<◌, ◌≤◌, List,
 use Rattle.std.specs.Prelude.{codes, decimal, Option, Some, None, MatchOption, Contains}
 use Rattle.std.specs.Borrow.{Bor}
 use Rattle.spec_script.specs.declared.question.Constituent.{Constituent as NamedBy}
-use Rattle.spec_script.specs.declared.question.Constituent.TheVariants.{EntryWhole, CategoryWhole}
-use Rattle.spec_script.specs.declared.question.Constituent.TheVariants.{CategorySpan}
-use Rattle.spec_script.specs.Script.{Constituent, constituent_text, IsNameable, Query, has}
-use Rattle.spec_script.specs.Script.{query_line}
+use Rattle.spec_script.specs.declared.question.Constituent.TheVariants.{EntryWhole, NamedWhole}
+use Rattle.spec_script.specs.declared.question.Constituent.TheVariants.{NamedSpan}
+use Rattle.spec_script.specs.declared.question.TokenSpan.{TokenSpan}
+use Rattle.spec_script.specs.Script.{Constituent, constituent_text, IsNameable, ends_text}
+use Rattle.spec_script.specs.Script.{span_text, HasShortEnds, Query, has, tokens_in, query_line}
+use Rattle.spec_script.specs.Script.{IsAskable}
 use Rattle.script_reader.specs.declared.command.Query.{Query as Asked}
-use Rattle.script_reader.specs.declared.command.Query.TheVariants.{Has}
+use Rattle.script_reader.specs.declared.command.Query.TheVariants.{Has, Tokens}
 use Rattle.script_reader.specs.declared.command.Command.{Command}
 use Rattle.script_reader.specs.declared.command.Command.TheVariants.{Open, Ask, End}
 
@@ -36,15 +38,26 @@ abbrev pub CutsAtSpace : List ℕ → Option (List ℕ × List ℕ) → Type 0
 CutsAtSpace bytes None = Contains bytes 32 → ⊥
 CutsAtSpace bytes (Some (word, rest)) = (bytes ≡ word ++ (32 ∷ rest)) × (Contains word 32 → ⊥)
 
+-- the bytes are the two ends of a span
+pub record AreEnds (bytes : List ℕ) (first end : ℕ) : Type 0 where
+  pub short : (first < 10 ^ 9) × (end < 10 ^ 9)
+  pub spelled : bytes ≡ ends_text first end
+
+-- the bytes are these two ends, or no two
+abbrev pub ReadsEnds : List ℕ → Option (ℕ × ℕ) → Type 0
+ReadsEnds bytes None = (first end : ℕ) → AreEnds bytes first end → ⊥
+ReadsEnds bytes (Some (first, end)) = AreEnds bytes first end
+
 -- the constituent, with its name as the list of the slice's bytes
 abbrev pub meant : NamedBy (Bor (List ℕ)) → Constituent
 meant EntryWhole = EntryWhole
-meant (CategoryWhole category) = CategoryWhole category.now
-meant (CategorySpan category first end) = CategorySpan category.now first end
+meant (NamedWhole name) = NamedWhole name.now
+meant (NamedSpan name first end) = NamedSpan name.now first end
 
 -- the query, with its name as the list of the slice's bytes
 abbrev pub query_of : Asked → Query
 query_of (Has constituent) = has (meant constituent)
+query_of (Tokens span) = tokens_in span
 
 -- the bytes name the constituent
 pub record IsNameOf (bytes : List ℕ) (constituent : Constituent) : Type 0 where
@@ -56,19 +69,39 @@ abbrev pub ReadsConstituent : List ℕ → Option (NamedBy (Bor (List ℕ))) →
 ReadsConstituent bytes None = (constituent : Constituent) → IsNameOf bytes constituent → ⊥
 ReadsConstituent bytes (Some constituent) = IsNameOf bytes (meant constituent)
 
--- the line asks whether this constituent is derived
-pub record IsHas (line : List ℕ) (constituent : Constituent) : Type 0 where
-  pub nameable : IsNameable constituent
-  pub spelled : line ≡ query_line (has constituent)
+-- the bytes name the span of tokens
+pub record IsSpanText (bytes : List ℕ) (span : TokenSpan) : Type 0 where
+  pub short : HasShortEnds span
+  pub spelled : bytes ≡ span_text span
 
--- the line asks this, or is no question
+-- the bytes name this span of tokens, or none
+abbrev pub ReadsTokenSpan : List ℕ → Option TokenSpan → Type 0
+ReadsTokenSpan bytes None = (span : TokenSpan) → IsSpanText bytes span → ⊥
+ReadsTokenSpan bytes (Some span) = IsSpanText bytes span
+
+-- the line asks the query
+pub record IsQuestion (line : List ℕ) (query : Query) : Type 0 where
+  pub askable : IsAskable query
+  pub spelled : line ≡ query_line query
+
+-- the line asks whether this constituent is derived, or of none whether it is
 abbrev pub ReadsHas : List ℕ → Option (NamedBy (Bor (List ℕ))) → Type 0
-ReadsHas line None = (constituent : Constituent) → IsHas line constituent → ⊥
-ReadsHas line (Some constituent) = IsHas line (meant constituent)
+ReadsHas line None = (constituent : Constituent) → IsQuestion line (has constituent) → ⊥
+ReadsHas line (Some constituent) = IsQuestion line (has (meant constituent))
+
+-- the line asks which tokens this span has, or of none which it has
+abbrev pub ReadsTokens : List ℕ → Option TokenSpan → Type 0
+ReadsTokens line None = (span : TokenSpan) → IsQuestion line (tokens_in span) → ⊥
+ReadsTokens line (Some span) = IsQuestion line (tokens_in span)
+
+-- the line asks this query, or none
+abbrev pub ReadsQuery : List ℕ → Option Asked → Type 0
+ReadsQuery line None = (query : Query) → IsQuestion line query → ⊥
+ReadsQuery line (Some query) = IsQuestion line (query_of query)
 
 -- the line asks this or is the line `end`, or is neither a question nor this line
 abbrev pub ReadsQuestion : List ℕ → Option Command → Type 0
-ReadsQuestion line None = (line ≡ codes "end" → ⊥) × ReadsHas line None
+ReadsQuestion line None = (line ≡ codes "end" → ⊥) × ReadsQuery line None
 ReadsQuestion line (Some (Open text)) = ⊥
-ReadsQuestion line (Some (Ask (Has constituent))) = ReadsHas line (Some constituent)
+ReadsQuestion line (Some (Ask query)) = ReadsQuery line (Some query)
 ReadsQuestion line (Some End) = line ≡ codes "end"

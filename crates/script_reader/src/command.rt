@@ -1,5 +1,5 @@
 //! What is read: a grammar's block, and the commands behind it.
-use spec_script::Constituent;
+use spec_script::{Constituent, TokenSpan};
 
 /// What is known of a grammar's block that was read.
 #[derive(Drop)]
@@ -15,6 +15,8 @@ pub enum Block {
 pub enum Query<'a> {
     /// Whether the constituent is derived.
     Has(Constituent<&'a [u8]>),
+    /// Which tokens the span has.
+    Tokens(TokenSpan),
 }
 
 /// A command that stands behind a grammar, or the script's end.

@@ -3,12 +3,13 @@ ghost use Rattle.std.specs.Prelude.{◌≡◌, ◌<◌, ◌^◌, ◌↔◌, ◌�
 ghost use Rattle.cyk_io.specs.Lines.{HasNoLf};
 ghost use Rattle.spec_script.specs.Script.{AreOfWord};
 ghost use Rattle.script_reader.specs.Forms.{ReadsNumber, ReadsBehind, ReadsCount, CutsAtSpace};
-ghost use Rattle.script_reader.specs.Forms.{ReadsConstituent, ReadsHas, ReadsQuestion};
+ghost use Rattle.script_reader.specs.Forms.{ReadsEnds, ReadsConstituent, ReadsTokenSpan};
+ghost use Rattle.script_reader.specs.Forms.{ReadsHas, ReadsTokens, ReadsQuery, ReadsQuestion};
 
 use crate::command::{Command, Query};
 use itoa::Buffer;
 use memchr::memchr;
-use spec_script::Constituent;
+use spec_script::{Constituent, TokenSpan};
 
 /// The greatest number of nine digits.
 pub(crate) const MAX_NUMBER: u32 = 999_999_999;
@@ -59,31 +60,35 @@ fn cut_at_space(bytes: &[u8]) -> Option<(&[u8], &[u8])>
     Some((&bytes[..place], &bytes[place + 1..]))
 }
 
-/// The category over the whole text, where it has a byte.
-fn category_whole(category: &[u8]) -> Option<Constituent<&[u8]>>
-    requires { AreOfWord category.now }
-    ensures { ReadsConstituent (32 ∷ category.now) result }
+/// The two ends of a span, a space between them.
+fn ends_of(bytes: &[u8]) -> Option<(u32, u32)>
+    ensures { ReadsEnds bytes.now result }
 {
-    if category.is_empty() {
-        return None;
-    }
-    Some(Constituent::CategoryWhole(category))
+    let (first, end) = cut_at_space(bytes)?;
+    Some((number(first)?, number(end)?))
 }
 
-/// The category over the span of two numbers.
-fn category_span<'a>(category: &'a [u8], span: &[u8]) -> Option<Constituent<&'a [u8]>>
-    requires { AreOfWord category.now }
-    ensures { ReadsConstituent (32 ∷ (category.now ++ (32 ∷ span.now))) result }
+/// What has the name over the whole text, where the name has a byte.
+fn named_whole(name: &[u8]) -> Option<Constituent<&[u8]>>
+    requires { AreOfWord name.now }
+    ensures { ReadsConstituent (32 ∷ name.now) result }
 {
-    if category.is_empty() {
+    if name.is_empty() {
         return None;
     }
-    let (first, end) = cut_at_space(span)?;
-    Some(Constituent::CategorySpan {
-        category,
-        first: number(first)?,
-        end: number(end)?,
-    })
+    Some(Constituent::NamedWhole(name))
+}
+
+/// What has the name over the span of two numbers.
+fn named_span<'a>(name: &'a [u8], span: &[u8]) -> Option<Constituent<&'a [u8]>>
+    requires { AreOfWord name.now }
+    ensures { ReadsConstituent (32 ∷ (name.now ++ (32 ∷ span.now))) result }
+{
+    if name.is_empty() {
+        return None;
+    }
+    let (first, end) = ends_of(span)?;
+    Some(Constituent::NamedSpan { name, first, end })
 }
 
 /// The constituent that the bytes behind a question's first word name.
@@ -96,9 +101,20 @@ fn constituent_of(bytes: &[u8]) -> Option<Constituent<&[u8]>>
     }
     let named = behind(bytes, b" ".as_slice())?;
     match cut_at_space(named) {
-        Some((category, span)) => category_span(category, span),
-        None => category_whole(named),
+        Some((name, span)) => named_span(name, span),
+        None => named_whole(named),
     }
+}
+
+/// The span of tokens that the bytes behind a question's first word name.
+fn token_span_of(bytes: &[u8]) -> Option<TokenSpan>
+    ensures { ReadsTokenSpan bytes.now result }
+{
+    if bytes.is_empty() {
+        return Some(TokenSpan::Whole);
+    }
+    let (first, end) = ends_of(behind(bytes, b" ".as_slice())?)?;
+    Some(TokenSpan::Span { first, end })
 }
 
 /// The constituent that the line asks for, where it begins with `has`.
@@ -109,6 +125,24 @@ fn has_question(line: &[u8]) -> Option<Constituent<&[u8]>>
     constituent_of(behind(line, b"has".as_slice())?)
 }
 
+/// The span of tokens that the line asks for, where it begins with `tokens`.
+fn tokens_question(line: &[u8]) -> Option<TokenSpan>
+    ensures { ReadsTokens line.now result }
+{
+    token_span_of(behind(line, b"tokens".as_slice())?)
+}
+
+/// The query that the line asks.
+fn query_in(line: &[u8]) -> Option<Query<'_>>
+    requires { HasNoLf line.now }
+    ensures { ReadsQuery line.now result }
+{
+    match has_question(line) {
+        Some(constituent) => Some(Query::Has(constituent)),
+        None => tokens_question(line).map(|span| Query::Tokens(span)),
+    }
+}
+
 /// The query that the line asks, or the script's end.
 pub(crate) fn question_of(line: &[u8]) -> Option<Command<'_>>
     requires { HasNoLf line.now }
@@ -117,5 +151,5 @@ pub(crate) fn question_of(line: &[u8]) -> Option<Command<'_>>
     if line == b"end".as_slice() {
         return Some(Command::End);
     }
-    has_question(line).map(|constituent| Command::Ask(Query::Has(constituent)))
+    query_in(line).map(|query| Command::Ask(query))
 }

@@ -7,9 +7,11 @@ use Rattle.std.proofs.lemmas.List.{get_or_default}
 use Rattle.std.proofs.lemmas.Str.Parse.{IsNumeralModel, numerals_by_value, tells_all_ascii_digits, not_in_digits}
 use Rattle.std.proofs.lemmas.Fmt.{digits_decimal, decimal_injective, length-decimal-le}
 use Rattle.std.proofs.Math.Seq.{take-append_seam}
-use Rattle.spec_script.specs.declared.question.Constituent.TheVariants.{EntryWhole, CategoryWhole, CategorySpan}
-use Rattle.spec_script.specs.Script.{Constituent, constituent_text, IsNameable}
-use Rattle.spec_script.specs.Script.{Query, has, query_line, IsAskable, opens, ask, Part, header, grammar, of_command, line_of, block_of, text_of, IsWord, IsWithinLimits}
+use Rattle.spec_script.specs.declared.question.Constituent.TheVariants.{EntryWhole, NamedWhole, NamedSpan}
+use Rattle.spec_script.specs.declared.question.TokenSpan.{TokenSpan}
+use Rattle.spec_script.specs.declared.question.TokenSpan.TheVariants.{Whole, Span}
+use Rattle.spec_script.specs.Script.{Constituent, constituent_text, IsNameable, ends_text, span_text, HasShortEnds}
+use Rattle.spec_script.specs.Script.{Query, has, tokens_in, query_line, IsAskable, opens, ask, Part, header, grammar, of_command, line_of, block_of, text_of, IsWord, IsWithinLimits}
 
 -- the list does not have the byte
 abbrev pub Lacks : List ℕ → ℕ → Type 0
@@ -118,35 +120,42 @@ counted_lacks_lf beginning n clean small =
 spaced_lacks_lf : (bytes : List ℕ) → Lacks bytes 10 → Lacks (32 ∷ bytes) 10
 spaced_lacks_lf bytes lacks = lacks_joined 10 (32 ∷ []) bytes (tested 10 (32 ∷ []) refl) lacks
 
--- the span of a question
-abbrev span_text : ℕ → ℕ → List ℕ
-span_text first end = decimal first ++ (32 ∷ decimal end)
+-- the ends of a span have no LF
+ends_lack_lf : (first end : ℕ) → first < 10 ^ 9 → end < 10 ^ 9 → Lacks (ends_text first end) 10
+ends_lack_lf first end small small_too =
+    lacks_joined 10 (decimal first) (32 ∷ decimal end) (digits_lack first 10 small (omega arith))
+    (spaced_lacks_lf (decimal end) (digits_lack end 10 small_too (omega arith)))
 
--- the category and the span of a question
+-- the name and the span of a question
 abbrev question_text : List ℕ → ℕ → ℕ → List ℕ
-question_text category first end = category ++ (32 ∷ span_text first end)
+question_text name first end = name ++ (32 ∷ ends_text first end)
 
 -- what names a constituent has no LF
 constituent_lacks_lf : (constituent : Constituent) → IsNameable constituent →
     Lacks (constituent_text constituent) 10
 constituent_lacks_lf EntryWhole nameable = tested 10 [] refl
-constituent_lacks_lf (CategoryWhole category) nameable =
-    spaced_lacks_lf category (word_lacks_lf category nameable)
-constituent_lacks_lf (CategorySpan category first end) nameable =
-    let first_lacks : Lacks (decimal first) 10 = digits_lack first 10 nameable.1 (omega arith) in
-    let end_lacks : Lacks (decimal end) 10 = digits_lack end 10 nameable.2 (omega arith) in
-    let span_lacks : Lacks (span_text first end) 10 =
-    lacks_joined 10 (decimal first) (32 ∷ decimal end) first_lacks (spaced_lacks_lf (decimal end) end_lacks) in
-    let behind_lacks : Lacks (question_text category first end) 10 =
-    lacks_joined 10 category (32 ∷ span_text first end) (word_lacks_lf category nameable.0)
-    (spaced_lacks_lf (span_text first end) span_lacks) in
-    spaced_lacks_lf (question_text category first end) behind_lacks
+constituent_lacks_lf (NamedWhole name) nameable =
+    spaced_lacks_lf name (word_lacks_lf name nameable)
+constituent_lacks_lf (NamedSpan name first end) nameable =
+    let behind_lacks : Lacks (question_text name first end) 10 =
+    lacks_joined 10 name (32 ∷ ends_text first end) (word_lacks_lf name nameable.0)
+    (spaced_lacks_lf (ends_text first end) (ends_lack_lf first end nameable.1 nameable.2)) in
+    spaced_lacks_lf (question_text name first end) behind_lacks
+
+-- nor has what names a span of tokens
+span_lacks_lf : (span : TokenSpan) → HasShortEnds span → Lacks (span_text span) 10
+span_lacks_lf Whole short = tested 10 [] refl
+span_lacks_lf (Span first end) short =
+    spaced_lacks_lf (ends_text first end) (ends_lack_lf first end short.0 short.1)
 
 -- the line of a query has no LF
 query_lacks_lf : (query : Query) → IsAskable query → Lacks (query_line query) 10
 query_lacks_lf (has constituent) askable =
     lacks_joined 10 (codes "has") (constituent_text constituent) (tested 10 (codes "has") refl)
     (constituent_lacks_lf constituent askable)
+query_lacks_lf (tokens_in span) askable =
+    lacks_joined 10 (codes "tokens") (span_text span) (tested 10 (codes "tokens") refl)
+    (span_lacks_lf span askable)
 
 -- the line of a part within its limits has no LF
 pub line_lacks_lf : (part : Part) → IsWithinLimits part → Lacks (line_of part) 10
@@ -199,52 +208,74 @@ has_space [] rest = (0, omega arith, refl)
 has_space (x ∷ word) rest = contains_later x (word ++ (32 ∷ rest)) 32 (has_space word rest)
 
 -- a word is not another with a span
-word_or_span : (category name : List ℕ) (start stop : ℕ) →
-    IsWord category → category ≡ question_text name start stop → ⊥
-word_or_span category name start stop is_word e =
-    word_lacks_space category is_word
-    (subst (λ bytes. Contains bytes 32) (sym e) (has_space name (span_text start stop)))
+word_or_span : (word name : List ℕ) (start stop : ℕ) → IsWord word → word ≡ question_text name start stop → ⊥
+word_or_span word name start stop is_word e =
+    word_lacks_space word is_word
+    (subst (λ bytes. Contains bytes 32) (sym e) (has_space name (ends_text start stop)))
 
--- a category with a span is named in one way
-same_span : (category : List ℕ) (first end : ℕ) (name : List ℕ) (start stop : ℕ) →
-    IsNameable (CategorySpan category first end) → IsNameable (CategorySpan name start stop) →
-    question_text category first end ≡ question_text name start stop →
-    CategorySpan category first end ≡ CategorySpan name start stop
-same_span category first end name start stop v w e =
-    let parts = cut_same 32 category (span_text first end) name (span_text start stop)
-    (word_lacks_space category v.0) (word_lacks_space name w.0) e in
+-- ends that are spelled alike are the same
+same_ends : (first end start stop : ℕ) → first < 10 ^ 9 → end < 10 ^ 9 → start < 10 ^ 9 → stop < 10 ^ 9 →
+    ends_text first end ≡ ends_text start stop → (first ≡ start) × (end ≡ stop)
+same_ends first end start stop first_small end_small start_small stop_small e =
     let numbers = cut_same 32 (decimal first) (decimal end) (decimal start) (decimal stop)
-    (digits_lack first 32 v.1 (omega arith)) (digits_lack start 32 w.1 (omega arith)) parts.1 in
-    let firsts : first ≡ start = same_number first start v.1 w.1 numbers.0 in
-    let ends : end ≡ stop = same_number end stop v.2 w.2 numbers.1 in
-    let categories : category ≡ name = parts.0 in
+    (digits_lack first 32 first_small (omega arith)) (digits_lack start 32 start_small (omega arith)) e in
+    (same_number first start first_small start_small numbers.0, same_number end stop end_small stop_small numbers.1)
+
+-- what has a name and a span is named in one way
+same_named_span : (name : List ℕ) (first end : ℕ) (other : List ℕ) (start stop : ℕ) →
+    IsNameable (NamedSpan name first end) → IsNameable (NamedSpan other start stop) →
+    question_text name first end ≡ question_text other start stop →
+    NamedSpan name first end ≡ NamedSpan other start stop
+same_named_span name first end other start stop v w e =
+    let parts = cut_same 32 name (ends_text first end) other (ends_text start stop)
+    (word_lacks_space name v.0) (word_lacks_space other w.0) e in
+    let numbers = same_ends first end start stop v.1 v.2 w.1 w.2 parts.1 in
+    let firsts : first ≡ start = numbers.0 in
+    let ends : end ≡ stop = numbers.1 in
+    let names : name ≡ other = parts.0 in
     cc
 
 -- constituents that are named alike are the same
 pub same_constituent : (a b : Constituent) → IsNameable a → IsNameable b →
     constituent_text a ≡ constituent_text b → a ≡ b
 same_constituent EntryWhole EntryWhole v w e = refl
-same_constituent EntryWhole (CategoryWhole name) v w e = absurd (omega (arith, ap length e))
-same_constituent EntryWhole (CategorySpan name start stop) v w e = absurd (omega (arith, ap length e))
-same_constituent (CategoryWhole category) EntryWhole v w e = absurd (omega (arith, ap length e))
-same_constituent (CategoryWhole category) (CategoryWhole name) v w e = ap CategoryWhole (ap (drop 1) e)
-same_constituent (CategoryWhole category) (CategorySpan name start stop) v w e =
-    absurd (word_or_span category name start stop v (ap (drop 1) e))
-same_constituent (CategorySpan category first end) EntryWhole v w e = absurd (omega (arith, ap length e))
-same_constituent (CategorySpan category first end) (CategoryWhole name) v w e =
-    absurd (word_or_span name category first end w (sym (ap (drop 1) e)))
-same_constituent (CategorySpan category first end) (CategorySpan name start stop) v w e =
-    same_span category first end name start stop v w (ap (drop 1) e)
+same_constituent EntryWhole (NamedWhole other) v w e = absurd (omega (arith, ap length e))
+same_constituent EntryWhole (NamedSpan other start stop) v w e = absurd (omega (arith, ap length e))
+same_constituent (NamedWhole name) EntryWhole v w e = absurd (omega (arith, ap length e))
+same_constituent (NamedWhole name) (NamedWhole other) v w e = ap NamedWhole (ap (drop 1) e)
+same_constituent (NamedWhole name) (NamedSpan other start stop) v w e =
+    absurd (word_or_span name other start stop v (ap (drop 1) e))
+same_constituent (NamedSpan name first end) EntryWhole v w e = absurd (omega (arith, ap length e))
+same_constituent (NamedSpan name first end) (NamedWhole other) v w e =
+    absurd (word_or_span other name first end w (sym (ap (drop 1) e)))
+same_constituent (NamedSpan name first end) (NamedSpan other start stop) v w e =
+    same_named_span name first end other start stop v w (ap (drop 1) e)
+
+-- and so are spans of tokens
+same_token_span : (a b : TokenSpan) → HasShortEnds a → HasShortEnds b → span_text a ≡ span_text b → a ≡ b
+same_token_span Whole Whole v w e = refl
+same_token_span Whole (Span start stop) v w e = absurd (omega (arith, ap length e))
+same_token_span (Span first end) Whole v w e = absurd (omega (arith, ap length e))
+same_token_span (Span first end) (Span start stop) v w e =
+    let numbers = same_ends first end start stop v.0 v.1 w.0 w.1 (ap (drop 1) e) in
+    let firsts : first ≡ start = numbers.0 in
+    let ends : end ≡ stop = numbers.1 in
+    cc
+
+-- the first byte of a line, which tells the parts apart
+abbrev first_byte : List ℕ → ℕ
+first_byte line = get_or line 0 0
 
 -- queries with one line are the same
 same_query : (a b : Query) → IsAskable a → IsAskable b → query_line a ≡ query_line b → a ≡ b
 same_query (has constituent) (has other) v w e =
     let behind = same_rest (codes "has") (constituent_text constituent) (constituent_text other) e in
     ap has (same_constituent constituent other v w behind)
-
--- the first byte of a line, which tells the parts apart
-abbrev first_byte : List ℕ → ℕ
-first_byte line = get_or line 0 0
+same_query (has constituent) (tokens_in span) v w e = absurd (omega (arith, ap first_byte e))
+same_query (tokens_in span) (has constituent) v w e = absurd (omega (arith, ap first_byte e))
+same_query (tokens_in span) (tokens_in other) v w e =
+    let behind = same_rest (codes "tokens") (span_text span) (span_text other) e in
+    ap tokens_in (same_token_span span other v w behind)
 
 -- parts with one line, before what stands behind it, are the same
 same_by_line : (a b : Part) (rest more : List ℕ) → IsWithinLimits a → IsWithinLimits b →
@@ -262,7 +293,9 @@ same_by_line (of_command (opens text)) (of_command (opens other)) rest more v w 
     (ap (λ bytes. of_command (opens bytes)) same.0, same.1)
 same_by_line (of_command (ask query)) (of_command (ask other)) rest more v w e f = (ap (λ (asked : Query). of_command (ask asked)) (same_query query other v.0 w.0 e), f)
 same_by_line a (of_command (ask (has other))) rest more v w e f = absurd (omega (arith, ap first_byte e))
+same_by_line a (of_command (ask (tokens_in other))) rest more v w e f = absurd (omega (arith, ap first_byte e))
 same_by_line (of_command (ask (has constituent))) b rest more v w e f = absurd (omega (arith, ap first_byte e))
+same_by_line (of_command (ask (tokens_in span))) b rest more v w e f = absurd (omega (arith, ap first_byte e))
 same_by_line a b rest more v w e f = absurd (omega (arith, ap first_byte e))
 
 -- bytes begin with one part at most, and so one rest stands behind it
@@ -280,6 +313,7 @@ end_is_no_line header e = omega (arith, ap first_byte e)
 end_is_no_line (grammar block) e = omega (arith, ap first_byte e)
 end_is_no_line (of_command (opens text)) e = omega (arith, ap first_byte e)
 end_is_no_line (of_command (ask (has constituent))) e = omega (arith, ap first_byte e)
+end_is_no_line (of_command (ask (tokens_in span))) e = omega (arith, ap first_byte e)
 
 -- bytes that begin with the line `end` begin with no part
 pub end_is_no_part : (part : Part) (rest more : List ℕ) → IsWithinLimits part →

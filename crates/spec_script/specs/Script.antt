@@ -3,17 +3,20 @@
 use Rattle.std.specs.Prelude.{◌≡◌, ℕ, ◌+◌, ◌^◌, ◌<◌, ◌≤◌, List, [], ◌∷◌, ◌++◌, length, codes}
 use Rattle.std.specs.Prelude.{decimal, All, IsAscii}
 use Rattle.spec_script.specs.declared.question.Constituent.{Constituent as Named}
-use Rattle.spec_script.specs.declared.question.Constituent.TheVariants.{EntryWhole, CategoryWhole}
-use Rattle.spec_script.specs.declared.question.Constituent.TheVariants.{CategorySpan}
+use Rattle.spec_script.specs.declared.question.Constituent.TheVariants.{EntryWhole, NamedWhole}
+use Rattle.spec_script.specs.declared.question.Constituent.TheVariants.{NamedSpan}
+use Rattle.spec_script.specs.declared.question.TokenSpan.{TokenSpan}
+use Rattle.spec_script.specs.declared.question.TokenSpan.TheVariants.{Whole, Span}
 
--- the constituent that a question names: the grammar's entry over the whole text,
--- a category over the whole text, or a category over a span of tokens
+-- the constituent that a question names: the grammar's entry over the whole text, or what has a
+-- name, a category or a kind of token, over the whole text or over a span of tokens
 abbrev pub Constituent : Type 0
 Constituent = Named (List ℕ)
 
--- what may be asked of a text: whether a constituent is derived
+-- what may be asked of a text: whether a constituent is derived, and what the tokens of a span are
 pub data Query : Type 0 where
   has : (constituent : Constituent) → Query
+  tokens_in : (span : TokenSpan) → Query
 
 -- the commands behind a grammar that are built so far
 pub data Command : Type 0 where
@@ -44,16 +47,25 @@ parts_of nothing = []
 parts_of header_alone = header ∷ []
 parts_of (with_grammar block commands) = header ∷ grammar block ∷ as_parts commands
 
+-- the two ends of a span, with a space between them
+abbrev pub ends_text : ℕ → ℕ → List ℕ
+ends_text first end = decimal first ++ (32 ∷ decimal end)
+
 -- how a question's line names the constituent behind its first word, each part behind a space
 abbrev pub constituent_text : Constituent → List ℕ
 constituent_text EntryWhole = []
-constituent_text (CategoryWhole category) = 32 ∷ category
-constituent_text (CategorySpan category first end) =
-    32 ∷ (category ++ (32 ∷ (decimal first ++ (32 ∷ decimal end))))
+constituent_text (NamedWhole name) = 32 ∷ name
+constituent_text (NamedSpan name first end) = 32 ∷ (name ++ (32 ∷ ends_text first end))
+
+-- how it names the span of tokens there
+abbrev pub span_text : TokenSpan → List ℕ
+span_text Whole = []
+span_text (Span first end) = 32 ∷ ends_text first end
 
 -- the line that asks the query, without its LF
 abbrev pub query_line : Query → List ℕ
 query_line (has constituent) = codes "has" ++ constituent_text constituent
+query_line (tokens_in span) = codes "tokens" ++ span_text span
 
 -- the line of the part, without its LF
 abbrev pub line_of : Part → List ℕ
@@ -82,16 +94,21 @@ pub record IsWord (bytes : List ℕ) : Type 0 where
   pub some : 0 < length bytes
   pub each : AreOfWord bytes
 
--- the constituent's category is a word, and its numbers have nine digits at most
+-- the constituent's name is a word, and the ends of its span have nine digits at most
 abbrev pub IsNameable : Constituent → Type 0
 IsNameable EntryWhole = Unit {0}
-IsNameable (CategoryWhole category) = IsWord category
-IsNameable (CategorySpan category first end) =
-    IsWord category × (first < 10 ^ 9) × (end < 10 ^ 9)
+IsNameable (NamedWhole name) = IsWord name
+IsNameable (NamedSpan name first end) = IsWord name × (first < 10 ^ 9) × (end < 10 ^ 9)
+
+-- the ends of the span have nine digits at most, where it names them
+abbrev pub HasShortEnds : TokenSpan → Type 0
+HasShortEnds Whole = Unit {0}
+HasShortEnds (Span first end) = (first < 10 ^ 9) × (end < 10 ^ 9)
 
 -- what the query names can be named
 abbrev pub IsAskable : Query → Type 0
 IsAskable (has constituent) = IsNameable constituent
+IsAskable (tokens_in span) = HasShortEnds span
 
 -- the part keeps the limits: a grammar's block of as many bytes as nine digits can write, a text
 -- of 4,096 bytes below 80 (hexadecimal), a query that can be asked, and a line of 256 bytes

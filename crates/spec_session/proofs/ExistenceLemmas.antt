@@ -1,10 +1,12 @@
 -- Each input is a script, and the commands of a script have replies. So no input is without a session.
-use Rattle.std.proofs.Common.{◌≡◌, ℕ, zero, suc, ◌+◌, ◌<◌, ◌⊎◌, inl, inr, List, [], ◌∷◌, ◌++◌, length, refl, sym, ap, subst, arith, length-append}
+use Rattle.std.proofs.Common.{◌≡◌, ℕ, zero, suc, ◌+◌, ◌<◌, ◌⊎◌, inl, inr, List, [], ◌∷◌, ◌++◌, length, slice_range, refl, sym, ap, subst, arith, length-append}
 use Rattle.std.proofs.lemmas.Bool.{cases_lt}
 use Rattle.spec_lexing.specs.declared.token.Token.{Token}
 use Rattle.spec_lexing.proofs.KindsLemmas.{some_tokens}
 use Rattle.spec_grammar.specs.Grammars.{Grammar}
-use Rattle.spec_script.specs.Script.{Constituent, Query, has, Command, opens, ask, Part, header, grammar}
+use Rattle.spec_lexing.specs.declared.kind_def.KindDef.{KindDef}
+use Rattle.spec_script.specs.declared.question.TokenSpan.{TokenSpan}
+use Rattle.spec_script.specs.Script.{Constituent, Query, has, tokens_in, Command, opens, ask, Part, header, grammar}
 use Rattle.spec_script.specs.Script.{of_command, Script, nothing, header_alone, with_grammar, parts_of}
 use Rattle.spec_script.specs.Script.{as_parts, line_of, block_of, text_of, AreQuestions, AreInOrder}
 use Rattle.spec_script.specs.Script.{IsInOrder, MayFollow, question_form, BeginsWithParts, BeginsWithScript, GoesOn}
@@ -12,10 +14,10 @@ use Rattle.spec_script.specs.Script.{HasEndLine, Ending, ended, broken, IsScript
 use Rattle.spec_script.proofs.BeginningLemmas.{begins_more, parts_more}
 use Rattle.spec_session.specs.GrammarReplies.{grammar_reply}
 use Rattle.spec_session.specs.Steps.{version_reply, State, no_texts, with_text, IsCurrent}
-use Rattle.spec_session.specs.Answers.{HasCategory, first_of, end_of, IsWithin, IsOutside}
-use Rattle.spec_session.specs.Answers.{IsDerived, unknown_category_line, outside_line, yes_line}
-use Rattle.spec_session.specs.Answers.{no_line, of_no_category, of_no_span, IsHasAnswer, refused_has}
-use Rattle.spec_session.specs.Answers.{yes, no, IsAnswer}
+use Rattle.spec_session.specs.Questions.{HasSymbol, first_of, end_of, IsSpan, IsNoSpan, IsWithin, IsOutside}
+use Rattle.spec_session.specs.Questions.{IsDerived, unknown_category_line, outside_line, of_no_symbol, of_no_span}
+use Rattle.spec_session.specs.TokenAnswers.{tokens_line, span_first, span_end, IsTokensAnswer, refused_tokens, tokens_told}
+use Rattle.spec_session.specs.Answers.{yes_line, no_line, IsHasAnswer, refused_has, yes, no, IsAnswer}
 use Rattle.spec_session.specs.Sessions.{serve_mode, last_line, last_status, IsSession, refused, whole}
 use Rattle.spec_session.specs.Existence.{SomeSession}
 use Rattle.spec_session.proofs.DenialLemmas.{IsUndeniable, decided}
@@ -113,6 +115,17 @@ module _ (input : List ℕ) where
   some_script : IsUndeniable HasScript
   some_script = script_from (suc (length input)) nothing 0 input (omega arith) tt (refl, refl)
 
+-- from one place to another is a span of the text, or none
+span_or_not : (size first end : ℕ) → IsSpan size first end ⊎ IsNoSpan size first end
+span_or_not size first end =
+    elim (cases_lt end first) [
+      | inl before ↦ inr (inl before)
+      | inr order ↦ elim (cases_lt size end) [
+        | inl behind ↦ inr (inr behind)
+        | inr within ↦ inl (order, within)
+      ]
+    ]
+
 module _ (g : Grammar) (tokens : List Token) (constituent : Constituent) where
   -- whether the constituent is derived has an answer
   abbrev HasHasAnswer : Type 0
@@ -120,7 +133,7 @@ module _ (g : Grammar) (tokens : List Token) (constituent : Constituent) where
 
   -- a question on a span of the text is answered by derivation
   answer_within :
-      HasCategory g constituent → IsWithin (length tokens) constituent → IsUndeniable HasHasAnswer
+      HasSymbol g constituent → IsWithin (length tokens) constituent → IsUndeniable HasHasAnswer
   answer_within known span denied =
       let Derived : Type 0 = IsDerived g tokens constituent in
       decided Derived (λ (split : Derived ⊎ (Derived → ⊥)). elim split [
@@ -128,39 +141,44 @@ module _ (g : Grammar) (tokens : List Token) (constituent : Constituent) where
         | inr other ↦ denied (no_line, no known span other refl)
       ])
 
-  -- a question on another span is refused
-  answer_outside : HasCategory g constituent → IsOutside (length tokens) constituent → HasHasAnswer
-  answer_outside known outside =
-      (outside_line (length tokens), refused_has (of_no_span known outside refl))
-
-  -- a question on a category of the grammar has an answer
-  answer_known : HasCategory g constituent → IsUndeniable HasHasAnswer
+  -- a question on a symbol of the grammar has an answer
+  answer_known : HasSymbol g constituent → IsUndeniable HasHasAnswer
   answer_known known denied =
-      let end : ℕ = end_of (length tokens) constituent in
-      elim (cases_lt end (first_of constituent)) [
-        | inl before ↦ denied (answer_outside known (inl before))
-        | inr order ↦ elim (cases_lt (length tokens) end) [
-          | inl behind ↦ denied (answer_outside known (inr behind))
-          | inr within ↦ answer_within known (order, within) denied
-        ]
+      elim (span_or_not (length tokens) (first_of constituent) (end_of (length tokens) constituent)) [
+        | inl within ↦ answer_within known within denied
+        | inr outside ↦ denied (outside_line (length tokens), refused_has (of_no_span known outside refl))
       ]
 
   -- that a question has one cannot be denied
   some_has_answer : IsUndeniable HasHasAnswer
   some_has_answer denied =
-      let Known : Type 0 = HasCategory g constituent in
+      let Known : Type 0 = HasSymbol g constituent in
       decided Known (λ (split : Known ⊎ (Known → ⊥)). elim split [
         | inl known ↦ answer_known known denied
-        | inr other ↦ denied (unknown_category_line, refused_has (of_no_category other refl))
+        | inr other ↦ denied (unknown_category_line, refused_has (of_no_symbol other refl))
       ])
 
+-- a question on the tokens of a span has an answer
+some_tokens_answer : (kinds : List KindDef) (text : List ℕ) (tokens : List Token) (span : TokenSpan) →
+    (line : List ℕ) × IsTokensAnswer kinds text tokens span line
+some_tokens_answer kinds text tokens span =
+    let first : ℕ = span_first span in
+    let end : ℕ = span_end (length tokens) span in
+    elim (span_or_not (length tokens) first end) [
+      | inl within ↦ (tokens_line kinds text (slice_range tokens first end), tokens_told within refl)
+      | inr outside ↦ (outside_line (length tokens), refused_tokens outside refl)
+    ]
+
 -- the query has an answer
-abbrev HasAnswer : Grammar → List Token → Query → Type 0
-HasAnswer g tokens query = (line : List ℕ) × IsAnswer g tokens query line
+abbrev HasAnswer : Grammar → List ℕ → List Token → Query → Type 0
+HasAnswer g text tokens query = (line : List ℕ) × IsAnswer g text tokens query line
 
 -- which cannot be denied
-some_answer : (g : Grammar) (tokens : List Token) (query : Query) → IsUndeniable (HasAnswer g tokens query)
-some_answer g tokens (has constituent) = some_has_answer g tokens constituent
+some_answer : (g : Grammar) (text : List ℕ) (tokens : List Token) (query : Query) →
+    IsUndeniable (HasAnswer g text tokens query)
+some_answer g text tokens (has constituent) = some_has_answer g tokens constituent
+some_answer g text tokens (tokens_in span) =
+    λ denied. denied (some_tokens_answer g.lexicon.kinds text tokens span)
 
 module _ (g : Grammar) where
   -- questions on a current text have replies
@@ -171,8 +189,8 @@ module _ (g : Grammar) where
   some_replies state text current [] are denied = denied ([], refl)
   some_replies state text current (ask query ∷ questions) are denied =
       let tokens = some_tokens g.lexicon text in
-      some_answer g tokens.0 query
-      (λ (answer : HasAnswer g tokens.0 query).
+      some_answer g text tokens.0 query
+      (λ (answer : HasAnswer g text tokens.0 query).
       some_replies state text current questions are
       (λ (others : (out : List ℕ) × AreTold g state questions out).
       denied (

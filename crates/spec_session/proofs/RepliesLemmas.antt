@@ -12,14 +12,17 @@ use Rattle.spec_lbnf.specs.Checks.{IsUnfit}
 use Rattle.spec_lbnf.specs.Faults.{Spells}
 use Rattle.lbnf_readers.proofs.FaultLemmas.{one_file_of_defs, one_first_fault, spelled_or_faulty}
 use Rattle.spec_lbnf.proofs.CheckLemmas.{fit_or_unfit, one_unfitness}
-use Rattle.spec_script.specs.Script.{Constituent, Query, has, Command, opens, ask}
+use Rattle.spec_lexing.specs.declared.kind_def.KindDef.{KindDef}
+use Rattle.spec_script.specs.declared.question.TokenSpan.{TokenSpan}
+use Rattle.spec_script.specs.Script.{Constituent, Query, has, tokens_in, Command, opens, ask}
 use Rattle.spec_session.specs.GrammarReplies.{IsAccepted, IsRefused, IsRefusedFor, faulty, unfit}
 use Rattle.spec_session.specs.GrammarReplies.{too_many_states, too_many_symbols, fault_reason, unfit_reason}
 use Rattle.spec_session.specs.GrammarReplies.{symbols_reason, refusal_line}
 use Rattle.spec_session.specs.Steps.{version_reply, State, IsCurrent, IsReply}
-use Rattle.spec_session.specs.Answers.{HasCategory, IsWithin, IsOutside, IsDerived}
-use Rattle.spec_session.specs.Answers.{IsQuestionRefused, of_no_category, of_no_span, IsHasAnswer, refused_has}
-use Rattle.spec_session.specs.Answers.{yes, no, IsAnswer}
+use Rattle.spec_session.specs.Questions.{HasSymbol, IsSpan, IsNoSpan, IsWithin, IsOutside, first_of, end_of}
+use Rattle.spec_session.specs.Questions.{IsDerived, IsQuestionRefused, of_no_symbol, of_no_span}
+use Rattle.spec_session.specs.TokenAnswers.{IsTokensAnswer, refused_tokens, tokens_told, span_first, span_end}
+use Rattle.spec_session.specs.Answers.{IsHasAnswer, refused_has, yes, no, IsAnswer}
 
 -- a block is accepted as one grammar
 pub one_grammar : (block : List ℕ) (g other : Grammar) → IsAccepted block g → IsAccepted block other →
@@ -89,53 +92,65 @@ pub one_refusal : (block line other : List ℕ) → IsRefused block line → IsR
 one_refusal block line other (reason, why, is) (reason', why', is') =
     is ∙ ap refusal_line (one_reason block reason reason' why why') ∙ sym is'
 
--- a span that is the text's is not refused
-within_or_outside : (size : ℕ) (constituent : Constituent) →
-    IsOutside size constituent → IsWithin size constituent → ⊥
-within_or_outside size constituent (inl before) within = omega (arith, within.0)
-within_or_outside size constituent (inr behind) within = omega (arith, within.1)
+-- what is a span of the text is not none
+pub span_or_none : (size first end : ℕ) → IsNoSpan size first end → IsSpan size first end → ⊥
+span_or_none size first end (inl before) span = omega (arith, before, span.0)
+span_or_none size first end (inr behind) span = omega (arith, behind, span.1)
 
 -- a question has one answer
 module _ (g : Grammar) (tokens : List Token) (constituent : Constituent) where
-  category_of : IsDerived g tokens constituent → HasCategory g constituent
-  category_of h = (h.category, h.is_category)
+  symbol_of : IsDerived g tokens constituent → HasSymbol g constituent
+  symbol_of h = (h.symbol, h.is_symbol)
 
   outside : IsOutside (length tokens) constituent → IsWithin (length tokens) constituent → ⊥
-  outside = within_or_outside (length tokens) constituent
+  outside = span_or_none (length tokens) (first_of constituent) (end_of (length tokens) constituent)
 
   -- a question is refused with one line
   one_question_refusal : (line other : List ℕ) →
       IsQuestionRefused g (length tokens) constituent line →
       IsQuestionRefused g (length tokens) constituent other → line ≡ other
-  one_question_refusal line other (of_no_category a e) (of_no_category b f) = e ∙ sym f
-  one_question_refusal line other (of_no_category a e) (of_no_span b out f) = absurd (a b)
-  one_question_refusal line other (of_no_span a out e) (of_no_category b f) = absurd (b a)
+  one_question_refusal line other (of_no_symbol a e) (of_no_symbol b f) = e ∙ sym f
+  one_question_refusal line other (of_no_symbol a e) (of_no_span b out f) = absurd (a b)
+  one_question_refusal line other (of_no_span a out e) (of_no_symbol b f) = absurd (b a)
   one_question_refusal line other (of_no_span a out e) (of_no_span b out' f) = e ∙ sym f
 
-  -- a question on a span of the text, and on a category of the grammar, is not refused
+  -- a question on a span of the text, and on a symbol of the grammar, is not refused
   not_refused : (line : List ℕ) → IsQuestionRefused g (length tokens) constituent line →
-      HasCategory g constituent → IsWithin (length tokens) constituent → ⊥
-  not_refused line (of_no_category a e) known within = a known
+      HasSymbol g constituent → IsWithin (length tokens) constituent → ⊥
+  not_refused line (of_no_symbol a e) known within = a known
   not_refused line (of_no_span a out e) known within = outside out within
 
   one_has_answer : (line other : List ℕ) →
       IsHasAnswer g tokens constituent line → IsHasAnswer g tokens constituent other → line ≡ other
   one_has_answer line other (refused_has h) (refused_has k) = one_question_refusal line other h k
   one_has_answer line other (refused_has h) (yes within derives f) =
-      absurd (not_refused line h (category_of derives) within)
+      absurd (not_refused line h (symbol_of derives) within)
   one_has_answer line other (refused_has h) (no b within denied f) = absurd (not_refused line h b within)
   one_has_answer line other (yes within derives e) (refused_has k) =
-      absurd (not_refused other k (category_of derives) within)
+      absurd (not_refused other k (symbol_of derives) within)
   one_has_answer line other (yes within derives e) (yes within' derives' f) = e ∙ sym f
   one_has_answer line other (yes within derives e) (no b within' denied f) = absurd (denied derives)
   one_has_answer line other (no a within denied e) (refused_has k) = absurd (not_refused other k a within)
   one_has_answer line other (no a within denied e) (yes within' derives f) = absurd (denied derives)
   one_has_answer line other (no a within denied e) (no b within' denied' f) = e ∙ sym f
 
--- so has each query
-one_answer : (g : Grammar) (tokens : List Token) (query : Query) (line other : List ℕ) →
-    IsAnswer g tokens query line → IsAnswer g tokens query other → line ≡ other
-one_answer g tokens (has constituent) line other h k = one_has_answer g tokens constituent line other h k
+-- so has a question on the tokens of a span
+one_tokens_answer : (kinds : List KindDef) (text : List ℕ) (tokens : List Token) (span : TokenSpan)
+    (line other : List ℕ) → IsTokensAnswer kinds text tokens span line →
+    IsTokensAnswer kinds text tokens span other → line ≡ other
+one_tokens_answer kinds text tokens span line other (refused_tokens outside e) (refused_tokens outside' f) = e ∙ sym f
+one_tokens_answer kinds text tokens span line other (refused_tokens outside e) (tokens_told within f) =
+    absurd (span_or_none (length tokens) (span_first span) (span_end (length tokens) span) outside within)
+one_tokens_answer kinds text tokens span line other (tokens_told within e) (refused_tokens outside f) =
+    absurd (span_or_none (length tokens) (span_first span) (span_end (length tokens) span) outside within)
+one_tokens_answer kinds text tokens span line other (tokens_told within e) (tokens_told within' f) = e ∙ sym f
+
+-- and each query
+one_answer : (g : Grammar) (text : List ℕ) (tokens : List Token) (query : Query) (line other : List ℕ) →
+    IsAnswer g text tokens query line → IsAnswer g text tokens query other → line ≡ other
+one_answer g text tokens (has constituent) line other h k = one_has_answer g tokens constituent line other h k
+one_answer g text tokens (tokens_in span) line other h k =
+    one_tokens_answer g.lexicon.kinds text tokens span line other h k
 
 -- one text is the last
 one_last : (older : List (List ℕ)) (text : List ℕ) (others : List (List ℕ)) (other : List ℕ) →
@@ -166,4 +181,4 @@ one_reply g state (ask query) line other h k =
     let one_text : h.0 ≡ k.0 = one_current state h.0 k.0 h.2 k.2 in
     let again : AreTokensOf g.lexicon h.0 k.1 = rw one_text k.3 in
     let same : h.1 ≡ k.1 = one_tokens g h.0 h.1 k.1 h.3 again in
-    one_answer g h.1 query line other h.4 (rw same k.4)
+    one_answer g h.0 h.1 query line other h.4 (rw (one_text, same) k.4)

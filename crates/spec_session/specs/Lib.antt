@@ -2,6 +2,8 @@ pub mod Sessions
 pub mod Runs
 pub mod Steps
 pub mod Answers
+pub mod TokenAnswers
+pub mod Questions
 pub mod GrammarReplies
 pub mod Lines
 pub mod Laws

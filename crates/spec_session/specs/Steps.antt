@@ -35,7 +35,7 @@ IsReply g state (opens text) line =
     × (line ≡ version_reply (length state.texts) (length tokens))
 IsReply g state (ask query) line =
     (text : List ℕ) × (tokens : List Token) × IsCurrent state text
-    × AreTokensOf g.lexicon text tokens × IsAnswer g tokens query line
+    × AreTokensOf g.lexicon text tokens × IsAnswer g text tokens query line
 
 -- what a command leaves: a text that is opened is the next one, and a question changes nothing
 abbrev pub Leaves : Command → State → State → Type 0

@@ -1,5 +1,5 @@
 -- A grammar of one rule, `A. S ::= "a"`, and the text `a` under it, worked by hand.
-use Rattle.std.proofs.Common.{◌≡◌, ℕ, zero, suc, inr, List, [], ◌∷◌, ◌++◌, length, All, Some, slice_get, subst, codes, refl, sym, ◌∙◌, ap, arith, get_or, length-append}
+use Rattle.std.proofs.Common.{◌≡◌, ℕ, zero, suc, inr, List, [], ◌∷◌, ◌++◌, length, All, Some, slice_get, codes, decimal, refl, sym, ◌∙◌, ap, subst, arith, get_or, length-append}
 use Rattle.std.specs.Char.{encode_utf8}
 use Rattle.std.specs.Str.{chars, is_utf8}
 use Rattle.std.proofs.lemmas.Fmt.{decimal_digit}
@@ -14,6 +14,7 @@ use Rattle.spec_grammar.specs.Trees.{leaf, node, no_trees, trees}
 use Rattle.spec_grammar.specs.Derivation.{Derives}
 use Rattle.spec_grammar.specs.Cycles.{StepsTo}
 use Rattle.spec_grammar.proofs.DerivationLemmas.{AreFull, derives_grows}
+use Rattle.spec_lexing.specs.declared.kind_def.KindDef.{KindDef}
 use Rattle.spec_lexing.specs.declared.token.Token.{Token}
 use Rattle.spec_lexing.specs.Tokens.{AreTokensOf, kinds_of}
 use Rattle.spec_lexing.proofs.KindsLemmas.{tokens_of_is}
@@ -21,7 +22,7 @@ use Rattle.spec_lbnf.specs.declared.definition.RawItem.TheVariants.{Word}
 use Rattle.spec_lbnf.specs.declared.definition.Def.{Def}
 use Rattle.spec_lbnf.specs.declared.definition.Def.TheVariants.{Rule}
 use Rattle.spec_lbnf.specs.Faults.{Spells}
-use Rattle.spec_grammar.specs.Grammars.{Grammar}
+use Rattle.spec_grammar.specs.Grammars.{Grammar, IsTokenNamed}
 use Rattle.spec_lbnf.specs.Expansion.{expansion_of}
 use Rattle.spec_lbnf.specs.Checks.{IsTaken, IsFree, HasOwnNames, own_names, IsKnown, IsWellLabelled, NamesKnown, AreFit}
 use Rattle.lbnf_readers.specs.Scanning.{scan_of, behind_closing, behind_space, identifier_at, number_token_at, literal_from, string_at, character_at, sign_token_at, file_token_at, tokens_from}
@@ -30,12 +31,16 @@ use Rattle.lbnf_readers.specs.FileDefinitions.{piece_def, defs_at}
 use Rattle.spec_lbnf.specs.Differences.{IsGood}
 use Rattle.lbnf_readers.proofs.ScanLemmas.{scanned}
 use Rattle.lbnf_readers.proofs.FaultLemmas.{defs_are}
-use Rattle.spec_script.specs.Script.{Constituent, has, ask}
-use Rattle.spec_script.specs.declared.question.Constituent.TheVariants.{EntryWhole, CategoryWhole}
-use Rattle.spec_script.specs.declared.question.Constituent.TheVariants.{CategorySpan}
+use Rattle.spec_script.specs.declared.question.TokenSpan.{TokenSpan}
+use Rattle.spec_script.specs.declared.question.TokenSpan.TheVariants.{Whole, Span}
+use Rattle.spec_script.specs.Script.{Constituent, has, tokens_in, ask}
+use Rattle.spec_script.specs.declared.question.Constituent.TheVariants.{EntryWhole, NamedWhole}
+use Rattle.spec_script.specs.declared.question.Constituent.TheVariants.{NamedSpan}
 use Rattle.spec_session.specs.Lines.{as_line}
 use Rattle.spec_session.specs.GrammarReplies.{IsAccepted}
-use Rattle.spec_session.specs.Answers.{IsDerived, IsHasAnswer, refused_has, of_no_category, of_no_span, yes, no}
+use Rattle.spec_session.specs.Questions.{HasSymbol, IsOfSymbol, IsDerived, of_no_symbol, of_no_span}
+use Rattle.spec_session.specs.TokenAnswers.{tokens_line, IsTokensAnswer, refused_tokens, tokens_told}
+use Rattle.spec_session.specs.Answers.{IsHasAnswer, refused_has, yes, no}
 use Rattle.spec_session.specs.Steps.{State, IsReply}
 use Rattle.spec_session_cases.proofs.StatesExample.{few_states}
 
@@ -131,13 +136,13 @@ one_text = record { texts = codes "a" ∷ [] }
 
 -- the constituents of the questions
 abbrev pub category_s : Constituent
-category_s = CategoryWhole (codes "S")
+category_s = NamedWhole (codes "S")
 
 abbrev pub category_t : Constituent
-category_t = CategoryWhole (codes "T")
+category_t = NamedWhole (codes "T")
 
 abbrev pub span_to : ℕ → Constituent
-span_to end = CategorySpan (codes "S") 0 end
+span_to end = NamedSpan (codes "S") 0 end
 
 -- a question has the reply that is its answer
 reply : (constituent : Constituent) (line : List ℕ) → IsHasAnswer rule_grammar one_token constituent line → IsReply rule_grammar one_text (ask (has constituent)) line
@@ -147,35 +152,72 @@ reply constituent line answer = (codes "a", one_token, ([], refl), are_tokens, a
 pub entry_reply : IsReply rule_grammar one_text (ask (has EntryWhole)) (codes "yes\n")
 entry_reply =
     reply EntryWhole (codes "yes\n")
-    (yes (omega arith, omega arith) (record { category = 0; is_category = refl; derives = derived }) refl)
+    (yes (omega arith, omega arith) (record { symbol = Category 0; is_symbol = refl; derives = derived }) refl)
 
 pub category_reply : IsReply rule_grammar one_text (ask (has category_s)) (codes "yes\n")
 category_reply =
     reply category_s (codes "yes\n")
-    (yes (omega arith, omega arith) (record { category = 0; is_category = refl; derives = derived }) refl)
+    (yes (omega arith, omega arith) (record { symbol = Category 0; is_symbol = refl; derives = derived }) refl)
 
 -- the category derives no empty span
 pub empty_reply : IsReply rule_grammar one_text (ask (has (span_to 0))) (codes "no\n")
 empty_reply =
     reply (span_to 0) (codes "no\n")
-    (no (0, refl) (omega arith, omega arith)
+    (no (Category 0, refl) (omega arith, omega arith)
     (λ (d : IsDerived rule_grammar one_token (span_to 0)).
-    omega (arith, derives_grows rule_grammar.rules (kinds_of one_token) full (Category d.category) 0 0 d.derives)) refl)
+    omega (arith, derives_grows rule_grammar.rules (kinds_of one_token) full d.symbol 0 0 d.derives)) refl)
 
--- no category has the name `T`
-no_other : (category : ℕ) → slice_get rule_grammar.categories category ≡ Some (codes "T") → ⊥
-no_other zero is = omega (arith, ap (λ name. get_or name 0 0) (same_Some (codes "S") (codes "T") is))
-no_other (suc category) is = none-some (codes "T") is
+-- nothing has the name `T`: neither a category, nor the one kind, which is a word
+no_other_category : (category : ℕ) → slice_get rule_grammar.categories category ≡ Some (codes "T") → ⊥
+no_other_category zero is = omega (arith, ap (λ name. get_or name 0 0) (same_Some (codes "S") (codes "T") is))
+no_other_category (suc category) is = none-some (codes "T") is
+
+no_other_kind : (kind : ℕ) (def : KindDef) → slice_get rule_grammar.lexicon.kinds kind ≡ Some def →
+    IsTokenNamed def (codes "T") → ⊥
+no_other_kind zero def is named = subst (λ (d : KindDef). IsTokenNamed d (codes "T")) (sym (same_Some _ def is)) named
+no_other_kind (suc kind) def is named = none-some def is
+
+no_other : (s : Symbol) → IsOfSymbol rule_grammar category_t s → ⊥
+no_other (Category category) is = no_other_category category is
+no_other (Kind kind) is = no_other_kind kind is.0 is.1 is.2
 
 -- so a question on it is refused
 pub unknown_reply : IsReply rule_grammar one_text (ask (has category_t)) (codes "refused category\n")
 unknown_reply =
     reply category_t (codes "refused category\n")
-    (refused_has (of_no_category (λ known. no_other known.0 known.1) refl))
+    (refused_has (of_no_symbol (λ (known : HasSymbol rule_grammar category_t). no_other known.0 known.1) refl))
+
+-- the line that tells that the text has one token
+outside_is : codes "refused span 1\n" ≡ codes "refused span " ++ as_line (decimal 1)
+outside_is = ap (λ digits. codes "refused span " ++ as_line digits) (sym (decimal_digit 1 (omega arith)))
 
 -- the text has no two tokens
 pub outside_reply : IsReply rule_grammar one_text (ask (has (span_to 2))) (codes "refused span 1\n")
 outside_reply =
     reply (span_to 2) (codes "refused span 1\n")
-    (refused_has (of_no_span (0, refl) (inr (omega arith))
-    (ap (λ digits. codes "refused span " ++ as_line digits) (sym (decimal_digit 1 (omega arith))))))
+    (refused_has (of_no_span (Category 0, refl) (inr (omega arith)) outside_is))
+
+-- a question on tokens has the reply that is its answer
+tokens_reply : (span : TokenSpan) (line : List ℕ) →
+    IsTokensAnswer rule_grammar.lexicon.kinds (codes "a") one_token span line →
+    IsReply rule_grammar one_text (ask (tokens_in span)) line
+tokens_reply span line answer = (codes "a", one_token, ([], refl), are_tokens, answer)
+
+-- the text has the one token
+pub all_tokens_reply : IsReply rule_grammar one_text (ask (tokens_in Whole)) (codes "tokens 1 word:a\n")
+all_tokens_reply =
+    tokens_reply Whole (codes "tokens 1 word:a\n")
+    (tokens_told (omega arith, omega arith)
+    (ap (λ digits. codes "tokens " ++ as_line (digits ++ codes " word:a")) (sym (decimal_digit 1 (omega arith)))))
+
+-- an empty span has none
+pub no_tokens_reply : IsReply rule_grammar one_text (ask (tokens_in (Span 1 1))) (codes "tokens 0\n")
+no_tokens_reply =
+    tokens_reply (Span 1 1) (codes "tokens 0\n")
+    (tokens_told (omega arith, omega arith)
+    (ap (λ digits. codes "tokens " ++ as_line (digits ++ [])) (sym (decimal_digit 0 (omega arith)))))
+
+-- and two tokens are no span of it
+pub tokens_outside_reply : IsReply rule_grammar one_text (ask (tokens_in (Span 0 2))) (codes "refused span 1\n")
+tokens_outside_reply =
+    tokens_reply (Span 0 2) (codes "refused span 1\n") (refused_tokens (inr (omega arith)) outside_is)

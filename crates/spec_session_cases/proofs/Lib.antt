@@ -2,3 +2,4 @@ mod StatesExample
 mod GrammarExample
 mod ExamplesLemmas
 mod SessionExamples
+mod TokenCases

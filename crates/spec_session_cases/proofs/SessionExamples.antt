@@ -4,12 +4,13 @@ use Rattle.std.proofs.lemmas.Fmt.{decimal_digit, decimal-digits_value}
 use Rattle.std.specs.Str.{IsAscii}
 use Rattle.std.proofs.lemmas.Str.Ascii.{IsAscii-from_all}
 use Rattle.std.proofs.lemmas.List.Elements.{All-from_recursion}
-use Rattle.spec_script.specs.Script.{question_form, Constituent, Command, opens, has, ask, Part, header, grammar}
+use Rattle.spec_script.specs.Script.{question_form, Constituent, Query, has, tokens_in, Command, opens, ask, Part, header, grammar}
 use Rattle.spec_script.specs.Script.{of_command, Script, with_grammar, as_parts, text_of}
 use Rattle.spec_script.specs.Script.{line_of, IsWord, IsNameable, IsWithinLimits, AreQuestions}
 use Rattle.spec_script.specs.Script.{MayFollow, BeginsWithParts, BeginsWithScript, EndsAs, Ending}
 use Rattle.spec_script.specs.Script.{ended, broken, IsScript}
 use Rattle.spec_script.specs.declared.question.Constituent.TheVariants.{EntryWhole}
+use Rattle.spec_script.specs.declared.question.TokenSpan.TheVariants.{Whole, Span}
 use Rattle.spec_session.specs.Lines.{as_line}
 use Rattle.spec_session.specs.GrammarReplies.{grammar_reply}
 use Rattle.spec_session.specs.Steps.{version_reply, no_texts, IsReply}
@@ -19,13 +20,13 @@ use Rattle.spec_session.specs.Checking.{lines_from, bare_form, check_mode}
 use Rattle.spec_session_cases.specs.Examples.{front, front_replies}
 use Rattle.spec_script.proofs.ScriptLemmas.{model}
 use Rattle.spec_session.proofs.RunLemmas.{AreTold, replies_told}
-use Rattle.spec_session_cases.proofs.GrammarExample.{rule_block, rule_grammar, accepted, one_token, are_tokens, one_text, category_s, category_t, span_to, entry_reply, category_reply, empty_reply, unknown_reply, outside_reply}
+use Rattle.spec_session_cases.proofs.GrammarExample.{rule_block, rule_grammar, accepted, one_token, are_tokens, one_text, category_s, category_t, span_to, entry_reply, category_reply, empty_reply, unknown_reply, outside_reply, all_tokens_reply, no_tokens_reply, tokens_outside_reply}
 
 -- the answer to a question comes before those to others
-told : (constituent : Constituent) (line rest : List ℕ) (questions : List Command) →
-    IsReply rule_grammar one_text (ask (has constituent)) line → AreTold rule_grammar one_text questions rest →
-    AreTold rule_grammar one_text (ask (has constituent) ∷ questions) (line ++ rest)
-told constituent line rest questions is others = (line, rest, one_text, is, refl, refl, others)
+told : (query : Query) (line rest : List ℕ) (questions : List Command) →
+    IsReply rule_grammar one_text (ask query) line → AreTold rule_grammar one_text questions rest →
+    AreTold rule_grammar one_text (ask query ∷ questions) (line ++ rest)
+told query line rest questions is others = (line, rest, one_text, is, refl, refl, others)
 
 -- a part that has these bytes stands before other parts
 next : (part : Part) (bytes : List ℕ) (at end : ℕ) (parts : List Part) (more rest : List ℕ) →
@@ -154,11 +155,11 @@ questions_begin =
 -- and their answers
 questions_told : AreTold rule_grammar one_text questions (codes "yes\nyes\nno\nrefused category\nrefused span 1\n")
 questions_told =
-    let fifth = told (span_to 2) (codes "refused span 1\n") [] [] outside_reply refl in
-    let fourth = told category_t (codes "refused category\n") (codes "refused span 1\n") (drop 4 questions) unknown_reply fifth in
-    let third = told (span_to 0) (codes "no\n") (codes "refused category\nrefused span 1\n") (drop 3 questions) empty_reply fourth in
-    let second = told category_s (codes "yes\n") (codes "no\nrefused category\nrefused span 1\n") (drop 2 questions) category_reply third in
-    told EntryWhole (codes "yes\n") (codes "yes\nno\nrefused category\nrefused span 1\n") (drop 1 questions) entry_reply second
+    let fifth = told (has (span_to 2)) (codes "refused span 1\n") [] [] outside_reply refl in
+    let fourth = told (has category_t) (codes "refused category\n") (codes "refused span 1\n") (drop 4 questions) unknown_reply fifth in
+    let third = told (has (span_to 0)) (codes "no\n") (codes "refused category\nrefused span 1\n") (drop 3 questions) empty_reply fourth in
+    let second = told (has category_s) (codes "yes\n") (codes "no\nrefused category\nrefused span 1\n") (drop 2 questions) category_reply third in
+    told (has EntryWhole) (codes "yes\n") (codes "yes\nno\nrefused category\nrefused span 1\n") (drop 1 questions) entry_reply second
 
 -- each answer once, and the end
 pub whole_session : IsSession serve_mode
@@ -169,6 +170,50 @@ whole_session =
     questions_begin questions_told
     (record { more = codes "has"; early = omega arith; complete = tt; spelled = refl }) refl
 
+-- the questions on tokens
+abbrev token_questions : List Command
+token_questions = ask (tokens_in Whole) ∷ ask (tokens_in (Span 1 1)) ∷ ask (tokens_in (Span 0 2)) ∷ []
+
+-- the bytes of such a question on a span, where its ends have one digit
+tokens_text : (first end : ℕ) → first < 10 → end < 10 →
+    text_of (of_command (ask (tokens_in (Span first end)))) ≡ codes "tokens " ++ ((48 + first) ∷ 32 ∷ (48 + end) ∷ 10 ∷ [])
+tokens_text first end small small_too =
+    ap (λ digits. codes "tokens " ++ ((digits ++ (32 ∷ decimal end)) ++ 10 ∷ [])) (decimal_digit first small)
+    ∙ ap (λ digits. codes "tokens " ++ ((48 + first) ∷ 32 ∷ (digits ++ 10 ∷ []))) (decimal_digit end small_too)
+
+-- which keeps the limits
+tokens_within : (first end : ℕ) → first < 10 → end < 10 → IsWithinLimits (of_command (ask (tokens_in (Span first end))))
+tokens_within first end small small_too =
+    let size = length-append (line_of (of_command (ask (tokens_in (Span first end))))) (10 ∷ []) in
+    ((omega (arith, small), omega (arith, small_too)), omega (arith, ap length (tokens_text first end small small_too), size))
+
+-- their bytes
+token_questions_begin : BeginsWithParts 38 (codes "tokens\ntokens 1 1\ntokens 0 2\nend\n") (as_parts token_questions) 67 (codes "end\n")
+token_questions_begin =
+    let end : List ℕ = codes "end\n" in
+    let third = next (of_command (ask (tokens_in (Span 0 2)))) (codes "tokens 0 2\n") 56 67 [] end end
+    (tokens_text 0 2 (omega arith) (omega arith)) (omega arith) (tokens_within 0 2 (omega arith) (omega arith)) (refl, refl) in
+    let second = next (of_command (ask (tokens_in (Span 1 1)))) (codes "tokens 1 1\n") 45 67 (as_parts (drop 2 token_questions)) (codes "tokens 0 2\nend\n") end
+    (tokens_text 1 1 (omega arith) (omega arith)) (omega arith) (tokens_within 1 1 (omega arith) (omega arith)) third in
+    next (of_command (ask (tokens_in Whole))) (codes "tokens\n") 38 67 (as_parts (drop 1 token_questions)) (codes "tokens 1 1\ntokens 0 2\nend\n") end
+    refl (omega arith) (tt, omega arith) second
+
+-- and their answers
+token_questions_told : AreTold rule_grammar one_text token_questions (codes "tokens 1 word:a\ntokens 0\nrefused span 1\n")
+token_questions_told =
+    let third = told (tokens_in (Span 0 2)) (codes "refused span 1\n") [] [] tokens_outside_reply refl in
+    let second = told (tokens_in (Span 1 1)) (codes "tokens 0\n") (codes "refused span 1\n") (drop 2 token_questions) no_tokens_reply third in
+    told (tokens_in Whole) (codes "tokens 1 word:a\n") (codes "tokens 0\nrefused span 1\n") (drop 1 token_questions) all_tokens_reply second
+
+-- each answer once, and the end
+pub token_session : IsSession serve_mode
+    (front ++ codes "tokens\ntokens 1 1\ntokens 0 2\nend\n")
+    (front_replies ++ codes "tokens 1 word:a\ntokens 0\nrefused span 1\nend\n") 0
+token_session =
+    small_session token_questions _ (codes "tokens 1 word:a\ntokens 0\nrefused span 1\n") (codes "end\n") 67 (codes "end\n") ended tt
+    token_questions_begin token_questions_told
+    (record { more = []; early = omega arith; complete = tt; spelled = refl }) refl
+
 -- a second text is no question
 no_second : (part : Part) (more : List ℕ) → MayFollow question_form (script_with (ask (has category_s) ∷ [])) part →
     codes "open 1\na\nend\n" ≡ text_of part ++ more → ⊥
@@ -176,6 +221,7 @@ no_second header more in_place e = in_place
 no_second (grammar block) more in_place e = in_place
 no_second (of_command (opens text)) more in_place e = in_place
 no_second (of_command (ask (has constituent))) more in_place e = omega (arith, ap (λ bytes. get_or bytes 0 0) e)
+no_second (of_command (ask (tokens_in span))) more in_place e = omega (arith, ap (λ bytes. get_or bytes 0 0) e)
 
 -- a script that breaks at a place of two digits
 refused_line : codes "script refused 44\n" ≡ last_line (broken 44)
@@ -189,7 +235,7 @@ pub second_text : IsSession serve_mode
 second_text =
     small_session (ask (has category_s) ∷ []) _ (codes "yes\n") (codes "script refused 44\n") 44 (codes "open 1\na\nend\n") (broken 44) tt
     (next (of_command (ask (has category_s))) (codes "has S\n") 38 44 [] _ _ refl (omega arith) (word_s, omega arith) (refl, refl))
-    (told category_s (codes "yes\n") [] [] category_reply refl)
+    (told (has category_s) (codes "yes\n") [] [] category_reply refl)
     (refl, (λ go. no_second go.part go.more go.in_place go.spelled), (λ end. omega (arith, ap (λ bytes. get_or bytes 0 0) end.spelled)))
     refused_line
 

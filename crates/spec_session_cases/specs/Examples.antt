@@ -39,6 +39,10 @@ pub record SmallSessions : Type 0 where
   pub whole_session : IsSession serve_mode
       (front ++ codes "has\nhas S\nhas S 0 0\nhas T\nhas S 0 2\nend\nhas")
       (front_replies ++ codes "yes\nyes\nno\nrefused category\nrefused span 1\nend\n") 0
+  -- the tokens of the text, of an empty span and of a span that the text doesn't have
+  pub token_session : IsSession serve_mode
+      (front ++ codes "tokens\ntokens 1 1\ntokens 0 2\nend\n")
+      (front_replies ++ codes "tokens 1 word:a\ntokens 0\nrefused span 1\nend\n") 0
   -- a second text breaks the script behind the replies to what stands before it
   pub second_text : IsSession serve_mode (front ++ codes "has S\nopen 1\na\nend\n")
       (front_replies ++ codes "yes\nscript refused 44\n") 3

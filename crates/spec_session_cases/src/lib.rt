@@ -3,4 +3,4 @@
 
 mod laws;
 
-pub use laws::small_sessions;
+pub use laws::{small_sessions, small_token_texts};

@@ -1,12 +1,17 @@
 -- A line that begins with `has` asks what the rest names.
-use Rattle.script_reader.proofs.QuestionLemmas.{no_beginning, no_lf_behind}
+use Rattle.script_reader.proofs.QuestionLemmas.{no_has, has_read, no_lf_behind}
 use Rattle.script_reader.proofs.forms.has_question.Goals as goal
 
 pub returns-in_err-behind : goal.returns-in_err-behind
 returns-in_err-behind c =
     rw c.from_residual.ensures
-    (no_beginning c.args.line.now c.as_slice.result.now c.as_slice.ensures c.in_err-behind.ensures)
+    (no_has c.args.line.now c.as_slice.result.now c.as_slice.ensures c.in_err-behind.ensures)
 
 pub constituent_of-requires : goal.constituent_of-requires
 constituent_of-requires c =
     no_lf_behind c.args.line.now c.as_slice.result.now c.in_ok-behind.field-0.now c.in_ok-behind.ensures c.requires
+
+pub returns : goal.returns
+returns c =
+    has_read c.args.line.now c.as_slice.result.now c.as_slice.ensures c.in_ok-behind.field-0.now
+    c.in_ok-behind.ensures c.constituent_of.result c.constituent_of.ensures
