@@ -43,7 +43,7 @@ fault_reason (file.TooLarge count) = with_number (codes "large") count
 fault_reason (file.NotUtf8 at) = with_number (codes "utf8") at
 fault_reason (file.Syntax at) = with_number (codes "syntax") at
 fault_reason (file.Unsupported word at) = with_both (codes "unsupported") word at
-fault_reason (file.Unbuilt number) = with_number (codes "unbuilt") number
+fault_reason (file.BadDifference at) = with_number (codes "difference") at
 
 -- the reason why definitions are unfit; want of memory is none, and has no word
 abbrev pub unfit_reason : GrammarFault → List ℕ
@@ -53,7 +53,6 @@ unfit_reason (made.BadList number) = with_number (codes "list") number
 unfit_reason (made.TooManyRules count) = with_number (codes "rules") count
 unfit_reason (made.RepeatedToken name) = with_name (codes "token") name
 unfit_reason (made.UnknownCategory name number) = with_both (codes "category") name number
-unfit_reason (made.Unbuilt number) = with_number (codes "unbuilt") number
 unfit_reason (made.Cyclic name) = with_name (codes "cyclic") name
 
 -- the reason where there are too many states
