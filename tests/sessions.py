@@ -467,6 +467,9 @@ for name, grammar, wanted in [
     ('a line comment', b'-- one rule\nA. S ::= "a" ;', counts(1, 1, 1)),
     ('a terminator', b'A. S ::= "a" ; terminator S "," ;', counts(3, 2, 2)),
     ('coercions', b'coercions Exp 2 ;', counts(3, 3, 2)),
+    ('a predefined name among the items', b'A. S ::= "a" ; B. S ::= S Char ;', counts(2, 1, 2)),
+    ('a comment of the language', b'comment "//" ; A. S ::= "a" ;', counts(1, 1, 1)),
+    ('a token with its place', b'A. S ::= "a" ; position token T \'a\' ;', counts(1, 1, 2)),
     ('1,024 rules', b'A. S ::= "a" ;' * 1024, counts(1024, 1, 1)),
     ('1,024 rules and empty definitions', b' ;' + b'A. S ::= "a" ;' * 1024 + b'; ;', counts(1024, 1, 1)),
 ]:
@@ -478,10 +481,6 @@ for name, grammar, wanted in [
 def refused(*reason):
     words = [word if isinstance(word, bytes) else str(word).encode() for word in reason]
     return b'grammar refused ' + b' '.join(words) + b'\n'
-
-
-def unbuilt(number):
-    return refused(b'unbuilt', number)
 
 
 def syntax(at):
@@ -516,7 +515,6 @@ for name, grammar, wanted in [
     ('a name for a list', b'A. [S] ::= "a" ;', refused(b'list', 0)),
     ('a list label for no list', b'[]. S ::= "a" ;', refused(b'list', 0)),
     ('a predefined name for a category', b'A. Integer ::= "a" ;', refused(b'token Integer')),
-    ('a predefined name among the items', b'A. S ::= "a" ; B. S ::= S Char ;', unbuilt(1)),
     ('a quote in a word', b'A. S ::= "a"b" ;', syntax(12)),
     ('the byte FF in a word', b'A. S ::= "\xff" ;', refused(b'utf8', 10)),
     ('the byte FF behind a rule', b'A. S ::= "a" \xff', refused(b'utf8', 13)),
@@ -530,9 +528,8 @@ for name, grammar, wanted in [
     ('a token behind a word', b'A. S ::= "a" . ;', syntax(13)),
     ('a token behind two categories', b'A. S ::= S S . ;', syntax(13)),
     ('a zero byte between tokens', b'A.\x00S ::= "a" ;', syntax(2)),
-    ('empty definitions are not counted', b' ; ;; A. S ::= "a" ; \n; token T \'a\' ;', unbuilt(1)),
-    ('a comment of the language is not built', b'comment "//" ; A. S ::= "a" ;', unbuilt(0)),
-    ('a token with its place is not built', b'A. S ::= "a" ; position token T \'a\' ;', unbuilt(1)),
+    ('empty definitions are not counted', b' ; ;; A. S ::= "a" ; \n; A. S ::= T ;', unknown(b'T', 1)),
+    ('a difference of two characters in turn', b"token T ('a' 'b') - 'a' ;", refused(b'difference', 18)),
     ('the first of two faults', b'A. S ::= "a" ; B. S ::= s ; C. S ::= t ;', syntax(24)),
     ('1,025 rules', b'A. S ::= "a" ;' * 1025, refused(b'rules', 1025)),
     ('1,030 rules', b'A. S ::= "a" ;' * 1030, refused(b'rules', 1030)),
