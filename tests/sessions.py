@@ -524,6 +524,9 @@ for name, grammar, wanted in [
     ('a line comment', b'-- one rule\nA. S ::= "a" ;', counts(1, 1, 1)),
     ('a terminator', b'A. S ::= "a" ; terminator S "," ;', counts(3, 2, 2)),
     ('coercions', b'coercions Exp 2 ;', counts(3, 3, 2)),
+    ('a predefined name among the items', b'A. S ::= "a" ; B. S ::= S Char ;', counts(2, 1, 2)),
+    ('a comment of the language', b'comment "//" ; A. S ::= "a" ;', counts(1, 1, 1)),
+    ('a token with its place', b'A. S ::= "a" ; position token T \'a\' ;', counts(1, 1, 2)),
     ('1,024 rules', b'A. S ::= "a" ;' * 1024, counts(1024, 1, 1)),
     ('1,024 rules and empty definitions', b' ;' + b'A. S ::= "a" ;' * 1024 + b'; ;', counts(1024, 1, 1)),
 ]:
@@ -582,6 +585,8 @@ for name, grammar, wanted in [
     ('a token behind a word', b'A. S ::= "a" . ;', syntax(13)),
     ('a token behind two categories', b'A. S ::= S S . ;', syntax(13)),
     ('a zero byte between tokens', b'A.\x00S ::= "a" ;', syntax(2)),
+    ('empty definitions are not counted', b' ; ;; A. S ::= "a" ; \n; A. S ::= T ;', unknown(b'T', 1)),
+    ('a difference of two characters in turn', b"token T ('a' 'b') - 'a' ;", refused(b'difference', 18)),
     ('the first of two faults', b'A. S ::= "a" ; B. S ::= s ; C. S ::= t ;', syntax(24)),
     ('1,025 rules', b'A. S ::= "a" ;' * 1025, refused(b'rules', 1025)),
     ('1,030 rules', b'A. S ::= "a" ;' * 1030, refused(b'rules', 1030)),

@@ -133,7 +133,7 @@ text_reason (file.TooLarge count) reason is = sym (same_Some _ reason is)
 text_reason (file.NotUtf8 at) reason is = sym (same_Some _ reason is)
 text_reason (file.Syntax at) reason is = sym (same_Some _ reason is)
 text_reason (file.Unsupported word at) reason is = sym (same_Some _ reason is)
-text_reason (file.Unbuilt number) reason is = sym (same_Some _ reason is)
+text_reason (file.BadDifference at) reason is = sym (same_Some _ reason is)
 
 -- the reason that is told of unfit definitions is that of their fault
 grammar_reason : (fault : GrammarFault) (reason : List ℕ) → reason_of (UnfitGrammar fault) ≡ Some reason → reason ≡ unfit_reason fault
@@ -143,7 +143,6 @@ grammar_reason (made.BadList number) reason is = sym (same_Some _ reason is)
 grammar_reason (made.TooManyRules count) reason is = sym (same_Some _ reason is)
 grammar_reason (made.RepeatedToken name) reason is = sym (same_Some _ reason is)
 grammar_reason (made.UnknownCategory name number) reason is = sym (same_Some _ reason is)
-grammar_reason (made.Unbuilt number) reason is = sym (same_Some _ reason is)
 grammar_reason (made.Cyclic name) reason is = sym (same_Some _ reason is)
 
 -- the reason that is told is one for which the block is refused

@@ -23,7 +23,7 @@ fn reason(alloc: Global, fault: &LanguageFault) -> Result<String, AllocError>
         Text(TextFault::Unsupported { word, at }) => {
             format!(in alloc; "unsupported {} {at}", word.as_str())
         }
-        Text(TextFault::Unbuilt { def }) => format!(in alloc; "unbuilt {def}"),
+        Text(TextFault::BadDifference { at }) => format!(in alloc; "difference {at}"),
         Grammar(Unfit::Memory) => Err(AllocError),
         Grammar(Unfit::BadCoercion { def }) => format!(in alloc; "coercion {def}"),
         Grammar(Unfit::BadList { def }) => format!(in alloc; "list {def}"),
@@ -32,7 +32,6 @@ fn reason(alloc: Global, fault: &LanguageFault) -> Result<String, AllocError>
         Grammar(Unfit::UnknownCategory { name, def }) => {
             format!(in alloc; "category {} {def}", name.as_str())
         }
-        Grammar(Unfit::Unbuilt { def }) => format!(in alloc; "unbuilt {def}"),
         Grammar(Unfit::Cyclic { name }) => format!(in alloc; "cyclic {}", name.as_str()),
         Lex(LexFault::Memory) => Err(AllocError),
         Lex(LexFault::TooManyStates) => format!(in alloc; "states"),
