@@ -56,16 +56,15 @@ pub(crate) fn plain_text(name: &Name) -> CategoryText<'_>
     }
 }
 
-/// The category's name in its brackets, made in one piece.
+/// The category's name in its brackets.
 fn bracketed(alloc: Global, cat: &CatName) -> Result<Name, AllocError>
     ensures { IfOk result (λ text. text ≡ category_text cat.now) }
 {
     let depth = cat.depth as usize;
-    let name = cat.name.as_slice();
-    let mut text = Vec::with_capacity(alloc, name.len() + 2 * depth)?;
-    text.resize(depth, b'[')?;
-    text.extend_from_slice(name)?;
-    text.resize(name.len() + 2 * depth, b']')?;
+    let mut text = vec![in alloc; b'['; depth]?;
+    let closing = vec![in alloc; b']'; depth]?;
+    text.extend_from_slice(cat.name.as_slice())?;
+    text.extend_from_slice(closing.as_slice())?;
     Ok(Name::of(text))
 }
 

@@ -32,7 +32,7 @@ loop-number-preserved c =
           more_known defs c.args.known.now c.requires.listed number def c.as_slice.result.now (search rules)
           c.loop-number-test.true c.index-defs-number.is c.loop-number.invariant.known listed;
       used =
-          used_more c.args.kinds.now defs number def c.as_slice-2.result.now c.loop-number.used c.add_listed.new.self at (search rules)
+          used_more c.args.kinds.now defs number def c.as_slice-in-loop-number.result.now c.loop-number.used c.add_listed.new.self at (search rules)
           c.loop-number.invariant.used c.in-Ok-add_listed.ensures;
     }
 
