@@ -1,6 +1,7 @@
 pub mod Lexicon
 pub mod Expressions
 pub mod Matching
+pub mod Classes
 pub mod Predefined
 pub mod Kinds
 pub mod LongestMatch
