@@ -7,6 +7,7 @@ pub mod TokenNameLemmas
 pub mod SymbolLemmas
 pub mod EntryLemmas
 pub mod SymbolNameLemmas
+pub mod SoundLemmas
 pub mod BoundaryLemmas
 pub mod BracketLemmas
 pub mod PieceLemmas

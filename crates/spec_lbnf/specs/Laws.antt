@@ -1,7 +1,10 @@
 -- What is true of expansion and of its checks, for every list of definitions, and of the size of
 -- what a file spells.
 use Rattle.std.specs.Prelude.{◌≡◌, ℕ, ◌*◌, ◌≤◌, ◌↔◌, List, length, Some, slice_get, Contains}
-use Rattle.std.specs.Prelude.{IfSome, All}
+use Rattle.std.specs.Prelude.{IfSome, All, IsUtf8, flat_map}
+use Rattle.spec_lexing.specs.declared.expression.Expr.{Expr}
+use Rattle.spec_lexing.specs.Classes.{IsSound, IsSoundDef}
+use Rattle.spec_lexing.specs.Expressions.{expression_of}
 use Rattle.spec_grammar.specs.Cycles.{IsAcyclic}
 use Rattle.spec_lbnf.specs.declared.definition.Def.{Def}
 use Rattle.spec_lbnf.specs.declared.fault.GrammarFault.{GrammarFault}
@@ -11,7 +14,7 @@ use Rattle.spec_lbnf.specs.Differences.{IsProper}
 use Rattle.spec_lbnf.specs.Faults.{Spells, IsFirstFault}
 use Rattle.spec_lbnf.specs.Limits.{size_of, AreFewAndSmall}
 use Rattle.spec_grammar.specs.Grammars.{Grammar, name_number, HasOwnSymbols}
-use Rattle.spec_lbnf.specs.Expansion.{distinct, expansion_of}
+use Rattle.spec_lbnf.specs.Expansion.{rules_of, distinct, words_of, token_in, expansion_of}
 use Rattle.spec_grammar.specs.Grammars.{IsSymbolOf, HasDistinctNames}
 use Rattle.spec_lbnf.specs.Checks.{HasOwnNames, AreAllKnown, IsFirstCyclic, AreFit, IsUnfit}
 
@@ -28,6 +31,17 @@ OwnEntry =
 -- where no definition repeats a name, no two symbols of the grammar have one name
 abbrev pub OneSymbolEach : Type 0
 OneSymbolEach = (defs : List Def) → HasOwnNames defs → HasDistinctNames (expansion_of defs)
+
+-- the expression of the token is sound
+abbrev pub IsSoundToken : List ℕ × Expr → Type 0
+IsSoundToken token = IsSound (expression_of token.1)
+
+-- where words are UTF-8 and the expressions of token definitions are sound, the kinds of the grammar
+-- are sound
+abbrev pub SoundKinds : Type 0
+SoundKinds =
+    (defs : List Def) → All IsUtf8 (words_of (rules_of defs))
+    → All IsSoundToken (flat_map token_in defs) → All IsSoundDef (expansion_of defs).lexicon.kinds
 
 -- no definitions are fit and unfit
 abbrev pub FitOrUnfit : Type 0

@@ -3,7 +3,7 @@ ghost use Rattle.spec_lbnf.specs.Laws.{OwnSymbols, OwnEntry, FitOrUnfit, OneUnfi
 ghost use Rattle.spec_lbnf.specs.Laws.{NumbersNameBack, NoMemoryFault, NoMemoryUnfitness};
 ghost use Rattle.spec_lbnf.specs.Laws.{AcyclicOrCyclic, OneCyclic, DistinctNames};
 ghost use Rattle.spec_lbnf.specs.Laws.{TwoBytesForEach, DefsWithinLimits, OneSymbolEach};
-ghost use Rattle.spec_lbnf.specs.Laws.{ProperDefs};
+ghost use Rattle.spec_lbnf.specs.Laws.{ProperDefs, SoundKinds};
 
 /// Each rule of the grammar that definitions stand for is of a category of that grammar, and its
 /// items are categories and kinds of it, whether or not each category has a rule.
@@ -32,6 +32,12 @@ pub fn own_entry()
 /// token.
 pub fn one_symbol_each()
     ensures { OneSymbolEach }
+{}
+
+/// Where words are UTF-8 and the expressions of token definitions are sound, the kinds of the
+/// grammar are sound.
+pub fn sound_kinds()
+    ensures { SoundKinds }
 {}
 
 /// No grammar both is without a cycle and has a first cyclic category, and at most one text is that

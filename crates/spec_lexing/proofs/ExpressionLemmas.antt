@@ -43,7 +43,7 @@ pub expression-Opt : (part : Expr) → expression_of (Opt part) ≡ optional (ex
 expression-Opt part = ap expression_of (sym (rolls-Opt part)) ∙ fold-roll-Expr Expression form_of (Expr-F.Opt part)
 
 -- the expressions of the predefined kinds stand for those of their page, part by part
-integer_is : expression_of integer_expr ≡ integer
+pub integer_is : expression_of integer_expr ≡ integer
 integer_is = expression-Plus (Class Digit) ∙ ap plus (expression-Class Digit)
 
 character_is : (text : String) → expression_of (character_expr text) ≡ character text
@@ -58,7 +58,7 @@ exponent_is =
     (expression-Seq (character_expr "e" ∷ Opt (character_expr "-") ∷ Plus (Class Digit) ∷ [])
     ∙ (λ i. all_in_turn (character_is "e" i ∷ sign i ∷ integer_is i ∷ [])))
 
-double_is : expression_of double_expr ≡ double
+pub double_is : expression_of double_expr ≡ double
 double_is =
     expression-Seq (Plus (Class Digit) ∷ character_expr "." ∷ Plus (Class Digit) ∷ exponent_expr ∷ [])
     ∙ (λ i. all_in_turn (integer_is i ∷ character_is "." i ∷ integer_is i ∷ exponent_is i ∷ []))
@@ -68,7 +68,7 @@ ident_part_is =
     expression-Alt (Class Letter ∷ Class Digit ∷ character_expr "_" ∷ character_expr "'" ∷ [])
     ∙ (λ i. one_of (expression-Class Letter i ∷ expression-Class Digit i ∷ character_is "_" i ∷ character_is "'" i ∷ []))
 
-ident_is : expression_of ident_expr ≡ ident
+pub ident_is : expression_of ident_expr ≡ ident
 ident_is =
     let rest : expression_of (Star ident_part_expr) ≡ star (one_of (letter ∷ digit ∷ character "_" ∷ character "'" ∷ []))
     = expression-Star ident_part_expr ∙ ap star ident_part_is in
@@ -87,14 +87,14 @@ inside_is text =
     expression-Alt (Minus (Class AnyChar) (any_char_expr text) ∷ escape_expr ∷ [])
     ∙ (λ i. one_of (plain i ∷ escape_is i ∷ []))
 
-string_is : expression_of string_expr ≡ string
+pub string_is : expression_of string_expr ≡ string
 string_is =
     let rest : expression_of (Star (inside_expr "\"\\")) ≡ star (inside "\"\\")
     = expression-Star (inside_expr "\"\\") ∙ ap star (inside_is "\"\\") in
     expression-Seq (character_expr "\"" ∷ Star (inside_expr "\"\\") ∷ character_expr "\"" ∷ [])
     ∙ (λ i. all_in_turn (character_is "\"" i ∷ rest i ∷ character_is "\"" i ∷ []))
 
-char_literal_is : expression_of char_literal_expr ≡ char_literal
+pub char_literal_is : expression_of char_literal_expr ≡ char_literal
 char_literal_is =
     expression-Seq (character_expr "'" ∷ inside_expr "'\\" ∷ character_expr "'" ∷ [])
     ∙ (λ i. all_in_turn (character_is "'" i ∷ inside_is "'\\" i ∷ character_is "'" i ∷ []))
