@@ -5,14 +5,14 @@ use Rattle.std.specs.List.{flat_map, AllByRecursion}
 use Rattle.std.specs.Str.{IsUtf8, chars}
 use Rattle.std.proofs.lemmas.Bool.{cases_Bool}
 use Rattle.std.proofs.lemmas.List.Elements.{All-from_recursion, recursion_from_All}
-use Rattle.std.proofs.lemmas.Str.{IsUtf8-from_ascii}
+use Rattle.std.proofs.lemmas.Str.{IsUtf8-from_ascii, chars-IsAscii}
 use Rattle.std.proofs.lemmas.Str.Ascii.{IsAscii-from_all}
 use Rattle.spec_lexing.specs.declared.expression.Expr.{Expr}
 use Rattle.spec_lexing.specs.declared.kind_def.KindDef.{KindDef}
 use Rattle.spec_lexing.specs.declared.kind_def.KindDef.TheVariants.{Word as WordKind, Token as TokenKind}
-use Rattle.spec_lexing.specs.Classes.{IsAsciiClass, IsSound, IsSoundDef}
+use Rattle.spec_lexing.specs.Classes.{IsSound, IsSoundDef}
 use Rattle.spec_lexing.specs.Expressions.{expression_of}
-use Rattle.spec_lexing.specs.Predefined.{any_char_of, escape, inside, integer_expr, double_expr, ident_expr, string_expr, char_literal_expr, predefined_kinds}
+use Rattle.spec_lexing.specs.Predefined.{escape, inside, integer_expr, double_expr, ident_expr, string_expr, char_literal_expr, predefined_kinds}
 use Rattle.spec_lexing.proofs.ExpressionLemmas.{integer_is, double_is, ident_is, string_is, char_literal_is}
 use Rattle.spec_lbnf.specs.declared.definition.Def.{Def}
 use Rattle.spec_lbnf.specs.Expansion.{rules_of, words_of, token_in, is_active, active_kinds, tokens_of, kinds_by}
@@ -26,17 +26,21 @@ ascii_text bytes low = IsUtf8-from_ascii bytes (IsAscii-from_all bytes (All-from
 escape_sound : IsSound escape
 escape_sound = (refl, (ascii_text (codes "\"'\\nt") (lit< tt, (lit< tt, (lit< tt, (lit< tt, (lit< tt, tt))))), tt))
 
+-- a class of ASCII characters is an ASCII class
+ascii_class : (bytes : List ℕ) → AllByRecursion (λ b. b < 128) bytes → All (λ c. c < 128) (chars bytes)
+ascii_class bytes low =
+    let all : All (λ b. b < 128) bytes = All-from_recursion (λ b. b < 128) bytes low in
+    subst (All (λ c. c < 128)) (sym (chars-IsAscii bytes (IsAscii-from_all bytes all))) all
+
 string_inside_sound : IsSound (inside "\"\\")
 string_inside_sound =
     let low : AllByRecursion (λ b. b < 128) (codes "\"\\") = (lit< tt, (lit< tt, tt)) in
-    let ascii : IsAsciiClass (any_char_of "\"\\") = All-from_recursion (λ b. b < 128) (chars (codes "\"\\")) (lit< tt, (lit< tt, tt)) in
-    (((tt, ascii), (tt, ascii_text (codes "\"\\") low)), (escape_sound, tt))
+    (((tt, ascii_class (codes "\"\\") low), tt, ascii_text (codes "\"\\") low), (escape_sound, tt))
 
 char_inside_sound : IsSound (inside "'\\")
 char_inside_sound =
     let low : AllByRecursion (λ b. b < 128) (codes "'\\") = (lit< tt, (lit< tt, tt)) in
-    let ascii : IsAsciiClass (any_char_of "'\\") = All-from_recursion (λ b. b < 128) (chars (codes "'\\")) (lit< tt, (lit< tt, tt)) in
-    (((tt, ascii), (tt, ascii_text (codes "'\\") low)), (escape_sound, tt))
+    (((tt, ascii_class (codes "'\\") low), tt, ascii_text (codes "'\\") low), (escape_sound, tt))
 
 predefined_sound : AllByRecursion IsSoundToken predefined_kinds
 predefined_sound = (
