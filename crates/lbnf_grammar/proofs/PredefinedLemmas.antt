@@ -67,12 +67,19 @@ module _ (defs : List Def) (used taken : List (List ℕ)) (uses : used ≡ used_
 
   pub active_are : filter (λ (kind : List ℕ × Expr). is_free_use used taken kind.0) predefined_kinds ≡ active_kinds defs
   active_are =
-      filter_members (λ (kind : List ℕ × Expr). is_free_use used taken kind.0) (λ (kind : List ℕ × Expr). is_active defs kind.0) predefined_kinds
-      (free_is_active (predefined_name Integer) refl,
-      (free_is_active (predefined_name Double) refl,
-      (free_is_active (predefined_name Ident) refl,
-      (free_is_active (predefined_name String) refl,
-      (free_is_active (predefined_name Char) refl, tt)))))
+      filter_members (λ (kind : List ℕ × Expr). is_free_use used taken kind.0) (λ (kind : List ℕ × Expr). is_active defs kind.0) predefined_kinds (
+        free_is_active (predefined_name Integer) refl,
+        (
+          free_is_active (predefined_name Double) refl,
+          (
+            free_is_active (predefined_name Ident) refl,
+            (
+              free_is_active (predefined_name String) refl,
+              (free_is_active (predefined_name Char) refl, tt),
+            ),
+          ),
+        ),
+      )
 
 -- the names of the kinds, as tokens
 names_of_kinds : (kinds : List Predefined) → names_in (map predefined_token kinds) ≡ map predefined_name kinds

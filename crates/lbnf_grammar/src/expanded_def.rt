@@ -21,7 +21,6 @@ impl<'a> Model for ExpandedDef<'a> {
     ghost use Rattle.std.specs.Prelude.{◌≡◌};
     ghost use Rattle.spec_lbnf.specs.declared.definition.Def.{Def};
     ghost use Rattle.lbnf_grammar.specs.MadeRules.{made_rules};
-
     ghost use Rattle.std.specs.Coded.{codes};
     ghost use Rattle.spec_lexing.specs.contracts.expression.Expr as expr;
 

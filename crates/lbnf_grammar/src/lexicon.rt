@@ -103,11 +103,7 @@ fn line_comments(alloc: Global, defs: &[ExpandedDef<'_>]) -> Result<Vec<Name>, A
 }
 
 /// Adds the word that begins the line comments of the definition, if it is one of these.
-fn add_line_comment(
-    alloc: Global,
-    comments: &mut Vec<Name>,
-    def: &Def,
-) -> Result<(), AllocError>
+fn add_line_comment(alloc: Global, comments: &mut Vec<Name>, def: &Def) -> Result<(), AllocError>
     ensures { OnOk result (comments.new.items ≡ comments.old.items ++ line_comment_in def.now) }
 {
     if let Def::LineComment(opening) = def {
@@ -117,10 +113,7 @@ fn add_line_comment(
 }
 
 /// The words that begin and end block comments.
-fn block_comments(
-    alloc: Global,
-    defs: &[ExpandedDef<'_>],
-) -> Result<Vec<(Name, Name)>, AllocError>
+fn block_comments(alloc: Global, defs: &[ExpandedDef<'_>]) -> Result<Vec<(Name, Name)>, AllocError>
     ensures { IfOk result (λ comments. comments.items ≡ flat_map block_comment_in defs.now) }
 {
     let mut comments = Vec::new(alloc);

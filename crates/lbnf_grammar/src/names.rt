@@ -85,12 +85,7 @@ impl Names {
     }
 
     /// Adds the name, if it is new, and among these others.
-    fn add_if_listed(
-        &mut self,
-        alloc: Global,
-        others: &Names,
-        name: &str,
-    ) -> Result<(), AllocError>
+    fn add_if_listed(&mut self, alloc: Global, others: &Names, name: &str) -> Result<(), AllocError>
         ensures { OnOk result (self.new
             ≡ cond (is_among others.now name.now) (with_new_name self.old name.now) self.old) }
     {

@@ -65,11 +65,7 @@ pub(crate) fn own_names<'a, 'd>(
 }
 
 /// Adds the name of the token that the definition defines, if it defines one.
-pub(crate) fn add_token_name(
-    alloc: Global,
-    names: &mut Names,
-    def: &Def,
-) -> Result<(), AllocError>
+pub(crate) fn add_token_name(alloc: Global, names: &mut Names, def: &Def) -> Result<(), AllocError>
     ensures { OnOk result
         (names.new ≡ with_new_names names.old (names_in (token_in def.now))) }
 {

@@ -176,11 +176,7 @@ fn active_among(
 }
 
 /// The predefined kinds whose names are used and not taken, in their order.
-fn active_by(
-    alloc: Global,
-    used: &Names,
-    taken: &Names,
-) -> Result<Vec<Predefined>, AllocError>
+fn active_by(alloc: Global, used: &Names, taken: &Names) -> Result<Vec<Predefined>, AllocError>
     ensures { IfOk result (λ active. map predefined_token active.items
         ≡ filter (λ kind. is_free_use used.now taken.now kind.0) predefined_kinds) }
 {

@@ -103,11 +103,7 @@ fn rule_names(
 }
 
 /// The names that the rules of the definitions meet, and their internal categories behind these.
-fn met_names(
-    alloc: Global,
-    defs: &[ExpandedDef<'_>],
-    kinds: &Names,
-) -> Result<MetNames, AllocError>
+fn met_names(alloc: Global, defs: &[ExpandedDef<'_>], kinds: &Names) -> Result<MetNames, AllocError>
     requires { kinds.now ≡ kind_names defs.now }
     ensures categories { IfOk result (λ met. met.categories ≡ categories_of defs.now) }
     ensures words { IfOk result (λ met. met.words ≡ words_of (rules_of defs.now)) }
