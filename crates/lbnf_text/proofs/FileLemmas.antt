@@ -43,7 +43,7 @@ module _ (text : List ℕ) (tokens : List PlacedToken) (stop : ℕ) (scan : IsSc
 few_signs : (tokens : List PlacedToken) → length (minus_signs tokens) ≤ length tokens
 few_signs [] = omega arith
 few_signs (token ∷ rest) = elim (cases_Bool (is_minus token.token)) [
-  | inl yes ↦ rw yes (omega (arith, few_signs rest))
+  | inl is ↦ rw is (omega (arith, few_signs rest))
   | inr other ↦ rw other (omega (arith, few_signs rest))
 ]
 

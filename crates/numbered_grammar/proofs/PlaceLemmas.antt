@@ -93,10 +93,10 @@ category_entry : (n : ℕ) (names : List (List ℕ)) (name : List ℕ) (s : Symb
 category_entry n [] name s there = absurd (none_there (name, s) there)
 category_entry n (own ∷ names) name s there = elim (cons_cases (own, Category n) (name, s) (categories_from (n + 1) names) there) [
   | inl same ↦ (
-      0,
-      sym (ap (λ (x : Entry). x.1) same) ∙ ap Category (omega arith),
-      ap (λ (x : Entry). Some x.0) same,
-    )
+    0,
+    sym (ap (λ (x : Entry). x.1) same) ∙ ap Category (omega arith),
+    ap (λ (x : Entry). Some x.0) same,
+  )
   | inr more ↦
       let rest = category_entry (n + 1) names name s more in
       (suc rest.0, rest.1 ∙ ap Category (omega arith), rest.2)
@@ -123,12 +123,12 @@ kind_entry n (Word word ∷ kinds) name s there =
     (suc rest.0, rest.1, rest.2 ∙ ap Kind (omega arith), rest.3, rest.4)
 kind_entry n (Token own expr ∷ kinds) name s there = elim (cons_cases (own, Kind n) (name, s) (kinds_from (n + 1) kinds) there) [
   | inl same ↦ (
-      0,
-      Token own expr,
-      sym (ap (λ (x : Entry). x.1) same) ∙ ap Kind (omega arith),
-      refl,
-      ap (λ (x : Entry). x.0) same,
-    )
+    0,
+    Token own expr,
+    sym (ap (λ (x : Entry). x.1) same) ∙ ap Kind (omega arith),
+    refl,
+    ap (λ (x : Entry). x.0) same,
+  )
   | inr more ↦
       let rest = kind_entry (n + 1) kinds name s more in
       (suc rest.0, rest.1, rest.2 ∙ ap Kind (omega arith), rest.3, rest.4)
@@ -234,8 +234,8 @@ module _ {S : Type 0} (old : IndexMap (Vec ℕ Global) Symbol S) (name : List �
       let shown : Vec ℕ Global × Symbol → Entry = λ entry. (entry.0.items, entry.1) in (
         sym (look_up name old.entries) ∙ none,
         ap (map shown) (inserted ∙ insert_entry-new (λ (a b : Vec ℕ Global). bytes_eq a.items b.items) old key s no_key)
-        ∙ map-append shown old.entries ((key, s) ∷ [])
-        ∙ ap (λ bytes. entries_in old ++ (bytes, s) ∷ []) is,
+            ∙ map-append shown old.entries ((key, s) ∷ [])
+            ∙ ap (λ bytes. entries_in old ++ (bytes, s) ∷ []) is,
       )
 
 -- one more entry of a name that has none
@@ -299,9 +299,9 @@ module _ (names : List (List ℕ)) (i : ℕ) (name : List ℕ) (within : i < len
   category_more adds =
       let count : 0 + length (take i names) ≡ i = omega (arith, length-take-le i names (omega (arith, within))) in (
         adds.1 ∙ ap (λ l. l ++ (name, Category i) ∷ []) so_far
-        ∙ ap (λ k. categories_from 0 (take i names) ++ (name, Category k) ∷ []) (sym count)
-        ∙ sym (categories_push 0 (take i names) name)
-        ∙ ap (categories_from 0) (sym (front_more names i name within is)),
+            ∙ ap (λ k. categories_from 0 (take i names) ++ (name, Category k) ∷ []) (sym count)
+            ∙ sym (categories_push 0 (take i names) name)
+            ∙ ap (categories_from 0) (sym (front_more names i name within is)),
         subst HasOneEach (sym adds.1) (one_push old name (Category i) one adds.0),
       )
 

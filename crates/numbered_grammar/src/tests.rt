@@ -9,8 +9,7 @@ use std::test::*;
 
 #[test]
 fn symbols_are_found_by_their_names(rt: HostRuntime) -> Result<(), Fail> {
-    let grammar =
-        grammar_of_names(rt.alloc(), &["S", "T"], &["Hex", "Id"])?.ok_or("a grammar")?;
+    let grammar = grammar_of_names(rt.alloc(), &["S", "T"], &["Hex", "Id"])?.ok_or("a grammar")?;
     let cases = [
         ("S", Some(Symbol::Category(0))),
         ("T", Some(Symbol::Category(1))),

@@ -45,10 +45,16 @@ char_inside_sound =
 predefined_sound : AllByRecursion IsSoundToken predefined_kinds
 predefined_sound = (
   subst IsSound (sym integer_is) tt,
-  (subst IsSound (sym double_is) (tt, (refl, (tt, ((refl, (refl, (tt, tt))), tt)))),
-  (subst IsSound (sym ident_is) (tt, ((tt, (tt, (refl, (refl, tt)))), tt)),
-  (subst IsSound (sym string_is) (refl, (string_inside_sound, (refl, tt))),
-  (subst IsSound (sym char_literal_is) (refl, (char_inside_sound, (refl, tt))), tt)))),
+  (
+    subst IsSound (sym double_is) (tt, (refl, (tt, ((refl, (refl, (tt, tt))), tt)))),
+    (
+      subst IsSound (sym ident_is) (tt, ((tt, (tt, (refl, (refl, tt)))), tt)),
+      (
+        subst IsSound (sym string_is) (refl, (string_inside_sound, (refl, tt))),
+        (subst IsSound (sym char_literal_is) (refl, (char_inside_sound, (refl, tt))), tt),
+      ),
+    ),
+  ),
 )
 
 -- what holds of each item holds of those that pass

@@ -39,8 +39,8 @@ returns-in-None c =
     let end : c.in_ok-scan.scan.stop ≡ length c.args.text.now = omega (arith, stop_within c.args.text.now c.in_ok-scan.scan.tokens.items c.in_ok-scan.scan.stop scan) in
     defs_are c.args.text.now c.in_ok-scan.scan.tokens.items c.in_ok-scan.scan.stop scan c.in_ok-defs.defs.items (record { few = c.requires; utf8 = c.utf8.text }) end (rw (← c.as_slice.ensures.value) c.in_ok-defs.ensures) (rw c.as_slice-2.ensures.value at c.in-None.ensures)
 
-pub returns-in-Some : goal.returns-in-Some
-returns-in-Some c =
+pub returns : goal.returns
+returns c =
     let scan : IsScan c.args.text.now c.in_ok-scan.scan.tokens.items c.in_ok-scan.scan.stop = search rules in
     let end : c.in_ok-scan.scan.stop ≡ length c.args.text.now = omega (arith, stop_within c.args.text.now c.in_ok-scan.scan.tokens.items c.in_ok-scan.scan.stop scan) in
     inr (bad_is c.args.text.now c.in_ok-scan.scan.tokens.items c.in_ok-scan.scan.stop scan c.in_ok-defs.defs.items c.in-Some.at (record { few = c.requires; utf8 = c.utf8.text }) end (rw (← c.as_slice.ensures.value) c.in_ok-defs.ensures) (rw (c.as_slice-2.ensures.value, c.as_slice-3.ensures.value) at c.in-Some.ensures))
