@@ -31,7 +31,7 @@ pub(crate) enum LanguageFault {
 
 /// The automaton that recognises the comments and the kinds of the grammar.
 fn automaton_of(alloc: Global, grammar: &Grammar) -> Result<Automaton, LexFault>
-    requires sound { AreSoundByWords (grammar.now).lexicon.kinds }
+    requires { AreSoundByWords (grammar.now).lexicon.kinds }
     ensures { MakesLexer (grammar.now).lexicon result }
 {
     let lines = grammar.line_comments();
