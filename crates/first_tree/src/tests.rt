@@ -72,63 +72,67 @@ const SECOND: Option<u16> = Some(1);
 
 const NUMBER: Option<u16> = Some(4);
 
+/// A grammar, the kinds of a text, what is asked, and the nodes of the first tree.
+type Case = (Sample, &'static [Option<u16>], Question, &'static [Node]);
+
+const CASES: &[Case] = &[
+    (
+        TWINS,
+        &[FIRST, FIRST, FIRST, FIRST],
+        (S, 0, 4),
+        NESTED_TO_THE_RIGHT,
+    ),
+    (
+        TRIPLES,
+        &[FIRST, FIRST, FIRST, FIRST, FIRST],
+        (S, 0, 5),
+        LAST_OF_THREE,
+    ),
+    (
+        PAIRS,
+        &[FIRST],
+        (S, 1, 1),
+        &[
+            (Some(0), 0, 1, 1, 2),
+            (Some(1), 0, 1, 1, 0),
+            (Some(2), 0, 1, 1, 0),
+        ],
+    ),
+    (
+        PAIRS,
+        &[FIRST],
+        (S, 0, 1),
+        &[
+            (Some(0), 0, 0, 1, 2),
+            (Some(3), 0, 0, 1, 1),
+            (None, 0, 0, 1, 0),
+            (Some(2), 0, 1, 1, 0),
+        ],
+    ),
+    (LISTS, &[], (A, 0, 0), &[(Some(1), 0, 0, 0, 0)]),
+    (
+        LISTS,
+        &[FIRST, SECOND, FIRST, SECOND],
+        (A, 0, 4),
+        TWO_STATEMENTS,
+    ),
+    (
+        SUMS,
+        &[NUMBER, FIRST, NUMBER, SECOND, NUMBER],
+        (S, 0, 5),
+        PRODUCT_IN_A_SUM,
+    ),
+    (
+        SUMS,
+        &[NUMBER, FIRST],
+        (Symbol::Kind(0), 1, 2),
+        &[(None, 0, 1, 2, 0)],
+    ),
+];
+
 #[test]
 fn a_derived_span_has_its_first_tree(rt: HostRuntime) -> Result<(), Fail> {
-    let cases: [(Sample, &[Option<u16>], Question, &[Node]); 8] = [
-        (
-            TWINS,
-            &[FIRST, FIRST, FIRST, FIRST],
-            (S, 0, 4),
-            NESTED_TO_THE_RIGHT,
-        ),
-        (
-            TRIPLES,
-            &[FIRST, FIRST, FIRST, FIRST, FIRST],
-            (S, 0, 5),
-            LAST_OF_THREE,
-        ),
-        (
-            PAIRS,
-            &[FIRST],
-            (S, 1, 1),
-            &[
-                (Some(0), 0, 1, 1, 2),
-                (Some(1), 0, 1, 1, 0),
-                (Some(2), 0, 1, 1, 0),
-            ],
-        ),
-        (
-            PAIRS,
-            &[FIRST],
-            (S, 0, 1),
-            &[
-                (Some(0), 0, 0, 1, 2),
-                (Some(3), 0, 0, 1, 1),
-                (None, 0, 0, 1, 0),
-                (Some(2), 0, 1, 1, 0),
-            ],
-        ),
-        (LISTS, &[], (A, 0, 0), &[(Some(1), 0, 0, 0, 0)]),
-        (
-            LISTS,
-            &[FIRST, SECOND, FIRST, SECOND],
-            (A, 0, 4),
-            TWO_STATEMENTS,
-        ),
-        (
-            SUMS,
-            &[NUMBER, FIRST, NUMBER, SECOND, NUMBER],
-            (S, 0, 5),
-            PRODUCT_IN_A_SUM,
-        ),
-        (
-            SUMS,
-            &[NUMBER, FIRST],
-            (Symbol::Kind(0), 1, 2),
-            &[(None, 0, 1, 2, 0)],
-        ),
-    ];
-    for (sample, kinds, question, wanted) in cases {
+    for (sample, kinds, question, wanted) in CASES.iter().copied() {
         let grammar = grammar_of(rt.alloc(), sample).ok_or("a grammar")?;
         let answer = answer_of(rt.alloc(), &grammar, kinds, question).ok_or("an answer")?;
         let nodes = nodes_of(rt.alloc(), answer).ok_or("a tree")?;

@@ -145,7 +145,7 @@ module _ (defs : List Def) (known : List (List ℕ)) (are : known ≡ with_new_n
         more_hold (NamesKnown defs) defs number def within is (names_known def (subst (All (IsListed known)) given listed)) earlier
 
 -- a name is among those that are added to none where it is one of them
-new_names_same : (names : List (List ℕ)) (x : List ℕ) → list_any (bytes_eq x) (with_new_names [] names) ≡ list_any (bytes_eq x) names
+pub new_names_same : (names : List (List ℕ)) (x : List ℕ) → list_any (bytes_eq x) (with_new_names [] names) ≡ list_any (bytes_eq x) names
 new_names_same names x = any_with_new_names x [] names
 
 -- the names of the first token definitions, and of the next

@@ -1,5 +1,5 @@
 -- The predefined kinds that are active, and the names of tokens.
-use Rattle.std.proofs.Common.{◌≡◌, ℕ, ◌⊎◌, List, [], ◌∷◌, ◌++◌, Bool, true, false, not, ◌&&◌, map, filter, refl, sym, ap, ◌∙◌, inl, inr}
+use Rattle.std.proofs.Common.{◌≡◌, ℕ, ◌⊎◌, List, [], ◌∷◌, ◌++◌, Bool, true, false, not, ◌&&◌, cond, map, filter, refl, sym, ap, ◌∙◌, inl, inr}
 use Rattle.std.specs.List.{flat_map, AllByRecursion}
 use Rattle.std.proofs.lemmas.Bool.{cases_Bool}
 use Rattle.std.proofs.lemmas.List.{map-append}
@@ -19,15 +19,20 @@ use Rattle.lbnf_grammar.specs.PredefinedKinds.{predefined_name, predefined_token
 use Rattle.lbnf_grammar.proofs.CheckingLemmas.{new_names_same}
 use Rattle.lbnf_grammar.proofs.DistinctLemmas.{distinct_in_turn, distinct_once, filter_members}
 
+-- a kind that is kept, or not, as a token
+token_kept : (kept : Bool) (kind : Predefined) (kinds : List Predefined) (tokens : List (List ℕ × Expr)) → map predefined_token kinds ≡ tokens
+    → map predefined_token (cond kept (kind ∷ kinds) kinds) ≡ cond kept (predefined_token kind ∷ tokens) tokens
+token_kept true kind kinds tokens are = ap (λ l. predefined_token kind ∷ l) are
+token_kept false kind kinds tokens are = are
+
 -- those of the kinds whose names pass, as tokens
 tokens_filter : (passes : List ℕ → Bool) (kinds : List Predefined)
     → map predefined_token (filter (λ kind. passes (predefined_name kind)) kinds)
     ≡ filter (λ (token : List ℕ × Expr). passes token.0) (map predefined_token kinds)
 tokens_filter passes [] = refl
-tokens_filter passes (kind ∷ kinds) = elim (cases_Bool (passes (predefined_name kind))) [
-  | inl e ↦ rw (e, e, tokens_filter passes kinds) refl
-  | inr e ↦ rw (e, e, tokens_filter passes kinds) refl
-]
+tokens_filter passes (kind ∷ kinds) =
+    token_kept (passes (predefined_name kind)) kind (filter (λ k. passes (predefined_name k)) kinds)
+    (filter (λ (token : List ℕ × Expr). passes token.0) (map predefined_token kinds)) (tokens_filter passes kinds)
 
 -- all kinds, as code lists them
 pub all_tokens : (passes : List ℕ → Bool) (kinds : List Predefined) → kinds ≡ Integer ∷ Double ∷ Ident ∷ String ∷ Char ∷ []

@@ -1,8 +1,7 @@
 -- The names that are gathered are the categories and the words of the rules.
-use Rattle.std.proofs.Common.{◌≡◌, ℕ, List, [], ◌∷◌, ◌++◌, Option, Bool, true, false, not, map, fold, filter, refl, sym, ap, ◌∙◌, inl, inr}
+use Rattle.std.proofs.Common.{◌≡◌, ℕ, List, [], ◌∷◌, ◌++◌, Option, Bool, true, false, not, cond, map, fold, filter, refl, sym, ap, ◌∙◌}
 use Rattle.std.specs.List.{flat_map}
 use Rattle.std.specs.Option.{option_map}
-use Rattle.std.proofs.lemmas.Bool.{cases_Bool}
 use Rattle.std.proofs.lemmas.List.Sums.{fold-append}
 use Rattle.spec_lexing.specs.Lexicon.{Lexicon}
 use Rattle.spec_grammar.specs.declared.rule.Rule.{Rule}
@@ -32,24 +31,35 @@ module _ (kinds : List (List ℕ)) where
   abbrev is_category : List ℕ → Bool
   is_category text = not (is_among kinds text)
 
+  -- an item's category is added where it is none of a kind
+  category_added : (none_added : Bool) (met : MetNames) (text : List ℕ) (items : List RawItem)
+      → ((start : MetNames) → (fold (with_item kinds) start items).categories ≡ with_new_names start.categories (filter is_category (item_categories items)))
+      → (fold (with_item kinds) (cond none_added met (with_category met text)) items).categories
+      ≡ with_new_names met.categories (cond (not none_added) (text ∷ filter is_category (item_categories items)) (filter is_category (item_categories items)))
+  category_added true met text items rest = rest met
+  category_added false met text items rest = rest (with_category met text)
+
   -- the items' categories that are no kinds are added in order
   items_categories : (met : MetNames) (items : List RawItem)
       → (fold (with_item kinds) met items).categories ≡ with_new_names met.categories (filter is_category (item_categories items))
   items_categories met [] = refl
-  items_categories met (Cat cat ∷ items) = elim (cases_Bool (is_among kinds (category_text cat))) [
-    | inl e ↦ rw (e, e) (items_categories met items)
-    | inr e ↦ rw (e, e) (items_categories (with_category met (category_text cat)) items)
-  ]
+  items_categories met (Cat cat ∷ items) =
+      category_added (is_among kinds (category_text cat)) met (category_text cat) items (λ start. items_categories start items)
   items_categories met (Word word ∷ items) = items_categories (with_item kinds met (Word word)) items
+
+  -- an item's category adds no word
+  no_word_added : (none_added : Bool) (met : MetNames) (text : List ℕ) (items : List RawItem)
+      → ((start : MetNames) → (fold (with_item kinds) start items).words ≡ with_new_names start.words (item_words items))
+      → (fold (with_item kinds) (cond none_added met (with_category met text)) items).words ≡ with_new_names met.words (item_words items)
+  no_word_added true met text items rest = rest met
+  no_word_added false met text items rest = rest (with_category met text)
 
   -- the items' words are added in order
   items_words : (met : MetNames) (items : List RawItem)
       → (fold (with_item kinds) met items).words ≡ with_new_names met.words (item_words items)
   items_words met [] = refl
-  items_words met (Cat cat ∷ items) = elim (cases_Bool (is_among kinds (category_text cat))) [
-    | inl e ↦ rw e (items_words met items)
-    | inr e ↦ rw e (items_words (with_category met (category_text cat)) items)
-  ]
+  items_words met (Cat cat ∷ items) =
+      no_word_added (is_among kinds (category_text cat)) met (category_text cat) items (λ start. items_words start items)
   items_words met (Word word ∷ items) = items_words (with_item kinds met (Word word)) items
 
   -- the rules' categories are added in order

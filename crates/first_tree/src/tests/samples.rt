@@ -1,5 +1,5 @@
-//! Small grammars, told by their rules alone: the names are empty.
-use numbered_grammar::{Grammar, Items, KindDef, Label, Name, Rule, Symbol};
+//! Small grammars, told by their rules alone: categories are named by their numbers.
+use numbered_grammar::{Grammar, Items, KindDef, Label, LexiconParts, Name, Rule, Symbol};
 use std::alloc::Global;
 
 /// A rule by its category's number and its items.
@@ -51,8 +51,9 @@ pub const SUMS: Sample = (
 
 fn names(alloc: Global, count: u16) -> Option<Vec<Name>> {
     let mut names = Vec::new(alloc);
-    for _ in 0..count {
-        names.push(Name::of(Vec::new(alloc))).ok()?;
+    for number in 0..count {
+        let text = format!(in alloc; "{number}").ok()?;
+        names.push(Name::of(text.into_bytes())).ok()?;
     }
     Some(names)
 }
@@ -81,5 +82,6 @@ pub fn grammar_of(alloc: Global, sample: Sample) -> Option<Grammar> {
         rules.push(rule_of(alloc, *category, items)?).ok()?;
     }
     let names = names(alloc, categories)?;
-    Grammar::of_rules(alloc, rules, names, words(alloc, kinds)?).ok()?
+    let lexicon = LexiconParts::of_kinds(alloc, words(alloc, kinds)?);
+    Grammar::of_rules(alloc, rules, names, lexicon).ok()?
 }

@@ -1,8 +1,9 @@
-use Rattle.std.proofs.Common.{◌≡◌, [], Some, slice_get, map, refl, ap, ◌∙◌}
+use Rattle.std.proofs.Common.{◌≡◌, [], Some, slice_get, slice_index_or, map, ap, ◌∙◌}
 use Rattle.std.proofs.lemmas.List.{take_all}
-use Rattle.std.proofs.lemmas.Option.{slice_get_read}
+use Rattle.std.proofs.lemmas.Option.{slice_get-get_or}
 use Rattle.spec_lbnf.specs.Expansion.{token_names}
 use Rattle.lbnf_grammar.specs.Numbering.{with_new_name, with_new_names}
+use Rattle.lbnf_grammar.specs.declared.predefined.Predefined.TheVariants.{Integer}
 use Rattle.lbnf_grammar.specs.PredefinedKinds.{predefined_name}
 use Rattle.lbnf_grammar.proofs.DistinctLemmas.{named_more}
 use Rattle.lbnf_grammar.proofs.PredefinedLemmas.{tokens_are}
@@ -11,9 +12,9 @@ use Rattle.lbnf_grammar.proofs.tables.token_table.Goals as goal
 pub loop-kind-preserved : goal.loop-kind-preserved
 loop-kind-preserved c =
     let active = c.args.active.now in
-    let kind = c.kind-item.result in
+    let kind = slice_index_or active c.loop-kind.kind-index Integer in
     let start = with_new_names [] (token_names c.args.defs.now) in
-    let at : slice_get active c.loop-kind.kind-index ≡ Some kind = slice_get_read active _ c.loop-kind.kind-index kind refl c.loop-kind-test.true c.kind-item.is in
+    let at : slice_get active c.loop-kind.kind-index ≡ Some kind = slice_get-get_or active c.loop-kind.kind-index Integer c.loop-kind-test.true in
     named_more predefined_name start active c.loop-kind.kind-index kind at c.loop-kind.names c.add.new.self c.loop-kind.invariant
     (c.in_ok-add.ensures ∙ ap (with_new_name c.loop-kind.names) c.name.ensures)
 
