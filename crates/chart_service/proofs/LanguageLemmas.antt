@@ -1,20 +1,24 @@
 -- Accepting a grammar or refusing it.
-use Rattle.std.proofs.Common.{◌≡◌, ℕ, ◌⊎◌, inl, inr, List, [], length, All, Result, Some, Ok, Err, IfOk, ◌<◌, map, refl}
-use Rattle.std.proofs.Common.{◌≤◌, arith, sym, ◌∙◌, ap, subst}
+use Rattle.std.proofs.Common.{◌≡◌, ℕ, ◌⊎◌, inl, inr, List, [], ◌∷◌, length, All, Result, Some, Ok, Err, IfOk, ◌<◌, refl}
+use Rattle.std.proofs.Common.{◌≤◌, arith, sym, ◌∙◌, ap, ap₂, subst}
+use Rattle.std.specs.List.{flat_map, AllByRecursion}
 use Rattle.std.specs.Str.{IsUtf8}
 use Rattle.std.proofs.lemmas.Bool.{cases_lt}
 use Rattle.std.proofs.lemmas.Option.{same_Some, none-some}
-use Rattle.std.proofs.lemmas.List.Elements.{All-map, All-nil}
-use Rattle.spec_lbnf.proofs.SymbolNameLemmas.{one_symbol_each}
-use Rattle.spec_lexing.specs.declared.kind_def.KindDef.TheVariants.{Word as WordKind}
-use Rattle.spec_lexing.specs.Classes.{IsSoundDef}
-use Rattle.spec_lexing.specs.Lexicon.{Lexicon, lexicon_of}
-use Rattle.spec_lexing.specs.Kinds.{IsWordKind, HasWordsAlone}
-use Rattle.spec_lexing.proofs.KindsLemmas.{lexicon_of_words}
+use Rattle.std.proofs.lemmas.List.Elements.{All-from_recursion, recursion_from_All}
+use Rattle.spec_lexing.specs.declared.expression.Expr.{Expr}
+use Rattle.spec_lexing.specs.declared.kind_def.KindDef.{KindDef}
+use Rattle.spec_lexing.specs.Lexicon.{Lexicon}
 use Rattle.spec_automata.specs.States.{HasTooManyStates}
 use Rattle.spec_lbnf.specs.declared.definition.Def.{Def}
+use Rattle.spec_lbnf.specs.declared.definition.Def.TheVariants as def
 use Rattle.spec_grammar.specs.Grammars.{Grammar, HasDistinctNames, symbol_count}
-use Rattle.spec_lbnf.specs.Expansion.{expansion_of, rules_of, words_of}
+use Rattle.spec_lbnf.specs.Expansion.{expansion_of, rules_of, words_of, token_in, tokens_of, kinds_by}
+use Rattle.spec_lbnf.specs.Differences.{IsProper}
+use Rattle.spec_lbnf.specs.Laws.{IsSoundToken}
+use Rattle.spec_lbnf.proofs.DifferenceLemmas.{proper_defs}
+use Rattle.spec_lbnf.proofs.SoundLemmas.{sound_kinds}
+use Rattle.spec_lbnf.proofs.SymbolNameLemmas.{one_symbol_each}
 use Rattle.spec_lbnf.specs.declared.fault.TextFault.{TextFault}
 use Rattle.spec_lbnf.specs.declared.fault.TextFault.TheVariants.{TooLarge}
 use Rattle.spec_lbnf.specs.declared.fault.TextFault.TheVariants as file
@@ -37,6 +41,7 @@ use Rattle.chart_service.specs.declared.accepting.LanguageFault.{LanguageFault}
 use Rattle.chart_service.specs.declared.accepting.LanguageFault.TheVariants.{Text, Lex, Binary}
 use Rattle.chart_service.specs.declared.accepting.LanguageFault.TheVariants.{Grammar as UnfitGrammar}
 use Rattle.chart_service.specs.Languages.{CanOpen, IsFaultOf, MakesLexer, reason_of, IsRefusal}
+use Rattle.chart_service.specs.KnownTexts.{IsUtf8Word, AreSoundByWords}
 
 -- a count is within this room or above 2,048, which is no more than the room
 pub room_or_many : (count room : ℕ) → 2048 ≤ room → (count ≤ room) ⊎ (2048 < count)
@@ -45,42 +50,68 @@ room_or_many count room enough = elim (cases_lt 2048 count) [
   | inr few ↦ inl (omega (arith, few, enough))
 ]
 
--- kinds that are made of words have words alone
-words_alone : (words : List (List ℕ)) → HasWordsAlone (lexicon_of (map WordKind words))
-words_alone words = record {
-  no_lines = refl;
-  no_blocks = refl;
-  words = All-map IsWordKind WordKind words (λ other place below. tt);
-}
+-- words are UTF-8 where those among the kinds that they give are
+words_utf8 : (words : List (List ℕ)) (tokens : List (List ℕ × Expr)) → AllByRecursion IsUtf8Word (kinds_by words tokens)
+    → AllByRecursion IsUtf8 words
+words_utf8 [] tokens all = tt
+words_utf8 (word ∷ words) tokens all = (all.0, words_utf8 words tokens all.1)
 
--- the kinds of the grammar that definitions stand for are words
-pub spelled_words : (defs : List Def) (g : Grammar) → g ≡ expansion_of defs → HasWordsAlone g.lexicon
-spelled_words defs g e =
-    subst (λ (x : Grammar). HasWordsAlone x.lexicon) (sym e) (words_alone (words_of (rules_of defs)))
+-- the tokens of proper definitions are sound
+tokens_sound : (defs : List Def) → AllByRecursion IsProper defs → AllByRecursion IsSoundToken (flat_map token_in defs)
+tokens_sound [] all = tt
+tokens_sound (def.Rule rule ∷ defs) all = tokens_sound defs all.1
+tokens_sound (def.Internal rule ∷ defs) all = tokens_sound defs all.1
+tokens_sound (def.Terminator nonempty cat word ∷ defs) all = tokens_sound defs all.1
+tokens_sound (def.Separator nonempty cat word ∷ defs) all = tokens_sound defs all.1
+tokens_sound (def.Coercions name levels ∷ defs) all = tokens_sound defs all.1
+tokens_sound (def.Entry cats ∷ defs) all = tokens_sound defs all.1
+tokens_sound (def.Token name expr ∷ defs) all = (all.0, tokens_sound defs all.1)
+tokens_sound (def.LineComment opening ∷ defs) all = tokens_sound defs all.1
+tokens_sound (def.BlockComment opening closing ∷ defs) all = tokens_sound defs all.1
+
+-- the kinds of the grammar that spelled definitions stand for are sound, where its words are UTF-8
+pub kinds_sound : (block : List ℕ) (defs : List Def) (g : Grammar) → Spells block defs → g ≡ expansion_of defs
+    → AreSoundByWords g.lexicon.kinds
+kinds_sound block defs g spells e =
+    let words : List (List ℕ) = words_of (rules_of defs) in
+    let sound : AllByRecursion IsSoundToken (flat_map token_in defs)
+    = tokens_sound defs (recursion_from_All IsProper defs (proper_defs block defs spells)) in
+    subst (λ (x : Grammar). AreSoundByWords x.lexicon.kinds) (sym e)
+    (λ known. sound_kinds defs
+    (All-from_recursion IsUtf8 words
+    (words_utf8 words (tokens_of defs) (recursion_from_All IsUtf8Word (kinds_by words (tokens_of defs)) known)))
+    (All-from_recursion IsSoundToken (flat_map token_in defs) sound))
 
 -- and no two symbols of it have one name, where the definitions are fit
 spelled_distinct : (defs : List Def) → AreFit defs → (g : Grammar) → g ≡ expansion_of defs → HasDistinctNames g
 spelled_distinct defs fit g e = subst HasDistinctNames (sym e) (one_symbol_each defs fit.own_names)
 
--- an automaton of words that are UTF-8 lexes texts as the lexicon of the words does
-pub words_lexed : (lexicon : Lexicon) → HasWordsAlone lexicon → All IsSoundDef lexicon.kinds
-    → (r : Result Machine LexFault) → IfOk r (IsAutomatonOf (lexicon_with [] [] lexicon.kinds))
-    → IfOk r (λ a. HasTooManyStates (lexicon_with [] [] lexicon.kinds) → ⊥)
-    → (r ≡ Err TooManyStates → HasTooManyStates (lexicon_with [] [] lexicon.kinds))
+-- an automaton of a lexicon that is sound lexes texts as the lexicon does
+lexed_with : (lexicon : Lexicon) → IsSoundForTexts lexicon → (r : Result Machine LexFault) → IfOk r (IsAutomatonOf lexicon)
+    → IfOk r (λ a. HasTooManyStates lexicon → ⊥) → (r ≡ Err TooManyStates → HasTooManyStates lexicon)
     → MakesLexer lexicon r
-words_lexed lexicon words sound (Ok a) is few many =
-    let same : lexicon_with [] [] lexicon.kinds ≡ lexicon = sym (lexicon_of_words lexicon words) in
-    let all : IsSoundForTexts lexicon = subst IsSoundForTexts same (record {
-      lines = All-nil IsUtf8;
-      blocks = All-nil AreUtf8;
-      kinds = sound;
-    }) in (
-      subst (λ (x : Lexicon). HasTooManyStates x → ⊥) same few,
-      ∣ record { automaton = subst (λ (x : Lexicon). IsAutomatonOf x a) same is; sound = all } ∣₁,
-    )
-words_lexed lexicon words sound (Err LexMemory) is few many = tt
-words_lexed lexicon words sound (Err TooManyStates) is few many =
-    subst HasTooManyStates (sym (lexicon_of_words lexicon words)) (many refl)
+lexed_with lexicon sound (Ok a) is few many = (few, ∣ record { automaton = is; sound = sound } ∣₁)
+lexed_with lexicon sound (Err LexMemory) is few many = tt
+lexed_with lexicon sound (Err TooManyStates) is few many = many refl
+
+-- so does that of the lexicon's comments and kinds, whose words are UTF-8
+pub lexer_made : (lexicon : Lexicon) (lines : List (List ℕ)) (blocks : List (List ℕ × List ℕ)) (kinds : List KindDef)
+    → lines ≡ lexicon.line_comments → blocks ≡ lexicon.block_comments → kinds ≡ lexicon.kinds
+    → All IsUtf8 lines → All AreUtf8 blocks → All IsUtf8Word kinds → AreSoundByWords lexicon.kinds
+    → (r : Result Machine LexFault) → IfOk r (IsAutomatonOf (lexicon_with lines blocks kinds))
+    → IfOk r (λ a. HasTooManyStates (lexicon_with lines blocks kinds) → ⊥)
+    → (r ≡ Err TooManyStates → HasTooManyStates (lexicon_with lines blocks kinds))
+    → MakesLexer lexicon r
+lexer_made lexicon lines blocks kinds lines_are blocks_are kinds_are lines_known blocks_known words_known sound r is few many =
+    let same : lexicon_with lines blocks kinds ≡ lexicon
+    = ap₂ (λ ls bs. lexicon_with ls bs kinds) lines_are blocks_are
+    ∙ ap (λ ks. lexicon_with lexicon.line_comments lexicon.block_comments ks) kinds_are in
+    let all : IsSoundForTexts (lexicon_with lines blocks kinds) = record {
+      lines = lines_known;
+      blocks = blocks_known;
+      kinds = subst AreSoundByWords (sym kinds_are) sound words_known;
+    } in
+    subst (λ (x : Lexicon). MakesLexer x r) same (lexed_with (lexicon_with lines blocks kinds) all r is few many)
 
 -- what was read and expanded: the grammar of what a block spells, where the definitions are fit
 module _ (block : List ℕ) (defs : List Def) (g : Grammar) (spells : Spells block defs) (fit : AreFit defs)

@@ -5,7 +5,6 @@ use Rattle.std.specs.Str.{IsAscii}
 use Rattle.std.proofs.lemmas.Str.{IsUtf8-from_ascii, utf8_valid_len-IsUtf8}
 use Rattle.std.specs.declared.alloc.Global.{Global}
 use Rattle.spec_grammar.specs.Grammars.{Grammar}
-use Rattle.spec_lexing.specs.declared.token.Token.{Token}
 use Rattle.spec_lexing.specs.Kinds.{MatchesKind, token_kind, lex_kinds}
 use Rattle.spec_lexing.specs.Lexicon.{Lexicon}
 use Rattle.spec_lexing.specs.Tokens.{AreTokensOf}

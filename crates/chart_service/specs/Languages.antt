@@ -1,6 +1,6 @@
 -- What a caller sees of a grammar that was accepted, with its automaton and its binary form, or
 -- refused; and the line of each fault for which there is none.
-use Rattle.std.specs.Prelude.{◌≡◌, ℕ, ◌≤◌, List, slice_get, Some, Option, None, Result, Ok, Err}
+use Rattle.std.specs.Prelude.{◌≡◌, ℕ, ◌≤◌, List, Some, Option, None, Result, Ok, Err}
 use Rattle.spec_lexing.specs.Lexicon.{Lexicon}
 use Rattle.spec_automata.specs.States.{HasTooManyStates}
 use Rattle.spec_lbnf.specs.declared.definition.Def.{Def}

@@ -1,12 +1,12 @@
 //! The grammar of a block, accepted with its automaton and its binary form.
-ghost use Rattle.std.specs.Prelude.{◌≡◌, ◌≤◌, ℕ, List, All, IfOk, MatchResult};
+ghost use Rattle.std.specs.Prelude.{◌≤◌, ℕ, List, IfOk, MatchResult};
 ghost use Rattle.spec_text.specs.declared.limits.TheConstants.{MAX_SYMBOLS};
-ghost use Rattle.spec_lexing.specs.Classes.{IsSoundDef};
-ghost use Rattle.spec_lexing.specs.Kinds.{IsWordKind, HasWordsAlone};
 ghost use Rattle.spec_session.specs.GrammarReplies.{IsAccepted};
 ghost use Rattle.script_reader.specs.Reading.{IsBlock};
 ghost use Rattle.chart_service.specs.Languages.{CanOpen, IsFaultOf, MakesLexer};
+ghost use Rattle.chart_service.specs.KnownTexts.{AreSoundByWords};
 
+use crate::known_texts::{know_names, know_pairs, know_words};
 use crate::language::Language;
 use binary_form::{BinaryFault, binary};
 use cell_sets::Cell;
@@ -14,7 +14,6 @@ use lbnf_grammar::{Grammar, GrammarFault, expand};
 use lbnf_regex::{Automaton, LexFault, automaton};
 use lbnf_text::{TextFault, read_defs};
 use script_reader::Block;
-use spec_lexing::KindDef;
 use std::alloc::Global;
 
 /// Why a grammar is refused.
@@ -30,37 +29,18 @@ pub(crate) enum LanguageFault {
     Binary(BinaryFault),
 }
 
-/// The word is UTF-8, as all names are.
-fn know_word(kind: &KindDef)
-    requires { IsWordKind kind.now }
-    ensures { IsSoundDef kind.now }
-{
-    match kind {
-        KindDef::Word(word) => {
-            let _bytes = word.as_slice();
-        }
-        KindDef::Token { .. } => unreachable!(),
-    }
-}
-
-/// The words are UTF-8, as all names are.
-fn know_words(kinds: &[KindDef])
-    requires { All IsWordKind kinds.now }
-    ensures { All IsSoundDef kinds.now }
-{
-    for kind in kinds {
-        know_word(kind);
-    }
-}
-
-/// The automaton that recognises the kinds of the grammar.
+/// The automaton that recognises the comments and the kinds of the grammar.
 fn automaton_of(alloc: Global, grammar: &Grammar) -> Result<Automaton, LexFault>
-    requires words { HasWordsAlone (grammar.now).lexicon }
+    requires { AreSoundByWords (grammar.now).lexicon.kinds }
     ensures { MakesLexer (grammar.now).lexicon result }
 {
+    let lines = grammar.line_comments();
+    let blocks = grammar.block_comments();
     let kinds = grammar.kinds();
+    know_names(lines);
+    know_pairs(blocks);
     know_words(kinds);
-    automaton(alloc, &[], &[], kinds)
+    automaton(alloc, lines, blocks, kinds)
 }
 
 /// The language of the grammar that the bytes spell.

@@ -5,6 +5,7 @@
 mod accepting;
 mod answering;
 mod ending;
+mod known_texts;
 mod language;
 mod options;
 mod refusals;

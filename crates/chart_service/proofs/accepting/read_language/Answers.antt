@@ -1,9 +1,10 @@
 -- A grammar that is spelled and fit is accepted, where it has few states and few symbols.
-use Rattle.chart_service.proofs.LanguageLemmas.{accepted, no_automaton, no_form, can_open, spelled_words}
+use Rattle.chart_service.proofs.LanguageLemmas.{accepted, no_automaton, no_form, can_open, kinds_sound}
 use Rattle.chart_service.proofs.accepting.read_language.Goals as goal
 
 pub automaton_of-requires : goal.automaton_of-requires
-automaton_of-requires g c = spelled_words c.in-Ok.defs c.in-Ok-expand.grammar (c.in-Ok-expand.ensures).1
+automaton_of-requires g c =
+    kinds_sound c.args.block.now c.in-Ok.defs c.in-Ok-expand.grammar c.in-Ok.ensures (c.in-Ok-expand.ensures).1
 
 pub returns-in-Err-automaton_of-clause-ok : goal.returns-in-Err-automaton_of-clause-ok
 returns-in-Err-automaton_of-clause-ok g c =
