@@ -1,0 +1,12 @@
+-- By the rows in the window.
+use Rattle.std.proofs.Common.{map, refl, ◌∙◌}
+use Rattle.quad_mat.proofs.MatLemmas.{part_rows}
+use Rattle.quad_mat.proofs.mat.part.Goals as goal
+
+pub returns-clause-part : goal.returns-clause-part
+returns-clause-part g c =
+    let room = c.loaded.new.room in
+    let columns = c.in_ok-numbers.ensures.columns ∙ c.in_ok-room.ensures.columns in
+    part_rows c.args.mat.now c.in_ok-part.part (record { first = c.args.column; width = c.args.columns; to = 0 }) c.args.row
+    c.args.columns (map g.C.Cell.symbols room.cells.items) room.rows c.in_ok-numbers.numbers refl refl
+    c.in_ok-numbers.ensures.rows (rw columns at c.in_ok-part.ensures)

@@ -1,0 +1,5 @@
+pub mod Matrices
+pub mod Rows
+pub mod Rooms
+pub mod Loading
+pub mod Views

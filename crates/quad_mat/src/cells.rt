@@ -1,0 +1,74 @@
+//! Cells by number, each kept once where it comes again soon.
+ghost use Rattle.std.specs.Prelude.{◌≡◌, ◌<◌, ◌^◌, [], length, map, IfOk, IfSome};
+ghost use Rattle.cell_sets.specs.Cells.{HaveSame};
+ghost use Rattle.quad_mat.specs.Rows.{cell_of, AreFull};
+ghost use Rattle.quad_mat.specs.Rooms.{NumbersCell, NumbersBoth};
+
+use cell_sets::Cell;
+use std::alloc::{AllocError, Global};
+
+/// Among how many of the last cells, rows and unions an equal one is looked for.
+pub(crate) const LOOK_BACK: usize = 4;
+
+/// The number of what stands at this place.
+pub(crate) fn number_of(place: usize) -> Result<u32, AllocError>
+    ensures { IfOk result (λ n. n ≡ place) }
+{
+    match u32::try_from(place) {
+        Ok(number) => Ok(number),
+        Err(_) => Err(AllocError),
+    }
+}
+
+/// Where a cell with the same symbols stands among the last ones.
+fn place_of_cell<C: Cell>(cells: &[C], cell: &C) -> Option<usize>
+    ensures { IfSome result (λ n. (n < length cells.now)
+        × HaveSame (C.symbols cell.now) (cell_of (map C.symbols cells.now) n)) }
+{
+    let mut place = cells.len();
+    let mut left = LOOK_BACK;
+    while place > 0 && left > 0 {
+        place -= 1;
+        left -= 1;
+        if cell.same(&cells[place]) {
+            return Some(place);
+        }
+    }
+    None
+}
+
+/// The number of a cell with these symbols. It is put behind the others, unless one of the last has
+/// the same.
+pub(crate) fn number_of_cell<C: Cell>(cells: &mut Vec<C>, cell: C) -> Result<u32, AllocError>
+    requires full { AreFull (map C.symbols cells.old.items) }
+    requires some { C.symbols cell ≡ [] → ⊥ }
+    ensures { IfOk result (λ n. NumbersCell
+        (map C.symbols cells.old.items) (map C.symbols cells.new.items) (C.symbols cell) n) }
+{
+    if let Some(place) = place_of_cell(cells.as_slice(), &cell) {
+        return number_of(place);
+    }
+    let number = number_of(cells.len())?;
+    cells.push(cell)?;
+    Ok(number)
+}
+
+/// The number of a cell with the symbols of two others.
+pub(crate) fn number_of_both<C: Cell>(
+    alloc: Global,
+    cells: &mut Vec<C>,
+    a: u32,
+    b: u32,
+) -> Result<u32, AllocError>
+    requires full { AreFull (map C.symbols cells.old.items) }
+    requires left { a < length cells.old.items }
+    requires right { b < length cells.old.items }
+    ensures { IfOk result (λ n. NumbersBoth
+        (map C.symbols cells.old.items) (map C.symbols cells.new.items) a b n) }
+{
+    if a == b {
+        return Ok(a);
+    }
+    let both: C = cells[a as usize].union(alloc, &cells[b as usize])?;
+    number_of_cell(cells, both)
+}
