@@ -6,9 +6,9 @@ fn unnamed(alloc: Global) -> Name {
     Name::of(Vec::new(alloc))
 }
 
-fn categories(alloc: Global, count: usize) -> Result<Vec<Name>, AllocError> {
-    let mut names = Vec::with_capacity(alloc, count)?;
-    for number in 0..count as u32 {
+fn categories(alloc: Global, count: u16) -> Result<Vec<Name>, AllocError> {
+    let mut names = Vec::with_capacity(alloc, count as usize)?;
+    for number in 0..count {
         let text = format!(in alloc; "{number}")?;
         names.push(Name::of(Vec::from_slice(alloc, text.as_str().as_bytes())?))?;
     }
@@ -43,7 +43,7 @@ pub fn chain(alloc: Global, count: u16) -> Option<Grammar> {
             .push(rule(alloc, count - 1, &[Symbol::Kind(0)]).ok()?)
             .ok()?;
     }
-    let names = categories(alloc, count as usize).ok()?;
+    let names = categories(alloc, count).ok()?;
     Grammar::of_rules(alloc, rules, names, kinds(alloc, 1).ok()?).ok()?
 }
 
