@@ -53,7 +53,8 @@ fn names(alloc: Global, count: u16) -> Option<Vec<Name>> {
     let mut names = Vec::new(alloc);
     for number in 0..count {
         let text = format!(in alloc; "{number}").ok()?;
-        names.push(Name::of(text.into_bytes())).ok()?;
+        let bytes = Vec::from_slice(alloc, text.as_str().as_bytes()).ok()?;
+        names.push(Name::of(bytes)).ok()?;
     }
     Some(names)
 }
