@@ -14,13 +14,15 @@ named name = TokenDef name Eps
 abbrev pub token_of : Option ℕ → ℕ → ℕ → Token
 token_of kind first end = record { kind = kind; first = first; end = end }
 
--- two kinds, a text, and its tokens
+-- two kinds of token that have names
 abbrev pub two_kinds : List KindDef
 two_kinds = named (codes "Hex") ∷ named (codes "Integer") ∷ []
 
+-- a text
 abbrev pub numbers : List ℕ
 numbers = codes "0xa1 0x 7"
 
+-- its tokens under these kinds, the third a stray one
 abbrev pub four_tokens : List Token
 four_tokens =
     token_of (Some 0) 0 4 ∷ token_of (Some 1) 5 6 ∷ token_of None 6 7 ∷ token_of (Some 1) 8 9 ∷ []
