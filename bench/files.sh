@@ -93,11 +93,27 @@ def empty_members(size):
     return min(size // 64, 1000) ** 2
 
 
+def scalar(number):
+    """A scalar of two bytes. A thousand of them have 16 first bytes, so that as many words of one
+    scalar have 1,018 states, with the start and white space."""
+    return chr(0x100 + number)
+
+
 def kinds(size):
-    """Rules with a word each, all different."""
+    """Rules with a word each, all different, of one scalar; each rule has a line of 64 bytes."""
     count = min(size // 64, 1000)
-    rules = [f'R{n:03d}. Word ::= "a_word_of_the_number_{n:03d}_and_more" ;' for n in range(count)]
+    rules = [f'{f"R{n:03d}. Word ::= {chr(34)}{scalar(n)}{chr(34)} ; -- of one scalar":<62}' for n in range(count)]
     return padded(rules, size), f'rules {count} categories 1 kinds {count}'
+
+
+def tokens(size):
+    """Definitions of tokens, and every tenth one of a comment, each with a scalar of its own."""
+    count = size // 80
+    lines = [f'comment "#{scalar(n)}" ;' if n % 10 == 0 else
+             f"token T{n:03d} ('{scalar(n)}' | [{chr(34)}{scalar(n)}{chr(34)}]) ; -- a token"
+             for n in range(count)]
+    lines = [line + ' ' * (79 - len(line.encode())) for line in lines]
+    return padded(lines, size), f'rules 0 categories 0 kinds {count - (count + 9) // 10}'
 
 
 def categories(size):
@@ -160,6 +176,7 @@ FAMILIES = (
     ('26 categories, each many of the next', copies, 'byte', None),
     ('all nullable, in one rule', empty, 'member', empty_members),
     ('1,000 kinds', kinds, 'byte', None),
+    ('definitions of tokens and comments', tokens, 'byte', None),
     ('1,000 categories', categories, 'byte', None),
     ('a tower of levels', tower, 'member', tower_members),
     ('a chain into a cycle', cycle, 'category looked at', cycle_searches),

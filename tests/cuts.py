@@ -1,5 +1,7 @@
 #!/usr/bin/env python3
-"""Each cut of three grammar files at each byte, and each file without each of its bytes.
+"""Each cut of seven grammar files at each byte, and each file without each of its bytes: the three
+of `grammars`, which are dense, and the four of `examples` at the top of the repository, which are
+those of real languages.
 
     python3 tests/cuts.py CMD [ARG ..]     runs CMD on each, and prints `N passed, M failed`
 
@@ -7,18 +9,21 @@ CMD reads a script from standard input, as `crates/lbnfchart/out/lbnfchart serve
 file is owed is told by `notation.py`, which shares nothing with the program.
 """
 import concurrent.futures
+import functools
 import pathlib
 import subprocess
 import sys
 
 import notation
 
-GRAMMARS = pathlib.Path(__file__).resolve().parent / 'grammars'
+TESTS = pathlib.Path(__file__).resolve().parent
+FOLDERS = [TESTS / 'grammars', TESTS.parent / 'examples']
+AT_ONCE = 64                                # files that one process takes at once
 
 
 def files():
     """Each file with its name."""
-    for path in sorted(GRAMMARS.glob('*.cf')):
+    for path in (path for folder in FOLDERS for path in sorted(folder.glob('*.cf'))):
         whole = path.read_bytes()
         for at in range(len(whole) + 1):
             yield f'{path.name} up to byte {at}', whole[:at]
@@ -33,7 +38,8 @@ def session(line):
     return line + b'\nversion 0 tokens 0\nend\n', 0
 
 
-def is_right(command, data):
+def is_right(command, named):
+    _, data = named
     script = b'script 1\ngrammar %d\n' % len(data) + data + b'\nopen 0\n\nend\n'
     done = subprocess.run(command, input=script, stdout=subprocess.PIPE, check=False)
     return (done.stdout, done.returncode) == session(notation.reply(data))
@@ -41,8 +47,8 @@ def is_right(command, data):
 
 def run(command):
     named = list(files())
-    with concurrent.futures.ThreadPoolExecutor() as pool:
-        right = list(pool.map(lambda file: is_right(command, file[1]), named))
+    with concurrent.futures.ProcessPoolExecutor() as pool:
+        right = list(pool.map(functools.partial(is_right, command), named, chunksize=AT_ONCE))
     for (name, data), good in zip(named, right):
         if not good:
             print(f'FAILED {name}, which is owed {notation.reply(data)!r}')

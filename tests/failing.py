@@ -8,8 +8,9 @@ allocation failing, its second, and so on up to the last; then each read, in pie
 4,096 bytes, and each write. Scripts with a macro of about a thousand rules are left out, since each
 has tens of thousands of allocations. What is wanted of a run:
 
-- an allocation fails: status 6, and a prefix of the session in whole lines; or the whole session
-  with its own status, since a growth may be asked for again with less;
+- an allocation fails: status 6, and a prefix of the session in whole lines, or up to a place within
+  a tree, which alone begins with no lower-case letter; or the whole session with its own status,
+  since a growth may be asked for again with less;
 - a read fails: status 4, and a prefix of the session in whole lines;
 - a write fails: status 5, and a prefix of the session;
 - no call fails, since the number is past the last: the whole session with its own status.
@@ -65,7 +66,8 @@ def verdict(out, code, made, kind, wanted, status):
         return 'whole'
     if not made or code != FAULTS[kind] or not wanted.startswith(out):
         return None
-    if kind != 'write' and out and not out.endswith(b'\n'):
+    part = out.rsplit(b'\n', 1)[-1]
+    if part and (kind == 'read' or kind == 'alloc' and part[:1].islower()):
         return None
     return 'a prefix' if out else 'nothing'
 

@@ -5,14 +5,13 @@
 
 opens each text under the grammar examples/json.cf and asks whether the whole is a Value: the answer
 is `yes` exactly where `json` reads the text. Of a text that `json` reads, the strings and numbers
-among the tokens are those that it reads, in their order. Half of the texts are whole, and half are
+among the tokens are those that it reads, in their order, and the printed tree of the whole, read
+back, is the value that it gives. Half of the texts are whole, and half are
 broken by one byte. It prints `N passed, M failed`.
 
 Two readings differ on purpose, and no text asks for them: the vertical tab and the form feed are
 white space here and not in JSON, and `json` reads NaN and Infinity.
 """
-import argparse
-import concurrent.futures
 import json
 import pathlib
 import random
@@ -20,7 +19,9 @@ import re
 import subprocess
 import sys
 
-GRAMMAR = pathlib.Path(__file__).resolve().parent.parent / 'examples' / 'json.cf'
+import compared
+
+GRAMMAR = (pathlib.Path(__file__).resolve().parent.parent / 'examples' / 'json.cf').read_bytes()
 SPACES = ['', '', '', ' ', '\n', '\t ', '\r\n']
 PLAIN = [chr(c) for c in range(32, 127) if chr(c) not in '"\\'] + ['\x7f']
 ESCAPED = ['\\"', '\\\\', '\\/', '\\b', '\\f', '\\n', '\\r', '\\t', '\\u0041', '\\uD83d', '\\u00e9']
@@ -105,17 +106,88 @@ def leaves(read):
 
 
 def expected(text):
-    """The strings and numbers that `json` reads, or None where it reads none of the text."""
+    """What `json` reads, alone in a list; it is empty where `json` reads none of the text."""
     try:
-        read = json.loads(text, parse_constant=refuse, parse_int=Numeral, parse_float=Numeral,
-                          object_pairs_hook=tuple)
+        return [json.loads(text, parse_constant=refuse, parse_int=Numeral, parse_float=Numeral,
+                           object_pairs_hook=tuple)]
     except ValueError:
-        return None
-    return list(leaves(read))
+        return []
 
 
 # A token as it is printed: a backslash is doubled, and a control byte is written by its number.
-TOKEN = re.compile(r' (?:word:([^ ]+)|Number:([^ ]+)|Text:("(?:[^"\\]|\\\\\\\\|\\\\[^\\]|\\x7f)*"))')
+STRING = r'Text:("(?:[^"\\]|\\\\\\\\|\\\\[^\\]|\\x7f)*")'
+TOKEN = re.compile(r' (?:word:([^ ]+)|Number:([^ ]+)|' + STRING + ')')
+LEAF = re.compile(r'Number:([^ )\],]+)|' + STRING)
+LABEL = re.compile(r'\((\w+)')
+
+
+def string_of(printed):
+    """The string that a token is, as `json` reads it."""
+    return json.loads(printed.replace('\\x7f', '\x7f').replace('\\\\', '\\'))
+
+
+def node(line, at):
+    """The printed node that begins here, and where it ends: a label with children, a list of
+    elements, or a token."""
+    if line[at] == '(':
+        label = LABEL.match(line, at)
+        children, at = [], label.end()
+        while line[at] == ' ':
+            child, at = node(line, at + 1)
+            children.append(child)
+        if line[at] != ')':
+            raise ValueError(line[at:])
+        return (label[1], children), at + 1
+    if line[at] == '[':
+        elements, at = [], at + 1
+        while line[at] != ']':
+            if elements and not line.startswith(', ', at):
+                raise ValueError(line[at:])
+            element, at = node(line, at + 2 if elements else at)
+            elements.append(element)
+        return elements, at + 1
+    leaf = LEAF.match(line, at)
+    if not leaf:
+        raise ValueError(line[at:])
+    return (Numeral(leaf[1]) if leaf[1] else string_of(leaf[2])), leaf.end()
+
+
+def value_of(tree):
+    """The value that a printed tree stands for, each part with its sort."""
+    label, children = tree
+    if label in ('EmptyObject', 'EmptyArray') and not children:
+        return label[5:], []
+    if label == 'Object' and len(children) == 1:
+        return label, [(key, value_of(held)) for _, (key, held) in children[0]]
+    if label == 'Array' and len(children) == 1:
+        return label, [value_of(held) for held in children[0]]
+    if label in ('Text', 'Number') and len(children) == 1:
+        return label, str(children[0])
+    if label in ('True', 'False', 'Null') and not children:
+        return label, None
+    raise ValueError(label)
+
+
+def sorted_value(read):
+    """The same of what `json` reads."""
+    if isinstance(read, Numeral):
+        return 'Number', str(read)
+    if isinstance(read, str):
+        return 'Text', read
+    if isinstance(read, tuple):
+        return 'Object', [(key, sorted_value(held)) for key, held in read]
+    if isinstance(read, list):
+        return 'Array', [sorted_value(held) for held in read]
+    return {True: 'True', False: 'False', None: 'Null'}[read], None
+
+
+def printed_value(line):
+    """The value of a reply to `tree`, or None where it is none."""
+    try:
+        tree, end = node(line, 0)
+        return value_of(tree) if end == len(line) else None
+    except (ValueError, IndexError, TypeError):
+        return None
 
 
 def told(line):
@@ -131,7 +203,7 @@ def told(line):
         if match[2]:
             found.append(('Number', match[2]))
         if match[3]:
-            found.append(('Text', json.loads(match[3].replace('\\x7f', '\x7f').replace('\\\\', '\\'))))
+            found.append(('Text', string_of(match[3])))
         at = match.end()
     return found
 
@@ -139,41 +211,26 @@ def told(line):
 def script(grammar, text):
     data = text.encode()
     return (b'script 1\ngrammar %d\n' % len(grammar) + grammar + b'\nopen %d\n' % len(data) + data
-            + b'\nhas\ntokens\nend\n')
+            + b'\nhas\ntokens\ntree\nend\n')
 
 
-def fault(command, grammar, text):
+def fault(command, text):
     """What is wrong with the replies to the text, or None."""
-    run = subprocess.run(command, input=script(grammar, text), capture_output=True, timeout=60)
+    run = subprocess.run(command, input=script(GRAMMAR, text), capture_output=True, timeout=60)
     lines = run.stdout.decode().split('\n')
-    if run.returncode != 0 or len(lines) != 6 or lines[4] != 'end':
+    if run.returncode != 0 or len(lines) != 7 or lines[5] != 'end':
         return f'status {run.returncode}, {run.stdout!r}'
     wanted = expected(text)
-    if lines[2] != ('no' if wanted is None else 'yes'):
+    if lines[2] != ('yes' if wanted else 'no'):
         return f'{lines[2]} in place of the other answer'
-    if wanted is not None and told(lines[3]) != wanted:
-        return f'{lines[3]!r} in place of {wanted!r}'
+    if not wanted:
+        return None if lines[4] == 'none' else f'{lines[4]!r} in place of none'
+    if told(lines[3]) != list(leaves(wanted[0])):
+        return f'{lines[3]!r} in place of {wanted[0]!r}'
+    if printed_value(lines[4]) != sorted_value(wanted[0]):
+        return f'{lines[4]!r} in place of {wanted[0]!r}'
     return None
 
 
-def main():
-    words = argparse.ArgumentParser(description=__doc__, formatter_class=argparse.RawTextHelpFormatter)
-    words.add_argument('command', nargs='+')
-    words.add_argument('--texts', type=int, default=3000)
-    words.add_argument('--seed', type=int, default=1)
-    given = words.parse_args()
-    grammar = GRAMMAR.read_bytes()
-    made = texts(given.seed, given.texts)
-    failed = 0
-    with concurrent.futures.ThreadPoolExecutor() as pool:
-        found = pool.map(lambda text: fault(given.command, grammar, text), made)
-        for text, wrong in zip(made, found):
-            if wrong:
-                failed += 1
-                print(f'{text!r}: {wrong}')
-    print(f'{len(made) - failed} passed, {failed} failed')
-    return 1 if failed else 0
-
-
 if __name__ == '__main__':
-    sys.exit(main())
+    sys.exit(compared.run(__doc__, 'texts', 3000, texts, fault))

@@ -188,7 +188,13 @@ for name, more in [
     ('a header behind the text', b'script 1\nend\n'),
     ('an empty line behind the text', b'\nend\n'),
     ('an edit', b'edit 0 1 1\nb\nend\n'),
-    ('a question for a tree', b'tree S 0 2\nend\n'),
+    ('a question for a tree without its LF', b'tree'),
+    ('a question for a tree with a space behind', b'tree \nend\n'),
+    ('a question for a tree in upper case', b'TREE\nend\n'),
+    ('a question for trees', b'trees\nend\n'),
+    ('a question for a tree with one place alone', b'tree S 0\nend\n'),
+    ('a question for a tree with a leading zero', b'tree S 00 2\nend\n'),
+    ('a question for a tree with two spaces', b'tree  S\nend\n'),
     ('a question for tokens without its LF', b'tokens'),
     ('a question for tokens with a space behind', b'tokens \nend\n'),
     ('a question for tokens that ends in CR LF', b'tokens\r\nend\n'),
@@ -687,6 +693,37 @@ for name, grammar, more, replies in [
      PAIR_RULES + b'refused span 1\n' * 5 + b'refused category\nend\n'),
 ]:
     case(name, with_grammar(grammar, more), replies, 0)
+
+# ---- First trees, worked by hand: by the least rule, then by the shortest first item.
+
+SUM = b'Add. E ::= E "+" E ; N. E ::= T ; token T digit+ ;'
+for name, grammar, counted, text, tokens, questions, answers in [
+    ('the shorter first item', SUM, (2, 1, 2), b'1+2+3', 5,
+     b'tree\ntree E 2 5\ntree E 0 1\ntree T 0 1\ntree E 0 2\ntree E 1 1\ntree T 1 2\ntree T 0 5\n',
+     b'(Add (N T:1) (Add (N T:2) (N T:3)))\n(Add (N T:2) (N T:3))\n(N T:1)\nT:1\nnone\nnone\nnone\nnone\n'),
+    ('the lesser rule before the shorter item', b'Two. S ::= A S ; One. S ::= A ; A. A ::= "a" ; AA. A ::= "a" "a" ;',
+     (4, 2, 1), b'aa', 2, b'tree\ntree A\ntree S 1 2\n', b'(Two (A) (One (A)))\n(AA)\n(One (A))\n'),
+    ('a rule without a label of its own hands its child on', b'_. S ::= "(" S ")" ; _. S ::= T ; token T letter ;',
+     (2, 1, 3), b'((x))', 5, b'tree\ntree S 2 3\ntree S 0 4\n', b'T:x\nT:x\nnone\n'),
+    ('an empty span', b'P. S ::= A B ; Q. S ::= ; R. A ::= ; X. B ::= "b" ; Y. B ::= ;', (5, 3, 1), b'b', 1,
+     b'tree S 0 0\ntree S 1 1\ntree S\ntree A\ntree A 1 1\ntree B 0 0\n',
+     b'(P (R) (Y))\n(P (R) (Y))\n(P (R) (X))\nnone\n(R)\n(Y)\n'),
+    ('the hidden choice between empty siblings', b'P. S ::= A A ; X. A ::= "x" ; E. A ::= ;', (3, 2, 1), b'x', 1,
+     b'tree\ntree S 0 0\n', b'(P (E) (X))\n(P (E) (E))\n'),
+    ('tokens that are escaped', b"A. S ::= T ; token T '\\\\' char ;", (1, 1, 1), b'\\\x7f', 1, b'tree\ntree T\n',
+     b'(A T:\\\\\\x7f)\nT:\\\\\\x7f\n'),
+    ('each refusal, and the category before the span', SUM, (2, 1, 2), b'1+', 2,
+     b'tree F\ntree E 0 3\ntree E 1 0\ntree F 0 3\ntree F 1 0\ntree T 3 3\ntree + 0 1\ntree\n',
+     b'refused category\nrefused span 2\nrefused span 2\nrefused category\nrefused category\nrefused span 2\nrefused category\nnone\n'),
+    ('no entry', b'', (0, 0, 0), b'', 0, b'tree\ntree S\ntree S 1 0\n', b'refused category\n' * 3),
+    ('a stray token', b'A. S ::= "a" ;', (1, 1, 1), b'?', 1, b'tree\ntree S 0 0\n', b'none\nnone\n'),
+    ('lists', b'L. S ::= "(" [A] ")" ; A. A ::= T ; separator A "," ; token T letter+ ;', None, b'(a,bc)', 5,
+     b'tree\ntree [A] 1 4\ntree [A] 1 2\ntree [A] 1 1\ntree [A] 1 3\ntree A 3 4\n',
+     b'(L [(A T:a), (A T:bc)])\n[(A T:a), (A T:bc)]\n[(A T:a)]\n[]\n[(A T:a)]\n(A T:bc)\n'),
+]:
+    counted = counted or (5, 3, 4)
+    case('tree: ' + name, with_grammar(grammar, open_text(text) + questions + END),
+         counts(*counted) + version(tokens) + answers + b'end\n', 0)
 
 # ---- Grammar files by their lines, and questions on some of them.
 

@@ -8,6 +8,7 @@ pub mod CellLemmas
 pub mod FormLemmas
 pub mod GivingLemmas
 pub mod LongerSuffixesLemmas
+pub mod LeftSideLemmas
 pub mod RowLemmas
 pub mod NullableLemmas
 pub mod StepLemmas

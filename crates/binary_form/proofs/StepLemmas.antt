@@ -107,7 +107,7 @@ pub not_tested : (test : Bool) → IsTrue (not test) ↔ IsFalse test
 not_tested test = (not-true test, not_from_false test)
 
 -- an item with a symbol of the grammar behind it is not the last
-not_last :
+pub not_last :
     (g : Grammar) (r p : ℕ) (row : SuffixRow)
     → IsRow g r p row → IsBinarySymbolOf g (suffix r (suc p)) → IsFalse row.is_last
 not_last g r p row is next = elim (cases_Bool row.is_last) [

@@ -66,6 +66,29 @@ AddsProductOf g left right old new = Adds (IsProductNumber g left right) old new
 abbrev pub HasProduct : Grammar → List ℕ → List ℕ → Type 0
 HasProduct g left right = (n : ℕ) × IsProductNumber g left right n
 
+-- a rule of the binary form has the one number on its left and the other on its right: one is that of
+-- an item of a rule of the grammar, the other that of the suffix behind it
+pub record IsLeftPartner (g : Grammar) (left right : ℕ) : Type 0 where
+  pub r : ℕ
+  pub p : ℕ
+  pub item : Symbol
+  pub behind : List Symbol
+  pub has : HasItem g.rules r p item behind
+  pub is_left : IsNumberOf g (plain item) left
+  pub is_right : IsNumberOf g (suffix r (suc p)) right
+
+-- the number is left of a number of the cell in a rule of the binary form
+abbrev pub IsPartnerOfCell : Grammar → List ℕ → ℕ → Type 0
+IsPartnerOfCell g right n = (m : ℕ) × Contains right m × IsLeftPartner g n m
+
+-- the partners are just the numbers that are left of a number of the cell in a rule
+abbrev pub AreLeftPartners : Grammar → List ℕ → List ℕ → Type 0
+AreLeftPartners g right partners = (n : ℕ) → Contains partners n ↔ IsPartnerOfCell g right n
+
+-- the cell has just the numbers that are on the left in some rule of the binary form
+abbrev pub AreLeftSymbols : Grammar → List ℕ → Type 0
+AreLeftSymbols g cell = (n : ℕ) → Contains cell n ↔ ((m : ℕ) × IsLeftPartner g n m)
+
 -- the answer on the grammar is its binary form, which is seen as the grammar, or that it has too
 -- many symbols; want of memory comes at no grammar of too many
 abbrev pub MakesBinary : Grammar → Result Grammar BinaryFault → Type 0

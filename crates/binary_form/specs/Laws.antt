@@ -6,7 +6,9 @@ use Rattle.spec_grammar.specs.Grammars.{Grammar, symbol_count}
 use Rattle.binary_form.specs.Symbols.{BinarySymbol, plain, BinaryDerives, IsBinarySymbolOf}
 use Rattle.binary_form.specs.Symbols.{symbol_number}
 use Rattle.binary_form.specs.UnitSteps.{Reaches, IsInProduct}
-use Rattle.binary_form.specs.BinaryForm.{IsProductNumber}
+use Rattle.cell_sets.specs.Cells.{Meet, IsCommon}
+use Rattle.binary_form.specs.BinaryForm.{IsProductNumber, HasProduct}
+use Rattle.binary_form.specs.BinaryForm.{AreLeftPartners, AreLeftSymbols}
 
 -- the span is one token, and its kind reaches the symbol
 abbrev pub IsOfToken : List Rule → List (Option ℕ) → BinarySymbol → ℕ → ℕ → Type 0
@@ -54,3 +56,22 @@ ProductsAgree =
     (g : Grammar) (left right : List ℕ) (a : BinarySymbol) → IsBinarySymbolOf g a
     → IsProductNumber g left right (symbol_number g a)
     ↔ IsInProduct g.rules (HasSymbol g left) (HasSymbol g right) a
+
+-- a product has a symbol exactly where its left cell has a left partner of its right one
+abbrev pub PartnersMeet : Type 0
+PartnersMeet =
+    (g : Grammar) (left right partners : List ℕ) → AreLeftPartners g right partners
+    → HasProduct g left right ↔ Meet left partners
+
+-- a product is that of the left partners alone which its left cell has
+abbrev pub PartnersAreEnough : Type 0
+PartnersAreEnough =
+    (g : Grammar) (left right partners common : List ℕ) → AreLeftPartners g right partners
+    → IsCommon left partners common
+    → (n : ℕ) → IsProductNumber g left right n ↔ IsProductNumber g common right n
+
+-- where a product has a symbol, its left cell has one that is on the left in some rule
+abbrev pub ProductsHaveLeftSymbols : Type 0
+ProductsHaveLeftSymbols =
+    (g : Grammar) (left right lefts : List ℕ) → AreLeftSymbols g lefts
+    → HasProduct g left right → Meet left lefts

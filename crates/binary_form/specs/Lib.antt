@@ -10,3 +10,4 @@ pub mod RowLinks
 pub mod FirstSuffixes
 pub mod Forms
 pub mod Products
+pub mod LeftSides

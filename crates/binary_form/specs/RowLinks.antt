@@ -19,6 +19,10 @@ IsRowStep nullable row suffix from to =
 abbrev pub IsRowLongerSuffix : SuffixRow → ℕ → ℕ → ℕ → Type 0
 IsRowLongerSuffix row suffix from to = IsFalse row.is_last × (from ≡ row.item) × (to ≡ suffix)
 
+-- the item of the suffix of this number is left of the suffix behind it
+abbrev pub IsRowPartner : SuffixRow → ℕ → ℕ → ℕ → Type 0
+IsRowPartner row suffix from to = IsFalse row.is_last × (from ≡ suffix + 1) × (to ≡ row.item)
+
 -- one of so many rows gives the link
 pub record IsLinkOfRows (Link : SuffixRow → ℕ → ℕ → ℕ → Type 0) (rows : List SuffixRow)
     (first many from to : ℕ) : Type 0 where

@@ -7,6 +7,7 @@ ghost use Rattle.binary_form.specs.RowLinks.{AreUnitSteps};
 
 use crate::fault::BinaryFault;
 use crate::form::Binary;
+use crate::left_sides::{left_symbols_of, partner_links};
 use crate::nullable::nullable_numbers;
 use crate::numbering::{first_suffixes, symbol_count};
 use crate::rows::rows_of;
@@ -85,10 +86,20 @@ fn form_of<C: Cell>(alloc: Global, grammar: &Grammar) -> Result<Binary<C>, Alloc
     let nullable = nullable_numbers(alloc, grammar, rows.as_slice())?;
     let steps = unit_steps(alloc, grammar, rows.as_slice(), nullable.as_slice())?;
     let longer_suffixes = longer_suffixes_of(alloc, grammar, rows.as_slice())?;
+    let partners = partner_links(alloc, grammar, rows.as_slice())?;
+    let lefts = left_symbols_of(alloc, grammar, &longer_suffixes)?;
     let firsts = first_suffixes(alloc, grammar)?;
     rules_have_own_symbols(grammar);
     let closures = closures_of(alloc, grammar, &steps)?;
-    Ok(Binary::of(grammar, firsts, nullable, closures, longer_suffixes))
+    Ok(Binary::of(
+        grammar,
+        firsts,
+        nullable,
+        closures,
+        longer_suffixes,
+        partners,
+        lefts,
+    ))
 }
 
 /// The binary form of the grammar, or that it has more than 2,048 symbols, which takes no memory to

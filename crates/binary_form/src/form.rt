@@ -4,9 +4,12 @@ ghost use Rattle.spec_grammar.specs.Grammars.{IsSymbolOf, HasOwnSymbols, symbol_
 ghost use Rattle.binary_form.specs.Symbols.{plain, suffix, IsBinarySymbolOf, symbol_number};
 ghost use Rattle.binary_form.specs.BinaryForm.{IsNullableNumber, IsClosureOf, IsTokenCell};
 ghost use Rattle.binary_form.specs.BinaryForm.{IsProductOf, AddsProductOf, HasProduct};
+ghost use Rattle.binary_form.specs.BinaryForm.{AreLeftPartners, AreLeftSymbols};
+ghost use Rattle.binary_form.specs.LeftSides.{AreLeftSides};
 ghost use Rattle.binary_form.specs.Forms.{AreBinaryParts};
 ghost use Rattle.spec_text.specs.declared.limits.TheConstants.{MAX_SYMBOLS};
 
+use crate::left_sides::linked_from;
 use crate::product::{is_met, product_of};
 use cell_sets::Cell;
 use number_graph::Links;
@@ -26,6 +29,8 @@ pub struct Binary<C: Cell> {
     nullable: Vec<bool>,
     closures: Vec<C>,
     longer_suffixes: Links,
+    partner_links: Links,
+    left_symbols: C,
     none: C,
 }
 
@@ -40,6 +45,7 @@ impl<C: Cell> Model for Binary<C> {
     ghost coded = { Prim.hlevel (codes, expr.the_row.coded) };
 
     ghost use Rattle.binary_form.specs.Forms.{AreBinaryParts, AreCounts};
+    ghost use Rattle.binary_form.specs.LeftSides.{AreLeftSides};
 
     ghost view = { λ b. b.grammar.value };
 
@@ -47,7 +53,8 @@ impl<C: Cell> Model for Binary<C> {
         AreBinaryParts C.symbols C.ROOM b.grammar.value
         b.first_suffixes b.nullable.items b.closures.items b.longer_suffixes
         × AreCounts b.grammar.value b.category_count b.kind_count
-        × (C.symbols b.none ≡ []) };
+        × (C.symbols b.none ≡ [])
+        × AreLeftSides C.symbols b.grammar.value b.partner_links b.left_symbols };
 }
 
 impl<C: Cell> Binary<C> {
@@ -58,9 +65,12 @@ impl<C: Cell> Binary<C> {
         nullable: Vec<bool>,
         closures: Vec<C>,
         longer_suffixes: Links,
+        partner_links: Links,
+        left_symbols: C,
     ) -> Binary<C>
-        requires { AreBinaryParts C.symbols C.ROOM grammar.now
+        requires parts { AreBinaryParts C.symbols C.ROOM grammar.now
             first_suffixes nullable.items closures.items longer_suffixes }
+        requires lefts { AreLeftSides C.symbols grammar.now partner_links left_symbols }
         ensures { result ≡ grammar.now }
     {
         Binary {
@@ -71,6 +81,8 @@ impl<C: Cell> Binary<C> {
             nullable,
             closures,
             longer_suffixes,
+            partner_links,
+            left_symbols,
             none: C::empty(),
         }
     }
@@ -180,5 +192,26 @@ impl<C: Cell> Binary<C> {
         ensures { IsTrue result ↔ HasProduct self.now (C.symbols left.now) (C.symbols right.now) }
     {
         is_met(&self.longer_suffixes, left, right)
+    }
+
+    /// The symbols that are left of one of the cell in a rule of the binary form: the items whose
+    /// suffix behind them is in the cell. A product whose left cell has none of them is empty, and
+    /// it depends on no other symbol of its left cell. It looks at each symbol of the cell once, and
+    /// makes a new cell. An error is want of memory.
+    pub fn left_partners(&self, alloc: Global, right: &C) -> Result<C, AllocError>
+        ensures { IfOk result (λ partners.
+            AreLeftPartners self.now (C.symbols right.now) (C.symbols partners)) }
+    {
+        let partners: C = linked_from(alloc, &self.partner_links, right)?;
+        Ok(partners)
+    }
+
+    /// The symbols that are on the left in some rule of the binary form: the items that have an
+    /// item behind them. A product whose left cell has none of them is empty. They were found when
+    /// the form was made, and it takes no memory.
+    pub fn left_symbols(&self) -> &C
+        ensures { AreLeftSymbols self.now (C.symbols result.now) }
+    {
+        &self.left_symbols
     }
 }

@@ -6,6 +6,7 @@ mod build;
 mod fault;
 mod form;
 mod laws;
+mod left_sides;
 mod nullable;
 mod numbering;
 mod product;
@@ -16,6 +17,9 @@ mod threads;
 pub use build::binary;
 pub use fault::BinaryFault;
 pub use form::Binary;
-pub use laws::{closure_is_derivation, each_symbol_has_its_number, products_agree};
+pub use laws::{
+    closure_is_derivation, each_symbol_has_its_number, left_partners_decide_products,
+    products_agree,
+};
 pub use numbering::symbol_count;
 pub use threads::binary_forms_cross_threads;

@@ -11,7 +11,7 @@ use number_graph::Links;
 use std::alloc::{AllocError, Global};
 
 /// The least symbol of the cell that is not below this one, if it is below the count.
-fn next_below<C: Cell>(cell: &C, from: u16, count: usize) -> Option<u16>
+pub fn next_below<C: Cell>(cell: &C, from: u16, count: usize) -> Option<u16>
     ensures { IsNextBelow count (C.symbols cell.now) from result }
 {
     let number = cell.next_from(from)?;

@@ -1,6 +1,7 @@
 -- Accepting a grammar or refusing it.
-use Rattle.std.proofs.Common.{◌≡◌, ℕ, ◌⊎◌, inl, inr, List, [], ◌∷◌, length, All, Result, Some, Ok, Err, IfOk, ◌<◌, refl}
+use Rattle.std.proofs.Common.{◌≡◌, ℕ, ◌⊎◌, inl, inr, List, [], ◌∷◌, length, All, Result, Some, Ok, Err, IfOk, IsErrAnd, ◌<◌, refl}
 use Rattle.std.proofs.Common.{◌≤◌, arith, sym, ◌∙◌, ap, ap₂, subst}
+use Rattle.std.specs.Prelude.{MatchResult}
 use Rattle.std.specs.List.{flat_map, AllByRecursion}
 use Rattle.std.specs.Str.{IsUtf8}
 use Rattle.std.proofs.lemmas.Bool.{cases_lt}
@@ -18,17 +19,20 @@ use Rattle.spec_lbnf.specs.Differences.{IsProper}
 use Rattle.spec_lbnf.specs.Laws.{IsSoundToken}
 use Rattle.spec_lbnf.proofs.DifferenceLemmas.{proper_defs}
 use Rattle.spec_lbnf.proofs.SoundLemmas.{sound_kinds}
+use Rattle.spec_lbnf.proofs.MemoryLemmas.{no_memory_fault}
 use Rattle.spec_lbnf.proofs.SymbolNameLemmas.{one_symbol_each}
 use Rattle.spec_lbnf.specs.declared.fault.TextFault.{TextFault}
 use Rattle.spec_lbnf.specs.declared.fault.TextFault.TheVariants.{TooLarge}
 use Rattle.spec_lbnf.specs.declared.fault.TextFault.TheVariants as file
 use Rattle.spec_lbnf.specs.declared.fault.GrammarFault.{GrammarFault}
 use Rattle.spec_lbnf.specs.declared.fault.GrammarFault.TheVariants as made
-use Rattle.spec_lbnf.specs.Faults.{Spells, is_large}
-use Rattle.spec_lbnf.specs.Checks.{AreFit}
+use Rattle.spec_lbnf.specs.Faults.{IsFirstFault, Spells, is_large}
+use Rattle.spec_lbnf.specs.Checks.{AreFit, IsUnfit}
 use Rattle.spec_session.specs.GrammarReplies.{IsAccepted, IsRefused, IsRefusedFor, AreAccepted, faulty, unfit}
 use Rattle.spec_session.specs.GrammarReplies.{too_many_states, too_many_symbols, fault_reason, unfit_reason}
 use Rattle.spec_session.specs.GrammarReplies.{states_reason, symbols_reason}
+use Rattle.lbnf_text.specs.Reading.{ReadsDefs}
+use Rattle.lbnf_grammar.specs.Grammars.{Expands}
 use Rattle.lbnf_regex.specs.Automata.{Machine}
 use Rattle.lbnf_regex.specs.Lexicons.{IsAutomatonOf, lexicon_with}
 use Rattle.lbnf_regex.specs.declared.lex_fault.LexFault.{LexFault}
@@ -38,9 +42,10 @@ use Rattle.binary_form.specs.BinaryForm.{MakesBinary}
 use Rattle.binary_form.specs.declared.fault.BinaryFault.{BinaryFault}
 use Rattle.binary_form.specs.declared.fault.BinaryFault.TheVariants.{Memory as BinaryMemory, TooManySymbols}
 use Rattle.chart_service.specs.declared.accepting.LanguageFault.{LanguageFault}
-use Rattle.chart_service.specs.declared.accepting.LanguageFault.TheVariants.{Text, Lex, Binary}
+use Rattle.chart_service.specs.declared.accepting.LanguageFault.TheVariants.{Memory, Text, Lex, Binary}
 use Rattle.chart_service.specs.declared.accepting.LanguageFault.TheVariants.{Grammar as UnfitGrammar}
 use Rattle.chart_service.specs.Languages.{CanOpen, IsFaultOf, MakesLexer, reason_of, IsRefusal}
+use Rattle.chart_service.specs.Languages.{of_text, of_unfit, of_lex, of_binary}
 use Rattle.chart_service.specs.KnownTexts.{IsUtf8Word, AreSoundByWords}
 
 -- a count is within this room or above 2,048, which is no more than the room
@@ -132,17 +137,18 @@ module _ (block : List ℕ) (defs : List Def) (g : Grammar) (spells : Spells blo
       (defs, spells, all, same ∙ e)
 
   -- where there is no automaton, the fault is that of what the block spells
-  pub no_automaton : (fault : LexFault) → MakesLexer g.lexicon (Err fault) → IsFaultOf block (Lex fault)
-  no_automaton fault made =
-      let IsMade : Grammar → Type 0 = λ x. MakesLexer x.lexicon (Err fault) in
-      (defs, spells, fit, subst IsMade e made)
+  pub no_automaton : (fault : LexFault) → MakesLexer g.lexicon (Err fault) → IsFaultOf block (of_lex fault)
+  no_automaton LexMemory made = spells.form.small
+  no_automaton TooManyStates made = (defs, spells, fit, subst (λ (x : Grammar). HasTooManyStates x.lexicon) e made)
 
   -- so it is where there is no binary form
   pub no_form : (a : Machine) → MakesLexer g.lexicon (Ok a) → (fault : BinaryFault) → MakesBinary g (Err fault)
-      → IsFaultOf block (Binary fault)
-  no_form a lexer fault made =
-      let IsMade : Grammar → Type 0 = λ x. MakesBinary x (Err fault) in
-      (defs, spells, fit, few_states a lexer, subst IsMade e made)
+      → IsFaultOf block (of_binary fault)
+  no_form a lexer BinaryMemory made = spells.form.small
+  no_form a lexer (TooManySymbols count) made =
+      let IsMade : Grammar → Type 0 = λ x. MakesBinary x (Err (TooManySymbols count)) in
+      let many : IsMade (expansion_of defs) = subst IsMade e made in
+      (defs, spells, fit, few_states a lexer, many.0, many.1)
 
   -- texts can be opened under a grammar that has a binary form
   pub can_open : (room : ℕ) (binary own : Grammar) → 2048 ≤ room → MakesBinary g (Ok binary) → own ≡ g
@@ -152,10 +158,49 @@ module _ (block : List ℕ) (defs : List Def) (g : Grammar) (spells : Spells blo
     few = omega (arith, enough, subst (λ (x : Grammar). symbol_count x ≤ 2048) (sym same) made.0);
   }
 
+-- the fault that is told is that of a layer, as one of the language
+pub fault_told : {X E : Type 0} → (Q : X → Type 0) → (P : E → Type 0) → (e : E) → (r : Result X E)
+    → IsErrAnd r (λ x. x ≡ e) → P e → MatchResult r Q P
+fault_told Q P e (Ok x) h p = absurd h
+fault_told Q P e (Err x) h p = subst P (sym h) p
+
+-- the first fault of a block is one of its language
+first_fault : (block : List ℕ) (fault : TextFault) → IsFirstFault block fault → IsFaultOf block (of_text fault)
+first_fault block file.Memory first = absurd (no_memory_fault block first)
+first_fault block (file.TooLarge count) first = first
+first_fault block (file.NotUtf8 at) first = first
+first_fault block (file.Syntax at) first = first
+first_fault block (file.Unsupported word at) first = first
+first_fault block (file.BadDifference at) first = first
+
+-- where a block is not read, this is its first fault, or memory ran out
+pub not_read : (block : List ℕ) (fault : TextFault) → ReadsDefs block (Err fault) → IsFaultOf block (of_text fault)
+not_read block fault read = elim read [
+  | inl memory ↦ subst (λ (f : TextFault). IsFaultOf block (of_text f)) (sym memory.0) memory.1
+  | inr first ↦ first_fault block fault first
+]
+
+-- what a block spells, where it is unfit: this is why, or memory ran out
+module _ (block : List ℕ) (defs : List Def) (spells : Spells block defs) where
+  unfit_for : (fault : GrammarFault) → IsUnfit defs fault → IsFaultOf block (of_unfit fault)
+  unfit_for made.Memory why = spells.form.small
+  unfit_for (made.BadCoercion number) why = (defs, spells, why)
+  unfit_for (made.BadList number) why = (defs, spells, why)
+  unfit_for (made.TooManyRules count) why = (defs, spells, why)
+  unfit_for (made.RepeatedToken name) why = (defs, spells, why)
+  unfit_for (made.UnknownCategory name number) why = (defs, spells, why)
+  unfit_for (made.Cyclic name) why = (defs, spells, why)
+
+  pub no_grammar : (fault : GrammarFault) → Expands defs (Err fault) → IsFaultOf block (of_unfit fault)
+  no_grammar fault made = elim made [
+    | inl memory ↦ subst (λ (f : GrammarFault). IsFaultOf block (of_unfit f)) (sym memory.0) spells.form.small
+    | inr why ↦ unfit_for fault why
+  ]
+
 -- a block of too many bytes has this as its first fault
 pub too_long : (block : List ℕ) (count : ℕ) → count ≡ length block → 65536 < count
     → IsFaultOf block (Text (TooLarge count))
-too_long block count is many = inr (is_large (omega (arith, is, many)) (ap TooLarge is))
+too_long block count is many = is_large (omega (arith, is, many)) (ap TooLarge is)
 
 -- the reason that is told of a fault of a file is its reason
 text_reason : (fault : TextFault) (reason : List ℕ) → reason_of (Text fault) ≡ Some reason → reason ≡ fault_reason fault
@@ -179,21 +224,16 @@ grammar_reason (made.Cyclic name) reason is = sym (same_Some _ reason is)
 -- the reason that is told is one for which the block is refused
 reason_is : (block : List ℕ) (fault : LanguageFault) (reason : List ℕ) → IsFaultOf block fault
     → reason_of fault ≡ Some reason → IsRefusedFor block reason
-reason_is block (Text fault) reason (inl memory) is =
-    absurd (none-some reason (subst (λ (f : TextFault). reason_of (Text f) ≡ Some reason) memory.0 is))
-reason_is block (Text fault) reason (inr first) is = faulty fault first (text_reason fault reason is)
-reason_is block (UnfitGrammar fault) reason h is = elim h.2 [
-  | inl memory ↦ absurd (none-some reason (subst (λ (f : GrammarFault). reason_of (UnfitGrammar f) ≡ Some reason) memory.0 is))
-  | inr why ↦ unfit h.0 fault h.1 why (grammar_reason fault reason is)
-]
-reason_is block (Lex LexMemory) reason h is = absurd (none-some reason is)
+reason_is block Memory reason small is = absurd (none-some reason is)
+reason_is block (Text fault) reason first is = faulty fault first (text_reason fault reason is)
+reason_is block (UnfitGrammar fault) reason h is = unfit h.0 fault h.1 h.2 (grammar_reason fault reason is)
+reason_is block (Lex LexMemory) reason h is = absurd h
 reason_is block (Lex TooManyStates) reason h is =
     too_many_states h.0 h.1 h.2 h.3 (sym (same_Some states_reason reason is))
-reason_is block (Binary BinaryMemory) reason h is = absurd (none-some reason is)
+reason_is block (Binary BinaryMemory) reason h is = absurd h
 reason_is block (Binary (TooManySymbols count)) reason h is =
-    let made : MakesBinary (expansion_of h.0) (Err (TooManySymbols count)) = h.4 in
-    too_many_symbols h.0 h.1 h.2 h.3 (omega (arith, made.0, made.1))
-    (sym (same_Some (symbols_reason count) reason is) ∙ ap symbols_reason made.0)
+    too_many_symbols h.0 h.1 h.2 h.3 (omega (arith, h.4, h.5))
+    (sym (same_Some (symbols_reason count) reason is) ∙ ap symbols_reason h.4)
 
 -- the line that refuses is the fault's
 pub refusal_is : (block : List ℕ) (fault : LanguageFault) (line : List ℕ) → IsFaultOf block fault

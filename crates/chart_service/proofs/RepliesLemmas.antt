@@ -100,6 +100,38 @@ module _ (old mid new : Option (List ℕ)) (gathered first bytes left : List ℕ
   add_cut (Ok x) h = h
   add_cut (Err fault) cut = prefix_behind old mid new gathered bytes flushed_same cut
 
+-- what holds anyway holds at an error
+pub at_error : {X E : Type 0} → (P : Type 0) (r : Result X E) → P → OnErr r P
+at_error P (Ok x) h = tt
+at_error P (Err fault) h = h
+
+-- what was gathered is written, and then a text; what comes behind it passes
+text_passes : (old mid end new : Option (List ℕ)) (gathered text bytes left : List ℕ) → Grows old mid gathered
+    → Grows mid end text → Passes end new [] bytes left → Passes old new gathered (text ++ bytes) left
+text_passes old mid end new gathered text bytes left grows more p = (
+  (gathered ++ text) ++ p.0,
+  both_grow old end new (gathered ++ text) p.0 (both_grow old mid end gathered text grows more) p.1,
+  sym (append_assoc gathered text bytes)
+      ∙ ap (λ these. (gathered ++ text) ++ these) p.2
+      ∙ sym (append_assoc (gathered ++ text) p.0 left),
+)
+
+-- a tree is said: what was gathered and the text are written, and the LF is added
+module _ (old mid end new : Option (List ℕ)) (gathered text bytes left : List ℕ) (grows : Grows old mid gathered) where
+  pub text_added : {X E : Type 0} → Grows mid end text → (r : Result X E) → OnOk r (Passes end new [] bytes left)
+      → OnOk r (Passes old new gathered (text ++ bytes) left)
+  text_added more (Ok x) p = text_passes old mid end new gathered text bytes left grows more p
+  text_added more (Err fault) h = h
+
+  pub added_cut : {X E : Type 0} → Grows mid end text → (r : Result X E) → OnErr r (GrowsByPrefix end new ([] ++ bytes))
+      → OnErr r (GrowsByPrefix old new (gathered ++ (text ++ bytes)))
+  added_cut more (Ok x) h = h
+  added_cut more (Err fault) cut =
+      prefix_behind old mid new gathered (text ++ bytes) grows (prefix_behind mid end new text bytes more cut)
+
+  pub text_cut : GrowsByPrefix mid end text → GrowsByPrefix old end (gathered ++ (text ++ bytes))
+  text_cut cut = prefix_behind old mid end gathered (text ++ bytes) grows (prefix_of_both mid end text bytes cut)
+
 -- the line was said, if its bytes passed
 pub said : {X E : Type 0} → (line : Result (String Global) AllocError) (text : String Global) (bytes : List ℕ)
     → line ≡ Ok text → bytes ≡ string_bytes text → (old new : Option (List ℕ)) (gathered left : List ℕ)

@@ -29,13 +29,13 @@ use Rattle.chart_service.specs.declared.accepting.LanguageFault.{LanguageFault}
 use Rattle.chart_service.specs.declared.ending.EarlyEnd.TheVariants.{Refused, Stopped}
 use Rattle.chart_service.specs.declared.session.Session.{Session}
 use Rattle.chart_service.specs.Serving.{IsPrefixOfSession}
-use Rattle.chart_service.specs.Replies.{line_in, Passes, Says}
+use Rattle.chart_service.specs.Replies.{line_in, bytes_in, Passes, SaysBy}
 use Rattle.chart_service.specs.Languages.{IsFaultOf, IsRefusal}
 use Rattle.chart_service.specs.Sessions.{IsIn, is_open, CanReply, IsCommand, RepliesTo}
 use Rattle.chart_service.specs.Progress.{IsToldBehind, Running, IsCutShort, HasEnded, EndsEarly}
 use Rattle.chart_service.specs.Progress.{HasAccepted}
 use Rattle.chart_service.proofs.ToldLemmas.{told_on, written_is_prefix, cut_is_prefix}
-use Rattle.chart_service.proofs.ToldLemmas.{line_is_prefix}
+use Rattle.chart_service.proofs.ToldLemmas.{line_is_prefix, bytes_are_prefix}
 use Rattle.chart_service.proofs.LanguageLemmas.{refusal_is}
 use Rattle.chart_service.proofs.RunLemmas.{run_more, commands_more, lines_more, after_more}
 
@@ -419,28 +419,30 @@ module _ {C : Type 0} (input before : List ℕ) (coming : Option (List ℕ)) (at
           complete = of_commands AreComplete (order_completes (commands_of r.steps) meaning longer_in_order)
 
     -- the reply was said
-    pub running_said : (later : Session C) → later.language ≡ g → (line : Result (String Global) AllocError)
-        → IfOk line (λ text. RepliesTo (state_after no_texts r.steps) meaning (string_bytes text) later)
-        → (new : Option (List ℕ)) (left : List ℕ) → Says line now new gathered left
+    pub running_said : {X : Type 0} → (bytes_of : X → List ℕ) (later : Session C) → later.language ≡ g
+        → (reply : Result X AllocError)
+        → IfOk reply (λ x. RepliesTo (state_after no_texts r.steps) meaning (bytes_of x) later)
+        → (new : Option (List ℕ)) (left : List ℕ) → SaysBy bytes_of reply now new gathered left
         → Running input before next to new left later
-    running_said later same line replies new left says =
-        let P : Result (String Global) AllocError → Type 0 = λ r.
-        IfOk r (λ text. RepliesTo replied_state meaning (string_bytes text) later) in
-        running_replied later same (string_bytes says.0) (subst P says.1 replies) new left says.2
+    running_said {X} bytes_of later same reply replies new left says =
+        let P : Result X AllocError → Type 0 = λ r.
+        IfOk r (λ x. RepliesTo replied_state meaning (bytes_of x) later) in
+        running_replied later same (bytes_of says.0) (subst P says.1 replies) new left says.2
       where
         replied_state : State
         replied_state = state_after no_texts r.steps
 
     -- the reply is cut short, or there was no memory for it
-    pub cut_reply : (later : Session C) → later.language ≡ g
-        → (line : Result (String Global) AllocError)
-        → IfOk line (λ text. RepliesTo (state_after no_texts r.steps) meaning (string_bytes text) later)
-        → (new : Option (List ℕ)) → GrowsByPrefix now new (gathered ++ line_in line)
+    pub cut_reply : {X : Type 0} → (bytes_of : X → List ℕ) (later : Session C) → later.language ≡ g
+        → (reply : Result X AllocError)
+        → IfOk reply (λ x. RepliesTo (state_after no_texts r.steps) meaning (bytes_of x) later)
+        → (new : Option (List ℕ)) → GrowsByPrefix now new (gathered ++ bytes_in bytes_of reply)
         → IsCutShort input before new
-    cut_reply later same line replies new cut =
-        cut_is_prefix input before now new gathered (line_in line) told r.is_told cut
-        (line_is_prefix input before told (λ bytes. RepliesTo (state_after no_texts r.steps) meaning bytes later)
-        told_is_prefix (reply_is_prefix later same) line replies)
+    cut_reply bytes_of later same reply replies new cut =
+        cut_is_prefix input before now new gathered (bytes_in bytes_of reply) told r.is_told cut
+        (bytes_are_prefix input before bytes_of told
+        (λ bytes. RepliesTo (state_after no_texts r.steps) meaning bytes later)
+        told_is_prefix (reply_is_prefix later same) reply replies)
 
 -- a session under a grammar that was accepted, to which it replied, runs
 module _ {C : Type 0} (input before : List ℕ) (coming : Option (List ℕ)) (at : ℕ) (session : Session C)

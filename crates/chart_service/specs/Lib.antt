@@ -3,6 +3,7 @@ pub mod Statuses
 pub mod Replies
 pub mod Languages
 pub mod KnownTexts
+pub mod Replying
 pub mod Answering
 pub mod Sessions
 pub mod Progress

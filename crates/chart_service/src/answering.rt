@@ -5,19 +5,22 @@ ghost use Rattle.spec_grammar.specs.Grammars.{IsSymbolOf};
 ghost use Rattle.spec_grammar.specs.Derivation.{Derives};
 ghost use Rattle.spec_lexing.specs.declared.token.Token.{Token};
 ghost use Rattle.spec_lexing.specs.Tokens.{kinds_of};
-ghost use Rattle.spec_script.specs.Script.{has};
 ghost use Rattle.spec_session.specs.Questions.{IsOfSymbol, HasSymbol, first_of, end_of};
 ghost use Rattle.spec_session.specs.Questions.{outside_line};
 ghost use Rattle.spec_session.specs.TokenAnswers.{span_first, span_end, IsTokensAnswer};
-ghost use Rattle.spec_session.specs.Answers.{IsAnswer};
+ghost use Rattle.spec_session.specs.Answers.{IsHasAnswer};
 ghost use Rattle.script_reader.specs.Forms.{meant, query_of};
+ghost use Rattle.valiant.specs.Charts.{IsChartOf};
 ghost use Rattle.chart_service.specs.Languages.{CanOpen};
 ghost use Rattle.chart_service.specs.Sessions.{IsOpened};
-ghost use Rattle.chart_service.specs.Answering.{answer_line};
+ghost use Rattle.chart_service.specs.Answering.{refusal_line, TellsSpan, has_line, RepliesWith};
+ghost use Rattle.chart_service.specs.Answering.{AnswersTree, Answers};
 
 use crate::language::Language;
+use crate::reply::Reply;
 use crate::token_lines::tokens_line;
 use cell_sets::Cell;
+use first_tree::{First, first};
 use lbnf_grammar::{Grammar, Symbol};
 use script_reader::Query;
 use spec_lexing::KindDef;
@@ -26,17 +29,21 @@ use std::alloc::{AllocError, Global};
 use text_store::Text;
 use valiant::Chart;
 
-/// The answer to whether a symbol derives a span.
+/// Why a question on a constituent is refused.
 #[derive(Clone, Copy, Debug, PartialEq, Eq)]
-enum Answer {
+enum Refusal {
     /// No symbol has the name, or there is no entry.
     UnknownCategory,
     /// The span is none of the text's, which has so many tokens.
     SpanOutside { tokens: u32 },
-    /// The symbol derives the span.
-    Yes,
-    /// The symbol does not derive the span.
-    No,
+}
+
+/// A symbol over the tokens `first..end` of a text.
+#[derive(Clone, Copy, Debug, PartialEq, Eq)]
+struct SymbolSpan {
+    symbol: Symbol,
+    first: u32,
+    end: u32,
 }
 
 /// The symbol of the constituent.
@@ -101,32 +108,24 @@ fn end_of(constituent: &Constituent<&[u8]>, tokens: u32) -> u32
     }
 }
 
-/// The answer to whether the constituent is derived.
-fn answer_of<C: Cell>(
-    language: &Language<C>,
-    chart: &Chart<C>,
+/// The symbol of the constituent and its span of a text of so many tokens. The symbol is looked for
+/// before the span is.
+fn symbol_span_of(
+    grammar: &Grammar,
+    tokens: u32,
     constituent: &Constituent<&[u8]>,
-) -> Answer
-    requires can { CanOpen C.ROOM language.now }
-    ensures { (text : List ℕ) (tokens : List Token)
-        → IsOpened language.now chart.now text tokens
-        → IsAnswer language.now text tokens (has (meant constituent.now))
-        (answer_line result) }
+) -> Result<SymbolSpan, Refusal>
+    ensures { TellsSpan grammar.now tokens (meant constituent.now) result }
 {
-    let Some(symbol) = symbol_of(language.grammar(), constituent) else {
-        return Answer::UnknownCategory;
+    let Some(symbol) = symbol_of(grammar, constituent) else {
+        return Err(Refusal::UnknownCategory);
     };
-    let tokens = chart.len();
     let first = first_of(constituent);
     let end = end_of(constituent, tokens);
     if end < first || tokens < end {
-        return Answer::SpanOutside { tokens };
+        return Err(Refusal::SpanOutside { tokens });
     }
-    if is_derived(language, chart, symbol, first, end) {
-        Answer::Yes
-    } else {
-        Answer::No
-    }
+    Ok(SymbolSpan { symbol, first, end })
 }
 
 /// The line that refuses a span of a text of so many tokens.
@@ -136,15 +135,87 @@ fn outside_line(alloc: Global, tokens: u32) -> Result<String, AllocError>
     format!(in alloc; "refused span {tokens}\n")
 }
 
-/// The line of the answer.
-fn line_of(alloc: Global, answer: Answer) -> Result<String, AllocError>
-    ensures { IfOk result (λ text. string_bytes text ≡ answer_line answer) }
+/// The line that refuses a question on a constituent.
+fn refusal_line(alloc: Global, refusal: Refusal) -> Result<String, AllocError>
+    ensures { IfOk result (λ text. string_bytes text ≡ refusal_line refusal) }
 {
-    match answer {
-        Answer::UnknownCategory => format!(in alloc; "refused category\n"),
-        Answer::SpanOutside { tokens } => outside_line(alloc, tokens),
-        Answer::Yes => format!(in alloc; "yes\n"),
-        Answer::No => format!(in alloc; "no\n"),
+    match refusal {
+        Refusal::UnknownCategory => format!(in alloc; "refused category\n"),
+        Refusal::SpanOutside { tokens } => outside_line(alloc, tokens),
+    }
+}
+
+/// The line that answers whether a constituent is derived.
+fn has_line(alloc: Global, is_derived: bool) -> Result<String, AllocError>
+    ensures { IfOk result (λ text. string_bytes text ≡ has_line is_derived) }
+{
+    if is_derived {
+        format!(in alloc; "yes\n")
+    } else {
+        format!(in alloc; "no\n")
+    }
+}
+
+/// The line that answers whether the constituent is derived.
+fn has_answer<C: Cell>(
+    alloc: Global,
+    language: &Language<C>,
+    chart: &Chart<C>,
+    constituent: &Constituent<&[u8]>,
+) -> Result<String, AllocError>
+    requires can { CanOpen C.ROOM language.now }
+    ensures { (text : List ℕ) (tokens : List Token)
+        → IsOpened language.now chart.now text tokens
+        → IfOk result (λ line. IsHasAnswer language.now tokens (meant constituent.now)
+        (string_bytes line)) }
+{
+    match symbol_span_of(language.grammar(), chart.len(), constituent) {
+        Ok(asked) => {
+            let is = is_derived(language, chart, asked.symbol, asked.first, asked.end);
+            has_line(alloc, is)
+        }
+        Err(refusal) => refusal_line(alloc, refusal),
+    }
+}
+
+/// The reply that tells what was found of a first tree.
+fn tree_reply(alloc: Global, found: First) -> Result<Reply, AllocError>
+    ensures { IfOk result (RepliesWith found) }
+{
+    match found {
+        First::Tree(tree) => Ok(Reply::Tree(tree)),
+        First::Nothing => Ok(Reply::Line(format!(in alloc; "none\n")?)),
+        First::Large => Ok(Reply::Line(format!(in alloc; "refused tree\n")?)),
+    }
+}
+
+/// The reply to what the constituent's first tree is. It takes memory for the nodes of the tree.
+fn tree_answer<C: Cell>(
+    alloc: Global,
+    language: &Language<C>,
+    chart: &Chart<C>,
+    constituent: &Constituent<&[u8]>,
+) -> Result<Reply, AllocError>
+    requires can { CanOpen C.ROOM language.now }
+    requires chart { IsChartOf language.now chart.now.kinds chart.now }
+    ensures { (text : List ℕ) (tokens : List Token)
+        → IsOpened language.now chart.now text tokens
+        → IfOk result (AnswersTree language.now text tokens (meant constituent.now)) }
+{
+    match symbol_span_of(language.grammar(), chart.len(), constituent) {
+        Ok(asked) => {
+            let found = first(
+                alloc,
+                chart,
+                language.binary(),
+                language.grammar(),
+                asked.symbol,
+                asked.first,
+                asked.end,
+            )?;
+            tree_reply(alloc, found)
+        }
+        Err(refusal) => Ok(Reply::Line(refusal_line(alloc, refusal)?)),
     }
 }
 
@@ -177,21 +248,29 @@ fn tokens_answer(
     tokens_line(alloc, kinds, text, first, end)
 }
 
-/// The line that answers the query, asked of the text and its chart.
+/// The reply to the query, asked of the text and its chart.
 pub(crate) fn answer_to<C: Cell>(
     alloc: Global,
     language: &Language<C>,
     text: &Text,
     chart: &Chart<C>,
     query: &Query<'_>,
-) -> Result<String, AllocError>
+) -> Result<Reply, AllocError>
     requires can { CanOpen C.ROOM language.now }
-    ensures { IsOpened language.now chart.now text.now.bytes text.now.tokens
-        → IfOk result (λ line. IsAnswer language.now text.now.bytes text.now.tokens
-        (query_of query.now) (string_bytes line)) }
+    requires opened { IsOpened language.now chart.now text.now.bytes text.now.tokens }
+    ensures { IfOk result (Answers language.now text.now (query_of query.now)) }
 {
     match query {
-        Query::Has(constituent) => line_of(alloc, answer_of(language, chart, constituent)),
-        Query::Tokens(span) => { tokens_answer(alloc, language.grammar().kinds(), text, *span) }
+        Query::Has(constituent) => Ok(Reply::Line(has_answer(
+            alloc,
+            language,
+            chart,
+            constituent,
+        )?)),
+        Query::Tree(constituent) => tree_answer(alloc, language, chart, constituent),
+        Query::Tokens(span) => {
+            let kinds = language.grammar().kinds();
+            Ok(Reply::Line(tokens_answer(alloc, kinds, text, *span)?))
+        }
     }
 }

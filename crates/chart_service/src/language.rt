@@ -8,10 +8,10 @@ use lbnf_grammar::Grammar;
 use lbnf_regex::Automaton;
 use std::marker::Model;
 
-/// A grammar that was accepted, with the automaton of its kinds and its binary form over one type
-/// of cell, seen as the grammar.
+/// A grammar that was accepted, with the automaton of its kinds and comments and its binary form
+/// over one type of cell, seen as the grammar. The three parts are always of this one grammar.
 #[derive(Drop)]
-pub(crate) struct Language<C: Cell> {
+pub struct Language<C: Cell> {
     grammar: Grammar,
     automaton: Automaton,
     binary: Binary<C>,
@@ -47,22 +47,23 @@ impl<C: Cell> Language<C> {
         }
     }
 
-    /// The grammar. It takes no memory.
-    pub(crate) fn grammar(&self) -> &Grammar
+    /// The grammar: its rules, categories, kinds, comments and entry. It takes no memory.
+    pub fn grammar(&self) -> &Grammar
         ensures { result.now ≡ self.now }
     {
         &self.grammar
     }
 
-    /// The automaton of its kinds. It takes no memory.
-    pub(crate) fn automaton(&self) -> &Automaton
+    /// The automaton of its kinds and comments, by which a text of the language is opened. It takes
+    /// no memory.
+    pub fn automaton(&self) -> &Automaton
         ensures { Lexes (self.now).lexicon result.now }
     {
         &self.automaton
     }
 
-    /// Its binary form. It takes no memory.
-    pub(crate) fn binary(&self) -> &Binary<C>
+    /// Its binary form, by which the chart of a text is filled. It takes no memory.
+    pub fn binary(&self) -> &Binary<C>
         ensures { result.now ≡ self.now }
     {
         &self.binary

@@ -16,6 +16,7 @@ fn reason(alloc: Global, fault: &LanguageFault) -> Result<String, AllocError>
     use GrammarFault as Unfit;
     use LanguageFault::{Binary, Grammar, Lex, Text};
     match fault {
+        LanguageFault::Memory => Err(AllocError),
         Text(TextFault::Memory) => Err(AllocError),
         Text(TextFault::TooLarge { count }) => format!(in alloc; "large {count}"),
         Text(TextFault::NotUtf8 { at }) => format!(in alloc; "utf8 {at}"),

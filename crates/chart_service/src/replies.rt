@@ -2,13 +2,18 @@
 ghost use Rattle.std.specs.Prelude.{◌≡◌, ℕ, ◌++◌, [], IsTrue, IsFalse, IsErrOf, IfErr, OnOk, OnErr};
 ghost use Rattle.cyk_io.specs.Causes.{HasCause};
 ghost use Rattle.cyk_io.specs.Streams.{Grows, GrowsByPrefix};
+ghost use Rattle.spec_session.specs.Lines.{as_line};
+ghost use Rattle.first_tree.specs.Printing.{IsTreeIn, text_of};
 ghost use Rattle.chart_service.specs.Replies.{line_in, Passes, Says, WritesOut, Finishes};
 
 use crate::status::Status;
 use arrayvec::ArrayVec;
 use cyk_io::{IoFault, Sink, write_all_counted};
-use std::alloc::AllocError;
+use first_tree::{Tree, print};
+use lbnf_grammar::Grammar;
+use std::alloc::{AllocError, Global};
 use std::marker::Model;
+use text_store::Text;
 
 /// The most bytes that are gathered.
 const MAX_GATHERED: usize = 4096;
@@ -125,6 +130,30 @@ impl Replies {
                 Err(IoFault::Memory)
             }
         }
+    }
+
+    /// Says the printed text of the tree as a line. What is gathered is written first, and then the
+    /// text is, piece by piece, so that it is nowhere kept whole; its LF is gathered.
+    pub(crate) fn say_tree<K: Sink>(
+        &mut self,
+        alloc: Global,
+        sink: &mut K,
+        tree: &Tree,
+        grammar: &Grammar,
+        text: &Text,
+    ) -> Result<(), IoFault>
+        requires fits { IsTreeIn grammar.now text.now tree.now }
+        ensures ok { OnOk result (Passes (K.written sink.old) (K.written sink.new) self.old
+            (as_line (text_of grammar.now text.now tree.now)) self.new) }
+        ensures err { OnErr result (GrowsByPrefix (K.written sink.old) (K.written sink.new)
+            (self.old ++ as_line (text_of grammar.now text.now tree.now))) }
+        ensures cause { HasCause (K.faults sink.old) (K.faults sink.new)
+            (IsErrOf result IoFault.Write) }
+        ensures read { IsErrOf result IoFault.Read → ⊥ }
+    {
+        self.flush(sink)?;
+        print(alloc, tree, grammar, text, sink)?;
+        self.add(sink, b"\n".as_slice())
     }
 
     /// Says the line and writes all.

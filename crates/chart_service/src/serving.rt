@@ -4,10 +4,12 @@ ghost use Rattle.std.specs.Prelude.{IfOk, IfErr, IsErrOf, OnOk, string_bytes};
 ghost use Rattle.spec_text.specs.declared.limits.TheConstants.{MAX_SYMBOLS};
 ghost use Rattle.spec_script.specs.Script.{ended, broken};
 ghost use Rattle.spec_session.specs.Sessions.{last_line};
+ghost use Rattle.spec_session.specs.Steps.{State};
 ghost use Rattle.cyk_io.specs.Causes.{HasCause};
 ghost use Rattle.cyk_io.specs.Streams.{coming};
 ghost use Rattle.chart_service.specs.Serving.{AreAllowed, WritesSession, IsStatus};
 ghost use Rattle.chart_service.specs.Languages.{CanOpen};
+ghost use Rattle.chart_service.specs.Sessions.{IsIn};
 ghost use Rattle.chart_service.specs.Progress.{Running, HasEnded, EndsEarly, Ends, HasAccepted};
 ghost use Rattle.chart_service.specs.Progress.{IsFresh, GoesOnOrHasEnded};
 ghost use Rattle.chart_service.specs.declared.ending.EarlyEnd.TheVariants.{Stopped};
@@ -110,6 +112,7 @@ fn turn<S: Source, K: Sink, C: Cell>(
     requires can { CanOpen C.ROOM session.old.language }
     requires few { session.old.texts ≤ ahead.old.offset }
     requires early { ahead.old.offset < 2 ^ 50 }
+    requires is_in { (state : State) × IsIn session.old state }
     ensures ok { (input before : List ℕ)
         → Running input before (coming ahead.old (S.left source.old)) ahead.old.offset
         (K.written sink.old) replies.old session.old
@@ -127,13 +130,15 @@ fn turn<S: Source, K: Sink, C: Cell>(
         ((ahead.old.offset < ahead.new.offset) × (ahead.new.offset < 2 ^ 50)) }
     ensures few { OnOk result (session.new.texts ≤ ahead.new.offset) }
     ensures can { CanOpen C.ROOM session.new.language }
+    ensures is_in { OnOk result ((state : State) × IsIn session.new state) }
 {
     replies.flush_unless(sink, session.is_open() && ahead.has_line())?;
     let command = read_command(alloc, source, ahead, line, session.is_open())?;
     if is_end(&command) {
         return Ok(false);
     }
-    replies.say(sink, session.reply(alloc, command))?;
+    let reply = session.reply(alloc, command);
+    session.say(alloc, replies, sink, reply)?;
     Ok(true)
 }
 
@@ -150,6 +155,7 @@ fn reply_all<S: Source, K: Sink, C: Cell>(
     requires can { CanOpen C.ROOM session.old.language }
     requires few { session.old.texts ≤ ahead.old.offset }
     requires early { ahead.old.offset < 2 ^ 50 }
+    requires is_in { (state : State) × IsIn session.old state }
     ensures ok { (input before : List ℕ)
         → Running input before (coming ahead.old (S.left source.old)) ahead.old.offset
         (K.written sink.old) replies.old session.old

@@ -1,6 +1,8 @@
 //! A session behind its grammar: the texts that were opened, and the replies to commands.
 ghost use Rattle.std.specs.Prelude.{◌≡◌, ℕ, ◌+◌, ◌<◌, ◌≤◌, ◌^◌, List, length, IfOk, IsErr, IsTrue};
-ghost use Rattle.std.specs.Prelude.{IsFalse, IsAscii, string_bytes};
+ghost use Rattle.std.specs.Prelude.{IsFalse, IsAscii, string_bytes, IsErrOf, OnOk, OnErr, ◌++◌};
+ghost use Rattle.cyk_io.specs.Causes.{HasCause};
+ghost use Rattle.cyk_io.specs.Streams.{GrowsByPrefix};
 ghost use Rattle.spec_text.specs.declared.limits.TheConstants.{MAX_TOKENS};
 ghost use Rattle.spec_lexing.specs.Tokens.{AreTokensOf};
 ghost use Rattle.spec_script.specs.Script.{Command as ScriptCommand, opens, ask};
@@ -10,10 +12,16 @@ ghost use Rattle.script_reader.specs.Forms.{query_of};
 ghost use Rattle.chart_service.specs.Languages.{CanOpen};
 ghost use Rattle.chart_service.specs.Sessions.{CanReply, IsCommand, IsIn, IsVersionOf, RepliesTo};
 ghost use Rattle.chart_service.specs.Sessions.{is_open};
+ghost use Rattle.chart_service.specs.Replying.{bytes_of, CanSay};
+ghost use Rattle.chart_service.specs.Replies.{bytes_in, Passes, SaysBy};
 
 use crate::answering::answer_to;
 use crate::language::Language;
+use crate::replies::Replies;
+use crate::reply::Reply;
 use cell_sets::Cell;
+use cyk_io::{IoFault, Sink};
+use first_tree::Tree;
 use script_reader::{Command, Query};
 use std::alloc::{AllocError, Global};
 use text_store::{EditFault, Text};
@@ -133,13 +141,15 @@ impl<C: Cell> Session<C> {
         Ok(line)
     }
 
-    /// The answer to the query, asked of the current text.
-    fn answer(&self, alloc: Global, query: &Query<'_>) -> Result<String, AllocError>
+    /// The reply to the query, asked of the current text.
+    fn answer(&self, alloc: Global, query: &Query<'_>) -> Result<Reply, AllocError>
         requires can { CanOpen C.ROOM self.now.language }
         requires is_open { IsTrue (is_open self.now) }
-        ensures { (state : State) → IsIn self.now state
-            → IfOk result (λ line. IsReply self.now.language state
-            (ask (query_of query.now)) (string_bytes line)) }
+        requires is_in { (state : State) × IsIn self.now state }
+        ensures says { IfOk result (CanSay self.now) }
+        ensures ok { (state : State) → IsIn self.now state
+            → IfOk result (λ reply. IsReply self.now.language state
+            (ask (query_of query.now)) (bytes_of self.now reply)) }
     {
         match &self.current {
             Some(version) => {
@@ -149,27 +159,79 @@ impl<C: Cell> Session<C> {
         }
     }
 
-    /// The line that replies to the command. The session is then in the state that the command
-    /// leaves; where memory runs out it is in the state that it was in.
-    pub(crate) fn reply(
-        &mut self,
-        alloc: Global,
-        command: Command<'_>,
-    ) -> Result<String, AllocError>
+    /// What replies to the command. The session is then in the state that the command leaves; where
+    /// memory runs out it is in the state that it was in.
+    pub(crate) fn reply(&mut self, alloc: Global, command: Command<'_>) -> Result<Reply, AllocError>
         requires can_open { CanOpen C.ROOM self.old.language }
         requires can_reply { CanReply self.old command }
         requires few { self.old.texts < 2 ^ 61 }
+        requires is_in { (state : State) × IsIn self.old state }
+        ensures says { IfOk result (CanSay self.new) }
         ensures ok { (state : State) (meaning : ScriptCommand) → IsIn self.old state
             → IsCommand command.entry meaning
-            → IfOk result (λ line. RepliesTo state meaning (string_bytes line) self.new) }
+            → IfOk result (λ reply. RepliesTo state meaning (bytes_of self.new reply) self.new) }
         ensures err { IsErr result → self.new ≡ self.old }
         ensures language { self.new.language ≡ self.old.language }
         ensures texts { self.new.texts ≤ self.old.texts + 1 }
     {
         match command {
-            Command::Open(text) => self.open_text(alloc, text.as_slice()),
+            Command::Open(text) => {
+                let line = self.open_text(alloc, text.as_slice())?;
+                Ok(Reply::Line(line))
+            }
             Command::Ask(query) => self.answer(alloc, &query),
             Command::End => unreachable!(),
+        }
+    }
+
+    /// Says the printed text of a tree of the current text as a line.
+    fn say_tree<K: Sink>(
+        &self,
+        alloc: Global,
+        replies: &mut Replies,
+        sink: &mut K,
+        tree: &Tree,
+    ) -> Result<(), IoFault>
+        requires says { CanSay self.now (Reply.Tree tree.now) }
+        ensures ok { OnOk result (Passes (K.written sink.old) (K.written sink.new) replies.old
+            (bytes_of self.now (Reply.Tree tree.now)) replies.new) }
+        ensures err { OnErr result (GrowsByPrefix (K.written sink.old) (K.written sink.new)
+            (replies.old ++ bytes_of self.now (Reply.Tree tree.now))) }
+        ensures cause { HasCause (K.faults sink.old) (K.faults sink.new)
+            (IsErrOf result IoFault.Write) }
+        ensures read { IsErrOf result IoFault.Read → ⊥ }
+    {
+        match &self.current {
+            Some(version) => {
+                let grammar = self.language.grammar();
+                replies.say_tree(alloc, sink, tree, grammar, &version.text)
+            }
+            None => unreachable!(),
+        }
+    }
+
+    /// Says the reply. Where there was no memory for it, what is gathered is written, and the
+    /// answer is that.
+    pub(crate) fn say<K: Sink>(
+        &self,
+        alloc: Global,
+        replies: &mut Replies,
+        sink: &mut K,
+        reply: Result<Reply, AllocError>,
+    ) -> Result<(), IoFault>
+        requires says { IfOk reply (CanSay self.now) }
+        ensures ok { OnOk result (SaysBy (bytes_of self.now) reply (K.written sink.old)
+            (K.written sink.new) replies.old replies.new) }
+        ensures err { OnErr result (GrowsByPrefix (K.written sink.old) (K.written sink.new)
+            (replies.old ++ bytes_in (bytes_of self.now) reply)) }
+        ensures cause { HasCause (K.faults sink.old) (K.faults sink.new)
+            (IsErrOf result IoFault.Write) }
+        ensures read { IsErrOf result IoFault.Read → ⊥ }
+    {
+        match reply {
+            Ok(Reply::Line(line)) => replies.say(sink, Ok(line)),
+            Ok(Reply::Tree(tree)) => self.say_tree(alloc, replies, sink, &tree),
+            Err(error) => replies.say(sink, Err(error)),
         }
     }
 }

@@ -32,6 +32,33 @@ refused span 2
 end
 ";
 
+const TREES: &[u8] = b"script 1
+grammar 33
+Cat. S ::= S S ; One. S ::= \"a\" ;
+open 5
+a a a
+has
+tree
+tree S 1 2
+tree S 0 0
+tree T 0 4
+tree S 0 4
+has
+end
+";
+
+const TREES_SESSION: &[u8] = b"grammar rules 2 categories 1 kinds 1
+version 0 tokens 3
+yes
+(Cat (One) (Cat (One) (One)))
+(One)
+none
+refused category
+refused span 3
+yes
+end
+";
+
 /// Where each part of the script ends, and where the replies up to there end.
 const ENDS: [(usize, usize); 7] = [
     (54, 37),
@@ -138,6 +165,14 @@ end
 ";
     assert_eq!(rt; status, 0);
     assert_eq!(rt; sink.as_bytes(), session.as_slice());
+    Ok(())
+}
+
+#[test]
+fn trees_are_told_among_other_replies(rt: HostRuntime) -> Result<(), Fail> {
+    let (status, sink) = serve_whole(rt.alloc(), TREES)?;
+    assert_eq!(rt; status, 0);
+    assert_eq!(rt; sink.as_bytes(), TREES_SESSION);
     Ok(())
 }
 
@@ -258,9 +293,13 @@ impl Sink for FullSink {
     }
 }
 
-/// The status, and the sink behind it, of `SCRIPT` over a sink with room for so many writes.
-fn serve_into_room(alloc: Global, writes: u64) -> Result<(u8, CleanSink), AllocError> {
-    let mut source = CleanSource::new(Vec::from_slice(alloc, SCRIPT)?);
+/// The status, and the sink behind it, of the script over a sink with room for so many writes.
+fn serve_into_room(
+    alloc: Global,
+    script: &[u8],
+    writes: u64,
+) -> Result<(u8, CleanSink), AllocError> {
+    let mut source = CleanSource::new(Vec::from_slice(alloc, script)?);
     let mut sink = FullSink {
         bytes: CleanSink::new(alloc),
         writes,
@@ -273,7 +312,7 @@ fn serve_into_room(alloc: Global, writes: u64) -> Result<(u8, CleanSink), AllocE
 fn replies_to_what_one_read_holds_go_out_together(rt: HostRuntime) -> Result<(), Fail> {
     // The reply to the grammar is written before the text is read, and all others at the end.
     for (writes, end) in [(0, 0), (1, 37)] {
-        let (status, sink) = serve_into_room(rt.alloc(), writes)?;
+        let (status, sink) = serve_into_room(rt.alloc(), SCRIPT, writes)?;
         assert_eq!(rt; status, 6, "room for {writes} writes");
         assert_eq!(rt;
             sink.as_bytes(),
@@ -281,9 +320,31 @@ fn replies_to_what_one_read_holds_go_out_together(rt: HostRuntime) -> Result<(),
             "room for {writes} writes"
         );
     }
-    let (status, sink) = serve_into_room(rt.alloc(), 2)?;
+    let (status, sink) = serve_into_room(rt.alloc(), SCRIPT, 2)?;
     assert_eq!(rt; status, 0);
     assert_eq!(rt; sink.as_bytes(), SESSION);
+    Ok(())
+}
+
+#[test]
+fn want_of_memory_within_a_tree_leaves_a_prefix(rt: HostRuntime) -> Result<(), Fail> {
+    // The session takes fewer than forty writes.
+    for writes in 0..40 {
+        let (status, sink) = serve_into_room(rt.alloc(), TREES, writes)?;
+        let written = sink.as_bytes();
+        assert!(rt;
+            TREES_SESSION.starts_with(written),
+            "room for {writes} writes"
+        );
+        assert_eq!(rt;
+            status == 0,
+            written.len() == TREES_SESSION.len(),
+            "room for {writes} writes"
+        );
+    }
+    let (status, sink) = serve_into_room(rt.alloc(), TREES, 40)?;
+    assert_eq!(rt; status, 0);
+    assert_eq!(rt; sink.as_bytes(), TREES_SESSION);
     Ok(())
 }
 

@@ -3,3 +3,8 @@ pub mod ChoosingLemmas
 pub mod NodeLemmas
 pub mod RestLemmas
 pub mod SearchLemmas
+pub mod WantedLemmas
+pub mod WritingLemmas
+pub mod PrintedLemmas
+pub mod OpenNodeLemmas
+pub mod PrintingLemmas

@@ -1,4 +1,5 @@
 //! First trees of small grammars, with their nodes by hand.
+mod prints;
 mod samples;
 
 ghost use Rattle.std.specs.Prelude.{◌↔◌, IsTrue};
@@ -8,7 +9,7 @@ use crate::{First, first};
 use binary_form::{Binary, binary};
 use cell_sets::ListCell;
 use numbered_grammar::{Grammar, Symbol};
-use samples::{LISTS, PAIRS, SUMS, Sample, TRIPLES, TWINS, grammar_of};
+use samples::{LISTS, NULLABLES, PAIRS, SIBLINGS, SUMS, Sample, TRIPLES, TWINS, grammar_of};
 use std::alloc::Global;
 use std::test::*;
 use valiant::Chart;
@@ -107,6 +108,46 @@ const CASES: &[Case] = &[
             (Some(3), 0, 0, 1, 1),
             (None, 0, 0, 1, 0),
             (Some(2), 0, 1, 1, 0),
+        ],
+    ),
+    (
+        NULLABLES,
+        &[FIRST],
+        (S, 1, 1),
+        &[(Some(1), 0, 1, 1, 1), (Some(3), 0, 1, 1, 0)],
+    ),
+    (
+        NULLABLES,
+        &[FIRST],
+        (S, 0, 1),
+        &[
+            (Some(0), 0, 0, 1, 2),
+            (None, 0, 0, 1, 0),
+            (Some(1), 0, 1, 1, 1),
+            (Some(3), 0, 1, 1, 0),
+        ],
+    ),
+    (
+        SIBLINGS,
+        &[FIRST],
+        (S, 0, 1),
+        &[
+            (Some(0), 0, 0, 1, 2),
+            (Some(1), 0, 0, 0, 0),
+            (Some(3), 0, 0, 1, 1),
+            (None, 0, 0, 1, 0),
+        ],
+    ),
+    (
+        SIBLINGS,
+        &[FIRST, FIRST],
+        (S, 0, 2),
+        &[
+            (Some(0), 0, 0, 2, 2),
+            (Some(2), 0, 0, 1, 1),
+            (None, 0, 0, 1, 0),
+            (Some(3), 0, 1, 2, 1),
+            (None, 0, 1, 2, 0),
         ],
     ),
     (LISTS, &[], (A, 0, 0), &[(Some(1), 0, 0, 0, 0)]),

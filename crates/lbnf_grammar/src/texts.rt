@@ -56,15 +56,16 @@ pub(crate) fn plain_text(name: &Name) -> CategoryText<'_>
     }
 }
 
-/// The category's name in its brackets.
+/// The category's name in its brackets, in memory that is taken once.
 fn bracketed(alloc: Global, cat: &CatName) -> Result<Name, AllocError>
     ensures { IfOk result (λ text. text ≡ category_text cat.now) }
 {
     let depth = cat.depth as usize;
-    let mut text = vec![in alloc; b'['; depth]?;
-    let closing = vec![in alloc; b']'; depth]?;
-    text.extend_from_slice(cat.name.as_slice())?;
-    text.extend_from_slice(closing.as_slice())?;
+    let name = cat.name.as_slice();
+    let mut text = Vec::with_capacity(alloc, depth + name.len() + depth)?;
+    text.resize(depth, b'[')?;
+    text.extend_from_slice(name)?;
+    text.resize(text.len() + depth, b']')?;
     Ok(Name::of(text))
 }
 

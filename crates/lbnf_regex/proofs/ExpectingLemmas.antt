@@ -86,7 +86,7 @@ adds_dead x n count E M old same dead =
     (λ k. dead (inr (subst (λ (z : ℕ). HasWithin n z M) (sym same) k))))
 
 -- two additions behind each other are one
-adds_both : (S T U : NextByte → Type 0) (old middle new : List NextByte) →
+pub adds_both : (S T U : NextByte → Type 0) (old middle new : List NextByte) →
     ((next : NextByte) → U next ↔ (S next ⊎ T next)) →
     ((next : NextByte) → Contains middle next ↔ (Contains old next ⊎ S next)) →
     ((next : NextByte) → Contains new next ↔ (Contains middle next ⊎ T next)) →

@@ -4,6 +4,8 @@ pub mod ClosingLemmas
 pub mod PositionLemmas
 pub mod StepLemmas
 pub mod ExpectingLemmas
+pub mod LiteralLemmas
+pub mod OwnerLemmas
 pub mod SetLemmas
 pub mod PigeonLemmas
 pub mod StateLemmas

@@ -1,15 +1,18 @@
 -- The equations of what a pattern stands for, one for each form.
 use Rattle.std.proofs.Common.{◌≡◌, ℕ, List, map, sym, ap, ◌∙◌}
 use Rattle.spec_automata.specs.ByteExpressions.{ByteExpression, byte_in, star, plus, until}
-use Rattle.spec_automata.specs.Encoding.{one_of_these}
-use Rattle.spec_automata.specs.Encoding.{these_in_turn}
+use Rattle.spec_automata.specs.Encoding.{literal, one_of_these, these_in_turn}
 use Rattle.lbnf_regex.specs.Patterns.{pattern_form, bytes_of_pattern}
 use Rattle.lbnf_regex.specs.declared.pattern.Pattern.{Pattern, Pattern-F, fold-roll-Pattern}
-use Rattle.lbnf_regex.specs.declared.pattern.Pattern.TheVariants.{Bytes, Seq, Alt, Star, Plus, Until, rolls-Bytes, rolls-Seq, rolls-Alt, rolls-Star, rolls-Plus, rolls-Until}
+use Rattle.lbnf_regex.specs.declared.pattern.Pattern.TheVariants.{Bytes, Literal, Seq, Alt, Star, Plus, Until, rolls-Bytes, rolls-Literal, rolls-Seq, rolls-Alt, rolls-Star, rolls-Plus, rolls-Until}
 
 pub pattern-Bytes : (set : List ℕ) → bytes_of_pattern (Bytes set) ≡ byte_in set
 pattern-Bytes set =
     ap bytes_of_pattern (sym (rolls-Bytes set)) ∙ fold-roll-Pattern ByteExpression pattern_form (Pattern-F.Bytes set)
+
+pub pattern-Literal : (bytes : List ℕ) → bytes_of_pattern (Literal bytes) ≡ literal bytes
+pattern-Literal bytes =
+    ap bytes_of_pattern (sym (rolls-Literal bytes)) ∙ fold-roll-Pattern ByteExpression pattern_form (Pattern-F.Literal bytes)
 
 pub pattern-Seq : (parts : List Pattern) → bytes_of_pattern (Seq parts) ≡ these_in_turn (map bytes_of_pattern parts)
 pattern-Seq parts =

@@ -3,5 +3,6 @@ pub mod Lexicons
 pub mod Patterns
 pub mod Steps
 pub mod Sets
+pub mod Owners
 pub mod States
 pub mod ByteSets

@@ -3,7 +3,7 @@ use Rattle.std.specs.Prelude.{ℕ, List, map}
 use Rattle.spec_automata.specs.Positions.{position_count}
 use Rattle.spec_automata.specs.ByteExpressions.{ByteExpression, empty, byte_in, star, plus}
 use Rattle.spec_automata.specs.ByteExpressions.{until}
-use Rattle.spec_automata.specs.Encoding.{one_of_these, these_in_turn}
+use Rattle.spec_automata.specs.Encoding.{literal, one_of_these, these_in_turn}
 use Rattle.lbnf_regex.specs.declared.pattern.Pattern.{Pattern}
 use Rattle.lbnf_regex.specs.declared.pattern.Pattern.TheOpen.{Pattern-F}
 use Rattle.lbnf_regex.specs.declared.pattern.Pattern.TheFolds.{fold-Pattern}
@@ -12,6 +12,7 @@ use Rattle.lbnf_regex.specs.declared.pattern.Pattern.TheFolds.{fold-Pattern}
 abbrev pub pattern_form : Pattern-F ByteExpression → ByteExpression
 pattern_form Pattern-F.Empty = empty
 pattern_form (Pattern-F.Bytes set) = byte_in set
+pattern_form (Pattern-F.Literal bytes) = literal bytes
 pattern_form (Pattern-F.Seq parts) = these_in_turn parts
 pattern_form (Pattern-F.Alt parts) = one_of_these parts
 pattern_form (Pattern-F.Star part) = star part

@@ -1,5 +1,5 @@
 -- Serves the proofs alone. Sets of positions as lists in rising order.
-use Rattle.std.specs.Prelude.{◌≡◌, ℕ, ◌<◌, ◌⊎◌, ◌↔◌, List, [], Contains, slice_index_or}
+use Rattle.std.specs.Prelude.{◌≡◌, ℕ, ◌<◌, ◌↔◌, List, [], Contains, slice_index_or}
 use Rattle.cell_sets.specs.Cells.{Adds, IsRising}
 use Rattle.spec_automata.specs.ByteExpressions.{ByteExpression}
 use Rattle.spec_automata.specs.Positions.{IsPositionOf}

@@ -1,7 +1,7 @@
 -- Serves the proofs alone. Steps from the positions of a text to those of the text with one byte
 -- more, through the expression and not through lists of what follows each position.
 use Rattle.std.specs.Prelude.{◌≡◌, ℕ, ◌+◌, ◌<◌, ◌≤◌, ◌^◌, ◌⊎◌, ◌↔◌, List, [], ◌∷◌, ◌++◌, length, take, Bool}
-use Rattle.std.specs.Prelude.{true, false, ◌&&◌, ◌||◌, nat_eq, Contains}
+use Rattle.std.specs.Prelude.{true, false, ◌&&◌, ◌||◌, nat_eq, slice_index_or, Contains}
 use Rattle.spec_automata.specs.ByteExpressions.{ByteExpression, empty, nothing, byte_in, in_turn}
 use Rattle.spec_automata.specs.ByteExpressions.{either, star, plus, until}
 use Rattle.spec_automata.specs.Positions.{IsBorder, position_count}
@@ -98,6 +98,13 @@ HasFewPositions (InComment first closing size) = (size < length closing) × (fir
 abbrev pub AddsIf : Type 0 → NextByte → List NextByte → List NextByte → Type 0
 AddsIf Holds given old new =
     (next : NextByte) → Contains new next ↔ (Contains old next ⊎ (Holds × (next ≡ given)))
+
+-- the new list has what the old one has, and the byte behind each of these that is marked
+abbrev pub AddsBehind : ℕ → List ℕ → (ℕ → Type 0) → List NextByte → List NextByte → Type 0
+AddsBehind first bytes Marked old new =
+    (next : NextByte) → Contains new next ↔ (Contains old next
+    ⊎ ((place : ℕ) × Marked (first + place) × (place + 1 < length bytes)
+    × (next ≡ InSet (first + place + 1) (slice_index_or bytes (place + 1) 0 ∷ []))))
 
 -- the new list has what the old one has, and a way inside a comment for each mark there
 abbrev pub AddsInside : ℕ → List ℕ → (ℕ → Type 0) → List NextByte → List NextByte → Type 0

@@ -14,6 +14,7 @@ use crate::expecting::{size_if_fits, sizes};
 use crate::kinds::patterns_of;
 use crate::lex_fault::LexFault;
 use crate::machine::Automaton;
+use crate::owner::owners;
 use crate::pattern::Pattern;
 use crate::states::{Table, make_table};
 use spec_lexing::KindDef;
@@ -51,8 +52,9 @@ pub(crate) fn automaton_of(
         return Err(LexFault::Memory);
     };
     let parts = parts_of(&all);
+    let owners = owners(alloc, parts)?;
+    let Table { states, rows } = make_table(alloc, parts, owners.as_slice(), most)?;
     let sizes = sizes(alloc, parts)?;
-    let Table { states, rows } = make_table(alloc, parts, sizes.as_slice(), most)?;
     let places = places(alloc, parts, sizes.as_slice(), &states)?;
     Ok(Automaton::of(rows, places, comments))
 }

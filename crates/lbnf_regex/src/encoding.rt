@@ -21,8 +21,8 @@ use spec_text::Name;
 use sqlite_items::{Boxed, Items};
 use std::alloc::{AllocError, Global};
 
-/// The bytes in turn.
-pub(crate) fn literal(alloc: Global, bytes: &[u8], removed: &[bool]) -> Result<Pattern, AllocError>
+/// The sets of the bytes in turn.
+fn sets_in_turn(alloc: Global, bytes: &[u8], removed: &[bool]) -> Result<Pattern, AllocError>
     ensures { IfOk result (λ pattern. bytes_of_pattern pattern
         ≡ without (flag_at removed.now) (literal_bytes bytes.now)) }
 {
@@ -32,6 +32,18 @@ pub(crate) fn literal(alloc: Global, bytes: &[u8], removed: &[bool]) -> Result<P
         parts.push(Pattern::Bytes(set))?;
     }
     Ok(Pattern::Seq(parts))
+}
+
+/// The bytes in turn.
+pub(crate) fn literal(alloc: Global, bytes: &[u8], removed: &[bool]) -> Result<Pattern, AllocError>
+    ensures { IfOk result (λ pattern. bytes_of_pattern pattern
+        ≡ without (flag_at removed.now) (literal_bytes bytes.now)) }
+{
+    if !removed.is_empty() {
+        return sets_in_turn(alloc, bytes, removed);
+    }
+    let bytes = Items::from_slice(alloc, bytes)?;
+    Ok(Pattern::Literal(bytes))
 }
 
 fn between(alloc: Global, least: u8, greatest: u8, removed: &[bool]) -> Result<Pattern, AllocError>

@@ -10,6 +10,9 @@ ghost use Rattle.lbnf_regex.specs.Steps.{EntersAgain, EntersBehind, AddsExpected
 ghost use Rattle.lbnf_regex.specs.Steps.{AddsInside};
 ghost use Rattle.lbnf_regex.specs.declared.next_byte.NextByte.TheVariants.{InSet, InComment};
 
+use crate::literal::{
+    ends_literal, expect_literal, is_nullable_literal, literal_size, literal_size_if_fits,
+};
 use crate::next_byte::NextByte;
 use crate::pattern::Pattern;
 use sqlite_items::Items;
@@ -22,6 +25,7 @@ pub(crate) fn size_if_fits(pattern: &Pattern) -> Option<u32>
     match pattern {
         Pattern::Empty => Some(0),
         Pattern::Bytes(_) => Some(1),
+        Pattern::Literal(bytes) => literal_size_if_fits(bytes.as_slice()),
         Pattern::Seq(parts) => {
             let mut total = 0u32;
             for part in parts.as_slice() {
@@ -46,13 +50,14 @@ pub(crate) fn size_if_fits(pattern: &Pattern) -> Option<u32>
 }
 
 /// How many positions the pattern has.
-fn size(pattern: &Pattern) -> u32
+pub(crate) fn size(pattern: &Pattern) -> u32
     requires { position_count (bytes_of_pattern pattern.now) < 2 ^ 32 }
     ensures { result ≡ position_count (bytes_of_pattern pattern.now) }
 {
     match pattern {
         Pattern::Empty => 0,
         Pattern::Bytes(_) => 1,
+        Pattern::Literal(bytes) => literal_size(bytes.as_slice()),
         Pattern::Seq(parts) => {
             let mut total = 0;
             for part in parts.as_slice() {
@@ -92,6 +97,7 @@ pub(crate) fn is_nullable(pattern: &Pattern) -> bool
     match pattern {
         Pattern::Empty => true,
         Pattern::Bytes(_) => false,
+        Pattern::Literal(bytes) => is_nullable_literal(bytes.as_slice()),
         Pattern::Seq(parts) => {
             for part in parts.as_slice() {
                 if !is_nullable(part) {
@@ -114,7 +120,7 @@ pub(crate) fn is_nullable(pattern: &Pattern) -> bool
     }
 }
 
-fn has(marks: &[u32], position: u32) -> bool
+pub(crate) fn has(marks: &[u32], position: u32) -> bool
     ensures { IsTrue result ↔ Contains marks.now position }
 {
     marks.contains(&position)
@@ -156,6 +162,7 @@ fn can_end(pattern: &Pattern, first: u32, marks: &[u32]) -> bool
     match pattern {
         Pattern::Empty => false,
         Pattern::Bytes(_) => has(marks, first),
+        Pattern::Literal(bytes) => ends_literal(bytes.as_slice(), first, marks),
         Pattern::Seq(parts) => {
             let mut start = first;
             let mut ends = false;
@@ -333,7 +340,7 @@ fn is_alive(first: u32, count: u32, entered: bool, marks: &[u32]) -> bool
 
 /// Adds each way in which one of the parts expects the next byte.
 #[cycle(expect)]
-fn expect_one_of(
+pub(crate) fn expect_one_of(
     alloc: Global,
     parts: &[Pattern],
     first: u32,
@@ -358,7 +365,7 @@ fn expect_one_of(
 
 /// Adds each way in which the pattern expects the next byte.
 #[cycle(expect)]
-fn expect(
+pub(crate) fn expect(
     alloc: Global,
     pattern: &Pattern,
     first: u32,
@@ -373,6 +380,9 @@ fn expect(
     match pattern {
         Pattern::Empty => Ok(()),
         Pattern::Bytes(set) => expect_set(alloc, set.as_slice(), first, entered, into),
+        Pattern::Literal(bytes) => {
+            expect_literal(alloc, bytes.as_slice(), first, entered, marks, into)
+        }
         Pattern::Seq(parts) => {
             expect_in_turn(alloc, parts.as_slice(), first, entered, marks, into)
         }
@@ -391,31 +401,4 @@ fn expect(
             expect_closing(alloc, closing.as_slice(), first, entered, marks, into)
         }
     }
-}
-
-/// Adds each way in which one of the patterns, of these sizes, expects the next byte. Their
-/// positions are numbered in turn.
-pub(crate) fn expect_any(
-    alloc: Global,
-    patterns: &[Pattern],
-    sizes: &[u32],
-    entered: bool,
-    marks: &[u32],
-    into: &mut Items<NextByte>,
-) -> Result<(), AllocError>
-    requires room { position_count (one_of_these (map bytes_of_pattern patterns.now)) < 2 ^ 32 }
-    requires sizes { sizes.now ≡ sizes_of patterns.now }
-    ensures { OnOk result (AddsExpected (one_of_these (map bytes_of_pattern patterns.now)) 0
-        (IsTrue entered) (Contains marks.now) into.old into.new) }
-{
-    let mut start = 0;
-    for i in 0..patterns.len() {
-        let pattern = &patterns[i];
-        let count = sizes[i];
-        if is_alive(start, count, entered, marks) {
-            expect(alloc, pattern, start, entered, marks, into)?;
-        }
-        start += count;
-    }
-    Ok(())
 }

@@ -9,6 +9,8 @@ pub(crate) enum Pattern {
     Empty,
     /// One of these bytes.
     Bytes(Items<u8>),
+    /// These bytes in turn.
+    Literal(Items<u8>),
     /// The parts in turn.
     Seq(Items<Pattern>),
     /// One of the parts.

@@ -3,13 +3,15 @@ ghost use Rattle.std.specs.Prelude.{◌≡◌, ◌≢◌, ◌<◌, ◌≤◌, �
 ghost use Rattle.spec_automata.specs.Encoding.{one_of_these};
 ghost use Rattle.spec_automata.specs.Positions.{position_count};
 ghost use Rattle.spec_automata.specs.States.{HasManySets};
-ghost use Rattle.lbnf_regex.specs.Patterns.{bytes_of_pattern, sizes_of};
+ghost use Rattle.lbnf_regex.specs.Owners.{owners_from};
+ghost use Rattle.lbnf_regex.specs.Patterns.{bytes_of_pattern};
 ghost use Rattle.lbnf_regex.specs.States.{AddsStates, AreStates, GetsEntry, GetsNumber, HasNoRoom};
 ghost use Rattle.lbnf_regex.specs.States.{IsStateRow, IsTable, state_at};
 ghost use Rattle.lbnf_regex.specs.declared.lex_fault.LexFault.TheVariants.{TooManyStates};
 
 use crate::entry::Entry;
 use crate::lex_fault::LexFault;
+use crate::owner::Owner;
 use crate::pattern::Pattern;
 use crate::state_list::States;
 use crate::targets::targets_from;
@@ -61,17 +63,17 @@ fn entry(
     Ok(Some(number as u16))
 }
 
-/// Where the bytes lead to from the state of this number, for kinds of these sizes.
+/// Where the bytes lead to from the state of this number, for kinds of these owners.
 fn row(
     alloc: Global,
     kinds: &[Pattern],
-    sizes: &[u32],
+    owners: &[Owner],
     states: &mut States,
     i: usize,
     most: usize,
 ) -> Result<Items<Entry>, LexFault>
     requires size { position_count (one_of_these (map bytes_of_pattern kinds.now)) < 2 ^ 32 }
-    requires sizes { sizes.now ≡ sizes_of kinds.now }
+    requires owners { owners.now ≡ owners_from (map bytes_of_pattern kinds.now) 0 0 }
     requires states { AreStates (one_of_these (map bytes_of_pattern kinds.now)) states.old }
     requires few { length states.old ≤ most }
     requires room { most < 2 ^ 16 }
@@ -85,7 +87,7 @@ fn row(
     ensures full { result ≡ Err TooManyStates
         → HasManySets (one_of_these (map bytes_of_pattern kinds.now)) most }
 {
-    let targets = targets_from(alloc, kinds, sizes, states.at(i))?;
+    let targets = targets_from(alloc, kinds, owners, states.at(i))?;
     let mut row = Items::new(alloc);
     for byte in 0..256u16 {
         let set = targets.of_byte(byte as u8);
@@ -103,15 +105,15 @@ pub(crate) struct Table {
 }
 
 /// The states that texts lead to, at most so many with the start, and their rows, for kinds of these
-/// sizes.
+/// owners.
 pub(crate) fn make_table(
     alloc: Global,
     kinds: &[Pattern],
-    sizes: &[u32],
+    owners: &[Owner],
     most: usize,
 ) -> Result<Table, LexFault>
     requires size { position_count (one_of_these (map bytes_of_pattern kinds.now)) < 2 ^ 32 }
-    requires sizes { sizes.now ≡ sizes_of kinds.now }
+    requires owners { owners.now ≡ owners_from (map bytes_of_pattern kinds.now) 0 0 }
     requires some { 0 < most }
     requires room { most < 2 ^ 16 }
     ensures table { IfOk result (λ made.
@@ -123,7 +125,7 @@ pub(crate) fn make_table(
     states.push(Vec::new(alloc))?;
     let mut rows = Items::new(alloc);
     'states: while rows.len() < states.len() {
-        let row = row(alloc, kinds, sizes, &mut states, rows.len(), most)?;
+        let row = row(alloc, kinds, owners, &mut states, rows.len(), most)?;
         rows.push(row)?;
     }
     Ok(Table { states, rows })

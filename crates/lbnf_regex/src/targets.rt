@@ -4,15 +4,17 @@ ghost use Rattle.std.specs.Prelude.{slice_index_or, Contains, IfOk, OnOk};
 ghost use Rattle.cell_sets.specs.Cells.{IsRising};
 ghost use Rattle.spec_automata.specs.Encoding.{one_of_these};
 ghost use Rattle.spec_automata.specs.Positions.{position_count};
-ghost use Rattle.lbnf_regex.specs.Patterns.{bytes_of_pattern, sizes_of};
+ghost use Rattle.lbnf_regex.specs.Owners.{owners_from};
+ghost use Rattle.lbnf_regex.specs.Patterns.{bytes_of_pattern};
 ghost use Rattle.lbnf_regex.specs.Sets.{AddsTargets, AreExpected, AreTargets, HaveFewPositions};
 ghost use Rattle.lbnf_regex.specs.Sets.{LeadsFrom, StepsFrom};
 ghost use Rattle.lbnf_regex.specs.Steps.{HasFewPositions, LeadsTo};
 ghost use Rattle.lbnf_regex.specs.declared.next_byte.NextByte.TheVariants.{InComment};
 
 use crate::comment::border;
-use crate::expecting::expect_any;
+use crate::marked::expect_any;
 use crate::next_byte::NextByte;
+use crate::owner::Owner;
 use crate::pattern::Pattern;
 use crate::position_set::PositionSet;
 use sqlite_items::Items;
@@ -116,37 +118,37 @@ fn targets_by(alloc: Global, expected: &[NextByte]) -> Result<Targets, AllocErro
     Ok(targets)
 }
 
-/// Each way in which one of the kinds, of these sizes, expects a byte in the state; the start is
+/// Each way in which one of the kinds, of these owners, expects a byte in the state; the start is
 /// the empty set.
 fn expected(
     alloc: Global,
     kinds: &[Pattern],
-    sizes: &[u32],
+    owners: &[Owner],
     state: &[u32],
 ) -> Result<Items<NextByte>, AllocError>
     requires room { position_count (one_of_these (map bytes_of_pattern kinds.now)) < 2 ^ 32 }
-    requires sizes { sizes.now ≡ sizes_of kinds.now }
+    requires owners { owners.now ≡ owners_from (map bytes_of_pattern kinds.now) 0 0 }
     ensures ok { IfOk result
         (AreExpected (one_of_these (map bytes_of_pattern kinds.now)) state.now) }
     ensures small { IfOk result HaveFewPositions }
 {
     let mut expected = Items::new(alloc);
-    expect_any(alloc, kinds, sizes, state.is_empty(), state, &mut expected)?;
+    expect_any(alloc, kinds, owners, state.is_empty(), state, &mut expected)?;
     Ok(expected)
 }
 
-/// What each byte leads to from the state, for kinds of these sizes.
+/// What each byte leads to from the state, for kinds of these owners.
 pub(crate) fn targets_from(
     alloc: Global,
     kinds: &[Pattern],
-    sizes: &[u32],
+    owners: &[Owner],
     state: &[u32],
 ) -> Result<Targets, AllocError>
     requires room { position_count (one_of_these (map bytes_of_pattern kinds.now)) < 2 ^ 32 }
-    requires sizes { sizes.now ≡ sizes_of kinds.now }
+    requires owners { owners.now ≡ owners_from (map bytes_of_pattern kinds.now) 0 0 }
     ensures { IfOk result (AreTargets
         (StepsFrom (one_of_these (map bytes_of_pattern kinds.now)) state.now)) }
 {
-    let expected = expected(alloc, kinds, sizes, state)?;
+    let expected = expected(alloc, kinds, owners, state)?;
     targets_by(alloc, expected.as_slice())
 }

@@ -4,3 +4,5 @@ mod expressions;
 mod faults;
 mod files;
 mod forms;
+mod limits;
+mod tokens;

@@ -50,7 +50,7 @@ numbers_found cells symbols n place count full is same_count there = record {
 }
 
 -- what has a number is not empty
-has_some : (xs : List ℕ) (s : ℕ) → Contains xs s → xs ≡ [] → ⊥
+pub has_some : (xs : List ℕ) (s : ℕ) → Contains xs s → xs ≡ [] → ⊥
 has_some xs s has none = let there : Contains [] s = rw none at has in omega (arith, there.1)
 
 -- a list that is not empty has a number

@@ -5,3 +5,5 @@ pub mod SameRowLemmas
 pub mod RoomLemmas
 pub mod LoadingLemmas
 pub mod MatLemmas
+pub mod ImageLemmas
+pub mod ProductLemmas

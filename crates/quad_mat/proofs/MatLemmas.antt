@@ -20,7 +20,7 @@ use Rattle.quad_mat.proofs.EntryLemmas.{has_found}
 use Rattle.quad_mat.proofs.RoomLemmas.{first_none}
 
 -- nothing is in the empty list
-nothing : (s : ℕ) → Contains [] s → ⊥
+pub nothing : (s : ℕ) → Contains [] s → ⊥
 nothing s has = omega (arith, has.1)
 
 -- nothing taken away

@@ -2,4 +2,5 @@ pub mod Matrices
 pub mod Rows
 pub mod Rooms
 pub mod Loading
+pub mod Products
 pub mod Views

@@ -1,5 +1,7 @@
 -- What a caller sees of matrices: grids of cells, and what the calls make of their entries.
 use Rattle.std.specs.Prelude.{◌≡◌, ℕ, ◌+◌, ◌<◌, ◌↔◌, List, Contains}
+use Rattle.spec_grammar.specs.Grammars.{Grammar}
+use Rattle.binary_form.specs.BinaryForm.{IsProductNumber}
 use Rattle.cell_sets.specs.Cells.{IsUnion, HaveSame}
 use Rattle.cell_sets.specs.Grids.{Grid, entry}
 
@@ -39,3 +41,17 @@ pub record IsCut (whole : Grid) (row column : ℕ) (a11 a12 a21 a22 : Grid) : Ty
   pub part12 : IsPart a12 whole 0 column
   pub part21 : IsPart a21 whole row 0
   pub part22 : IsPart a22 whole row column
+
+-- the symbol is in the product at row i and column j: for some k, the entry in row i and column k
+-- of the first matrix and the entry in row k and column j of the second have it in their product
+abbrev pub IsInProduct : Grammar → Grid → Grid → ℕ → ℕ → ℕ → Type 0
+IsInProduct g a b i j s =
+    (k : ℕ) × (k < a.columns) × IsProductNumber g (entry a i k) (entry b k j) s
+
+-- the third matrix is the product of two: each entry is the union, over all k, of the products of
+-- cells
+pub record IsMatProduct (g : Grammar) (a b product : Grid) : Type 0 where
+  pub size : HasSize a.rows b.columns product
+  pub each :
+      (i j s : ℕ) → i < a.rows → j < b.columns
+      → Contains (entry product i j) s ↔ IsInProduct g a b i j s

@@ -3,6 +3,7 @@ ghost use Rattle.std.specs.Prelude.{◌≡◌, ◌<◌, ◌^◌, [], length, map
 ghost use Rattle.cell_sets.specs.Cells.{HaveSame};
 ghost use Rattle.quad_mat.specs.Rows.{cell_of, AreFull};
 ghost use Rattle.quad_mat.specs.Rooms.{NumbersCell, NumbersBoth};
+ghost use Rattle.quad_mat.specs.Products.{NumbersSome};
 
 use cell_sets::Cell;
 use std::alloc::{AllocError, Global};
@@ -51,6 +52,23 @@ pub(crate) fn number_of_cell<C: Cell>(cells: &mut Vec<C>, cell: C) -> Result<u32
     let number = number_of(cells.len())?;
     cells.push(cell)?;
     Ok(number)
+}
+
+/// The number of a cell with these symbols, None where it has none.
+pub(crate) fn number_unless_empty<C: Cell>(
+    cells: &mut Vec<C>,
+    cell: C,
+) -> Result<Option<u32>, AllocError>
+    requires full { AreFull (map C.symbols cells.old.items) }
+    ensures { IfOk result (λ number. NumbersSome
+        (map C.symbols cells.old.items) (map C.symbols cells.new.items)
+        (C.symbols cell) number) }
+{
+    if cell.is_empty() {
+        return Ok(None);
+    }
+    let number = number_of_cell(cells, cell)?;
+    Ok(Some(number))
 }
 
 /// The number of a cell with the symbols of two others.

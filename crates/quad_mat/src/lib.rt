@@ -3,9 +3,14 @@
 
 mod cells;
 mod entries;
+mod images;
 mod loading;
 mod mat;
 mod merging;
+mod products;
 mod room;
 
-pub use mat::{Cut, Mat, gather, union};
+pub use mat::{Cut, Mat, gather, product, union};
+
+#[cfg(test)]
+mod tests;

@@ -59,7 +59,7 @@ fn column_in(window: Window, column: u32) -> Option<u32>
 }
 
 /// So many numbers, none of which is known.
-fn unknown(alloc: Global, count: usize) -> Result<Items<Option<u32>>, AllocError>
+pub(crate) fn unknown(alloc: Global, count: usize) -> Result<Items<Option<u32>>, AllocError>
     ensures count { IfOk result (λ known. length known ≡ count) }
     ensures none { IfOk result (λ known. (n m : ℕ) → slice_get known n ≡ Some (Some m) → ⊥) }
 {
@@ -71,7 +71,7 @@ fn unknown(alloc: Global, count: usize) -> Result<Items<Option<u32>>, AllocError
 }
 
 /// What is known of a number, None where nothing is.
-fn known_at(known: &Items<Option<u32>>, n: u32) -> Option<u32>
+pub(crate) fn known_at(known: &Items<Option<u32>>, n: u32) -> Option<u32>
     requires { n < length known.now }
     ensures { slice_get known.now n ≡ Some result }
 {

@@ -3,17 +3,21 @@ ghost use Rattle.std.specs.Prelude.{◌≡◌, ◌<◌, ◌≤◌, ◌+◌, ◌^
 ghost use Rattle.std.specs.Prelude.{slice_index};
 ghost use Rattle.std.specs.Prelude.{MatchOption};
 ghost use Rattle.cell_sets.specs.Grids.{entry};
-ghost use Rattle.quad_mat.specs.Matrices.{HasSize, IsCut, IsPart};
+ghost use Rattle.quad_mat.specs.Matrices.{HasSize, IsCut, IsMatProduct, IsPart};
 ghost use Rattle.quad_mat.specs.Matrices.{IsSingle, IsUnionOf};
 ghost use Rattle.quad_mat.specs.Rows.{found};
 ghost use Rattle.quad_mat.specs.Rooms.{IsRoom, RoomGrows};
 ghost use Rattle.quad_mat.specs.Rows.{row_of};
-ghost use Rattle.quad_mat.specs.Loading.{AreBelow, AreNumbersOf, BothHave, IsMatOf, IsSource};
-ghost use Rattle.quad_mat.specs.Loading.{PartHas};
+ghost use Rattle.quad_mat.specs.Loading.{AreBelow, AreNumbersOf, BothHave, IsBody, IsMatOf};
+ghost use Rattle.quad_mat.specs.Loading.{IsSource, PartHas};
+ghost use Rattle.quad_mat.specs.Products.{HasNothing, IsProductMat, Keeps};
 
 use crate::entries::{Entry, cell_at, row_at};
+use crate::images::{Factors, empty_making};
 use crate::loading::{Body, Window, empty_rows, loaded_rows, united};
+use crate::products::product_rows;
 use crate::room::{Room, empty_room, number_of_single};
+use binary_form::Binary;
 use cell_sets::Cell;
 use sqlite_items::Items;
 use std::alloc::{AllocError, Global};
@@ -120,6 +124,18 @@ impl<C: Cell> Mat<C> {
             columns: self.columns,
             body,
         })
+    }
+
+    /// What the matrix keeps, None where it keeps nothing.
+    fn body(&self) -> Option<&Body<C>>
+        ensures { MatchOption result
+            (HasNothing self.now)
+            (λ body. Keeps C.symbols body.now self.now) }
+    {
+        match &self.body {
+            Some(body) => Some(body),
+            None => None,
+        }
     }
 
     /// The numbers in the room of what the window has of so many rows, from the first on.
@@ -306,6 +322,54 @@ pub fn union<C: Cell>(alloc: Global, a: &Mat<C>, b: &Mat<C>) -> Result<Mat<C>, A
     let numbers: Items<u32> = both_loaded(alloc, &mut room, a, b, 0)?;
     let both: Mat<C> = finished(alloc, room, numbers, a.rows())?;
     Ok(both)
+}
+
+/// The rows that a product of matrices has, as a matrix.
+fn product_of<C: Cell>(
+    alloc: Global,
+    factors: &Factors<C>,
+    rows: u32,
+    columns: u32,
+) -> Result<Mat<C>, AllocError>
+    requires rows { rows ≡ length factors.now.left.now.numbers }
+    requires left { IsBody (length factors.now.right.now.numbers)
+        (map C.symbols factors.now.left.now.cells.items)
+        factors.now.left.now.rows factors.now.left.now.numbers }
+    requires right { IsBody columns (map C.symbols factors.now.right.now.cells.items)
+        factors.now.right.now.rows factors.now.right.now.numbers }
+    ensures { IfOk result (λ mat. IsProductMat C.symbols
+        factors.now.bin.now factors.now.left.now factors.now.right.now columns mat) }
+{
+    let mut making = empty_making(alloc, columns)?;
+    let numbers: Items<u32> = product_rows(alloc, factors, &mut making)?;
+    let mat: Mat<C> = finished(alloc, making.room, numbers, rows)?;
+    Ok(mat)
+}
+
+/// The product of two matrices: the entry in row i and column j is the union, over all k, of the
+/// products of the entry in row i and column k of the first and that in row k and column j of the
+/// second. Each different row of the first is multiplied once, and the product of a cell and a row
+/// is made once where it comes again soon.
+pub fn product<C: Cell>(
+    alloc: Global,
+    bin: &Binary<C>,
+    a: &Mat<C>,
+    b: &Mat<C>,
+) -> Result<Mat<C>, AllocError>
+    requires middle { a.now.columns ≡ b.now.rows }
+    ensures { IfOk result (λ product. IsMatProduct bin.now a.now b.now product) }
+{
+    let left = match a.body() {
+        Some(left) => left,
+        None => return Ok(Mat::zero(a.rows(), b.cols())),
+    };
+    let right = match b.body() {
+        Some(right) => right,
+        None => return Ok(Mat::zero(a.rows(), b.cols())),
+    };
+    let factors = Factors { bin, left, right };
+    let product: Mat<C> = product_of(alloc, &factors, a.rows(), b.cols())?;
+    Ok(product)
 }
 
 /// The part of so many rows and columns, from this row and this column on.

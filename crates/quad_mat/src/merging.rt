@@ -1,5 +1,6 @@
 //! The union of two rows, column by column.
 ghost use Rattle.std.specs.Prelude.{ℕ, ◌+◌, ◌<◌, ◌≤◌, length, map, IfOk};
+ghost use Rattle.quad_mat.specs.declared.merging.Side.TheVariants.{Both};
 ghost use Rattle.quad_mat.specs.Rows.{AreCellsBelow, AreFull, IsRow};
 ghost use Rattle.quad_mat.specs.Rooms.{IsNextSide, IsStep, IsMerged};
 
@@ -47,6 +48,34 @@ fn next_side(left: &[Entry], right: &[Entry], i: usize, j: usize) -> Side
     }
 }
 
+/// The next entry where both rows have its column: its cell is the union.
+fn step_of_both<C: Cell>(
+    alloc: Global,
+    cells: &mut Vec<C>,
+    left: &[Entry],
+    right: &[Entry],
+    i: usize,
+    j: usize,
+) -> Result<Step, AllocError>
+    requires full { AreFull (map C.symbols cells.old.items) }
+    requires both { IsNextSide left.now right.now i j Both }
+    requires left_cells { AreCellsBelow (length (map C.symbols cells.old.items)) left.now }
+    requires right_cells { AreCellsBelow (length (map C.symbols cells.old.items)) right.now }
+    ensures { IfOk result (λ step. IsStep
+        (map C.symbols cells.old.items) (map C.symbols cells.new.items)
+        left.now right.now i j step) }
+{
+    let cell = number_of_both(alloc, cells, left[i].cell, right[j].cell)?;
+    Ok(Step {
+        entry: Entry {
+            column: left[i].column,
+            cell,
+        },
+        i: i + 1,
+        j: j + 1,
+    })
+}
+
 /// The next entry, from these places on. Where both rows have its column, its cell is the union.
 fn next_step<C: Cell>(
     alloc: Global,
@@ -77,17 +106,7 @@ fn next_step<C: Cell>(
             i,
             j: j + 1,
         }),
-        Side::Both => {
-            let cell = number_of_both(alloc, cells, left[i].cell, right[j].cell)?;
-            Ok(Step {
-                entry: Entry {
-                    column: left[i].column,
-                    cell,
-                },
-                i: i + 1,
-                j: j + 1,
-            })
-        }
+        Side::Both => step_of_both(alloc, cells, left, right, i, j),
     }
 }
 

@@ -136,6 +136,32 @@ pub(crate) fn number_of_single<C: Cell>(
     Ok(n)
 }
 
+/// The number of the union of two rows, which is made and remembered.
+fn made_union<C: Cell>(alloc: Global, room: &mut Room<C>, a: u32, b: u32) -> Result<u32, AllocError>
+    requires room { IsRoom room.old.columns
+        (map C.symbols room.old.cells.items) room.old.rows room.old.unions }
+    requires left { a < length room.old.rows }
+    requires right { b < length room.old.rows }
+    ensures columns { IfOk result (λ _. room.new.columns ≡ room.old.columns) }
+    ensures grows { IfOk result (λ _. RoomGrows room.old.columns
+        (map C.symbols room.old.cells.items) room.old.rows
+        (map C.symbols room.new.cells.items) room.new.rows room.new.unions) }
+    ensures union { IfOk result (λ n. IsRowUnion
+        (map C.symbols room.new.cells.items) room.new.rows a b n) }
+{
+    let rows = room.rows.as_slice();
+    let left = row_at(rows, a);
+    let right = row_at(rows, b);
+    let row = merged(alloc, &mut room.cells, left, right, room.columns)?;
+    let both = number_of_row(room, row)?;
+    let _ = room.unions.push(RowUnion {
+        left: a,
+        right: b,
+        both,
+    });
+    Ok(both)
+}
+
 /// The number of the union of two rows. A union with the empty row is the
 /// other one, and one that is not remembered is made.
 pub(crate) fn number_of_union<C: Cell>(
@@ -167,15 +193,5 @@ pub(crate) fn number_of_union<C: Cell>(
     if let Some(both) = known_union(room.unions.as_slice(), a, b) {
         return Ok(both);
     }
-    let rows = room.rows.as_slice();
-    let left = row_at(rows, a);
-    let right = row_at(rows, b);
-    let row = merged(alloc, &mut room.cells, left, right, room.columns)?;
-    let both = number_of_row(room, row)?;
-    let _ = room.unions.push(RowUnion {
-        left: a,
-        right: b,
-        both,
-    });
-    Ok(both)
+    made_union(alloc, room, a, b)
 }

@@ -8,12 +8,12 @@ use Rattle.spec_script.specs.declared.question.Constituent.TheVariants.{EntryWho
 use Rattle.spec_script.specs.declared.question.Constituent.TheVariants.{NamedSpan}
 use Rattle.spec_script.specs.declared.question.TokenSpan.{TokenSpan}
 use Rattle.spec_script.specs.declared.question.TokenSpan.TheVariants.{Whole, Span}
-use Rattle.spec_script.specs.Script.{constituent_text, span_text, ends_text, Query, has, tokens_in}
+use Rattle.spec_script.specs.Script.{constituent_text, span_text, ends_text, Query, has, tree, tokens_in}
 use Rattle.spec_script.proofs.ScriptLemmas.{Lacks, each_differs, cut_same, same_rest, digits_lack, word_lacks_space, has_space}
 use Rattle.cyk_io.specs.Lines.{HasNoLf}
 use Rattle.spec_script.specs.declared.question.Constituent.{Constituent as NamedBy}
 use Rattle.script_reader.specs.Forms.{AreEnds, meant, IsNameOf, ReadsConstituent, IsSpanText, ReadsTokenSpan, IsQuestion}
-use Rattle.script_reader.specs.Forms.{ReadsHas, ReadsTokens}
+use Rattle.script_reader.specs.Forms.{ReadsHas, ReadsTree, ReadsTokens}
 
 -- what holds of all bytes holds of those behind some, and of those before some
 behind_some : (front back : List ℕ) → HasNoLf (front ++ back) → HasNoLf back
@@ -150,6 +150,31 @@ module _ (line beginning : List ℕ) where
   has_read same rest e None h = has_none same rest e h
   has_read same rest e (Some constituent) h = has_is same rest e (meant constituent) h
 
+  -- the same of `tree`
+  pub no_tree : beginning ≡ codes "tree" → ((rest : List ℕ) → line ≡ beginning ++ rest → ⊥) →
+      (constituent : Constituent) → IsQuestion line (tree constituent) → ⊥
+  no_tree same other constituent h = other (constituent_text constituent) (rw same h.spelled)
+
+  pub tree_none : beginning ≡ codes "tree" → (rest : List ℕ) → line ≡ beginning ++ rest → NamesNone rest →
+      (constituent : Constituent) → IsQuestion line (tree constituent) → ⊥
+  tree_none same rest e other constituent h =
+      other constituent (record {
+        nameable = h.askable;
+        spelled = same_rest (codes "tree") rest (constituent_text constituent) (sym (begins same rest e) ∙ h.spelled);
+      })
+
+  pub tree_is : beginning ≡ codes "tree" → (rest : List ℕ) → line ≡ beginning ++ rest →
+      (constituent : Constituent) → IsNameOf rest constituent → IsQuestion line (tree constituent)
+  tree_is same rest e constituent h = record {
+    askable = h.nameable;
+    spelled = begins same rest e ∙ ap (λ behind. codes "tree" ++ behind) h.spelled;
+  }
+
+  pub tree_read : beginning ≡ codes "tree" → (rest : List ℕ) → line ≡ beginning ++ rest →
+      (r : Option (NamedBy (Bor (List ℕ)))) → ReadsConstituent rest r → ReadsTree line r
+  tree_read same rest e None h = tree_none same rest e h
+  tree_read same rest e (Some constituent) h = tree_is same rest e (meant constituent) h
+
   -- the same of `tokens` and spans of tokens
   pub no_tokens : beginning ≡ codes "tokens" → ((rest : List ℕ) → line ≡ beginning ++ rest → ⊥) →
       (span : TokenSpan) → IsQuestion line (tokens_in span) → ⊥
@@ -175,11 +200,13 @@ module _ (line beginning : List ℕ) where
   tokens_read same rest e None h = tokens_none same rest e h
   tokens_read same rest e (Some span) h = tokens_are same rest e span h
 
--- a line that asks neither asks nothing
+-- a line that asks none of the three asks nothing
 pub no_query : (line : List ℕ) → ((constituent : Constituent) → IsQuestion line (has constituent) → ⊥) →
+    ((constituent : Constituent) → IsQuestion line (tree constituent) → ⊥) →
     ((span : TokenSpan) → IsQuestion line (tokens_in span) → ⊥) → (query : Query) → IsQuestion line query → ⊥
-no_query line no_constituent no_tokens (has constituent) h = no_constituent constituent h
-no_query line no_constituent no_tokens (tokens_in span) h = no_tokens span h
+no_query line no_constituent no_tree no_tokens (has constituent) h = no_constituent constituent h
+no_query line no_constituent no_tree no_tokens (tree constituent) h = no_tree constituent h
+no_query line no_constituent no_tree no_tokens (tokens_in span) h = no_tokens span h
 
 -- where bytes without LF are a beginning and what it names
 module _ (bytes beginning named : List ℕ) (e : bytes ≡ beginning ++ named)

@@ -8,10 +8,10 @@ use Rattle.spec_script.specs.declared.question.Constituent.TheVariants.{EntryWho
 use Rattle.spec_script.specs.declared.question.Constituent.TheVariants.{NamedSpan}
 use Rattle.spec_script.specs.declared.question.TokenSpan.{TokenSpan}
 use Rattle.spec_script.specs.Script.{Constituent, constituent_text, IsNameable, ends_text}
-use Rattle.spec_script.specs.Script.{span_text, HasShortEnds, Query, has, tokens_in, query_line}
-use Rattle.spec_script.specs.Script.{IsAskable}
+use Rattle.spec_script.specs.Script.{span_text, HasShortEnds, Query, has, tree, tokens_in}
+use Rattle.spec_script.specs.Script.{query_line, IsAskable}
 use Rattle.script_reader.specs.declared.command.Query.{Query as Asked}
-use Rattle.script_reader.specs.declared.command.Query.TheVariants.{Has, Tokens}
+use Rattle.script_reader.specs.declared.command.Query.TheVariants.{Has, Tree, Tokens}
 use Rattle.script_reader.specs.declared.command.Command.{Command}
 use Rattle.script_reader.specs.declared.command.Command.TheVariants.{Open, Ask, End}
 
@@ -57,6 +57,7 @@ meant (NamedSpan name first end) = NamedSpan name.now first end
 -- the query, with its name as the list of the slice's bytes
 abbrev pub query_of : Asked → Query
 query_of (Has constituent) = has (meant constituent)
+query_of (Tree constituent) = tree (meant constituent)
 query_of (Tokens span) = tokens_in span
 
 -- the bytes name the constituent
@@ -88,6 +89,11 @@ pub record IsQuestion (line : List ℕ) (query : Query) : Type 0 where
 abbrev pub ReadsHas : List ℕ → Option (NamedBy (Bor (List ℕ))) → Type 0
 ReadsHas line None = (constituent : Constituent) → IsQuestion line (has constituent) → ⊥
 ReadsHas line (Some constituent) = IsQuestion line (has (meant constituent))
+
+-- the line asks what the first tree of this constituent is, or of none what it is
+abbrev pub ReadsTree : List ℕ → Option (NamedBy (Bor (List ℕ))) → Type 0
+ReadsTree line None = (constituent : Constituent) → IsQuestion line (tree constituent) → ⊥
+ReadsTree line (Some constituent) = IsQuestion line (tree (meant constituent))
 
 -- the line asks which tokens this span has, or of none which it has
 abbrev pub ReadsTokens : List ℕ → Option TokenSpan → Type 0

@@ -15,6 +15,8 @@ pub enum Block {
 pub enum Query<'a> {
     /// Whether the constituent is derived.
     Has(Constituent<&'a [u8]>),
+    /// What the constituent's first tree is.
+    Tree(Constituent<&'a [u8]>),
     /// Which tokens the span has.
     Tokens(TokenSpan),
 }

@@ -4,7 +4,8 @@ ghost use Rattle.cyk_io.specs.Lines.{HasNoLf};
 ghost use Rattle.spec_script.specs.Script.{AreOfWord};
 ghost use Rattle.script_reader.specs.Forms.{ReadsNumber, ReadsBehind, ReadsCount, CutsAtSpace};
 ghost use Rattle.script_reader.specs.Forms.{ReadsEnds, ReadsConstituent, ReadsTokenSpan};
-ghost use Rattle.script_reader.specs.Forms.{ReadsHas, ReadsTokens, ReadsQuery, ReadsQuestion};
+ghost use Rattle.script_reader.specs.Forms.{ReadsHas, ReadsTree, ReadsTokens, ReadsQuery};
+ghost use Rattle.script_reader.specs.Forms.{ReadsQuestion};
 
 use crate::command::{Command, Query};
 use itoa::Buffer;
@@ -125,6 +126,14 @@ fn has_question(line: &[u8]) -> Option<Constituent<&[u8]>>
     constituent_of(behind(line, b"has".as_slice())?)
 }
 
+/// The constituent of whose tree the line asks, where it begins with `tree`.
+fn tree_question(line: &[u8]) -> Option<Constituent<&[u8]>>
+    requires { HasNoLf line.now }
+    ensures { ReadsTree line.now result }
+{
+    constituent_of(behind(line, b"tree".as_slice())?)
+}
+
 /// The span of tokens that the line asks for, where it begins with `tokens`.
 fn tokens_question(line: &[u8]) -> Option<TokenSpan>
     ensures { ReadsTokens line.now result }
@@ -137,8 +146,11 @@ fn query_in(line: &[u8]) -> Option<Query<'_>>
     requires { HasNoLf line.now }
     ensures { ReadsQuery line.now result }
 {
-    match has_question(line) {
-        Some(constituent) => Some(Query::Has(constituent)),
+    if let Some(constituent) = has_question(line) {
+        return Some(Query::Has(constituent));
+    }
+    match tree_question(line) {
+        Some(constituent) => Some(Query::Tree(constituent)),
         None => tokens_question(line).map(|span| Query::Tokens(span)),
     }
 }

@@ -11,7 +11,7 @@ use Rattle.spec_script.specs.declared.question.Constituent.TheVariants.{EntryWho
 use Rattle.spec_script.specs.declared.question.TokenSpan.{TokenSpan}
 use Rattle.spec_script.specs.declared.question.TokenSpan.TheVariants.{Whole, Span}
 use Rattle.spec_script.specs.Script.{Constituent, constituent_text, IsNameable, ends_text, span_text, HasShortEnds}
-use Rattle.spec_script.specs.Script.{Query, has, tokens_in, query_line, IsAskable, opens, ask, Part, header, grammar, of_command, line_of, block_of, text_of, IsWord, IsWithinLimits}
+use Rattle.spec_script.specs.Script.{Query, has, tree, tokens_in, query_line, IsAskable, opens, ask, Part, header, grammar, of_command, line_of, block_of, text_of, IsWord, IsWithinLimits}
 
 -- the list does not have the byte
 abbrev pub Lacks : List ℕ → ℕ → Type 0
@@ -153,6 +153,9 @@ query_lacks_lf : (query : Query) → IsAskable query → Lacks (query_line query
 query_lacks_lf (has constituent) askable =
     lacks_joined 10 (codes "has") (constituent_text constituent) (tested 10 (codes "has") refl)
     (constituent_lacks_lf constituent askable)
+query_lacks_lf (tree constituent) askable =
+    lacks_joined 10 (codes "tree") (constituent_text constituent) (tested 10 (codes "tree") refl)
+    (constituent_lacks_lf constituent askable)
 query_lacks_lf (tokens_in span) askable =
     lacks_joined 10 (codes "tokens") (span_text span) (tested 10 (codes "tokens") refl)
     (span_lacks_lf span askable)
@@ -266,13 +269,24 @@ same_token_span (Span first end) (Span start stop) v w e =
 abbrev first_byte : List ℕ → ℕ
 first_byte line = get_or line 0 0
 
+-- and the second, which tells `tree` and `tokens` apart
+abbrev second_byte : List ℕ → ℕ
+second_byte line = get_or line 1 0
+
 -- queries with one line are the same
 same_query : (a b : Query) → IsAskable a → IsAskable b → query_line a ≡ query_line b → a ≡ b
 same_query (has constituent) (has other) v w e =
     let behind = same_rest (codes "has") (constituent_text constituent) (constituent_text other) e in
     ap has (same_constituent constituent other v w behind)
+same_query (has constituent) (tree other) v w e = absurd (omega (arith, ap first_byte e))
 same_query (has constituent) (tokens_in span) v w e = absurd (omega (arith, ap first_byte e))
+same_query (tree constituent) (tree other) v w e =
+    let behind = same_rest (codes "tree") (constituent_text constituent) (constituent_text other) e in
+    ap tree (same_constituent constituent other v w behind)
+same_query (tree constituent) (has other) v w e = absurd (omega (arith, ap first_byte e))
+same_query (tree constituent) (tokens_in span) v w e = absurd (omega (arith, ap second_byte e))
 same_query (tokens_in span) (has constituent) v w e = absurd (omega (arith, ap first_byte e))
+same_query (tokens_in span) (tree constituent) v w e = absurd (omega (arith, ap second_byte e))
 same_query (tokens_in span) (tokens_in other) v w e =
     let behind = same_rest (codes "tokens") (span_text span) (span_text other) e in
     ap tokens_in (same_token_span span other v w behind)
@@ -293,8 +307,10 @@ same_by_line (of_command (opens text)) (of_command (opens other)) rest more v w 
     (ap (λ bytes. of_command (opens bytes)) same.0, same.1)
 same_by_line (of_command (ask query)) (of_command (ask other)) rest more v w e f = (ap (λ (asked : Query). of_command (ask asked)) (same_query query other v.0 w.0 e), f)
 same_by_line a (of_command (ask (has other))) rest more v w e f = absurd (omega (arith, ap first_byte e))
+same_by_line a (of_command (ask (tree other))) rest more v w e f = absurd (omega (arith, ap first_byte e))
 same_by_line a (of_command (ask (tokens_in other))) rest more v w e f = absurd (omega (arith, ap first_byte e))
 same_by_line (of_command (ask (has constituent))) b rest more v w e f = absurd (omega (arith, ap first_byte e))
+same_by_line (of_command (ask (tree constituent))) b rest more v w e f = absurd (omega (arith, ap first_byte e))
 same_by_line (of_command (ask (tokens_in span))) b rest more v w e f = absurd (omega (arith, ap first_byte e))
 same_by_line a b rest more v w e f = absurd (omega (arith, ap first_byte e))
 
@@ -313,6 +329,7 @@ end_is_no_line header e = omega (arith, ap first_byte e)
 end_is_no_line (grammar block) e = omega (arith, ap first_byte e)
 end_is_no_line (of_command (opens text)) e = omega (arith, ap first_byte e)
 end_is_no_line (of_command (ask (has constituent))) e = omega (arith, ap first_byte e)
+end_is_no_line (of_command (ask (tree constituent))) e = omega (arith, ap first_byte e)
 end_is_no_line (of_command (ask (tokens_in span))) e = omega (arith, ap first_byte e)
 
 -- bytes that begin with the line `end` begin with no part

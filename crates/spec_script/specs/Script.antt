@@ -13,9 +13,11 @@ use Rattle.spec_script.specs.declared.question.TokenSpan.TheVariants.{Whole, Spa
 abbrev pub Constituent : Type 0
 Constituent = Named (List ℕ)
 
--- what may be asked of a text: whether a constituent is derived, and what the tokens of a span are
+-- what may be asked of a text: whether a constituent is derived, what its first tree is, and what
+-- the tokens of a span are
 pub data Query : Type 0 where
   has : (constituent : Constituent) → Query
+  tree : (constituent : Constituent) → Query
   tokens_in : (span : TokenSpan) → Query
 
 -- the commands behind a grammar that are built so far
@@ -65,6 +67,7 @@ span_text (Span first end) = 32 ∷ ends_text first end
 -- the line that asks the query, without its LF
 abbrev pub query_line : Query → List ℕ
 query_line (has constituent) = codes "has" ++ constituent_text constituent
+query_line (tree constituent) = codes "tree" ++ constituent_text constituent
 query_line (tokens_in span) = codes "tokens" ++ span_text span
 
 -- the line of the part, without its LF
@@ -108,6 +111,7 @@ HasShortEnds (Span first end) = (first < 10 ^ 9) × (end < 10 ^ 9)
 -- what the query names can be named
 abbrev pub IsAskable : Query → Type 0
 IsAskable (has constituent) = IsNameable constituent
+IsAskable (tree constituent) = IsNameable constituent
 IsAskable (tokens_in span) = HasShortEnds span
 
 -- the part keeps the limits: a grammar's block of as many bytes as nine digits can write, a text

@@ -3,24 +3,33 @@ use Rattle.std.proofs.Common.{◌≡◌, ℕ, zero, suc, ◌+◌, ◌<◌, ◌�
 use Rattle.std.proofs.lemmas.Bool.{cases_lt}
 use Rattle.spec_lexing.specs.declared.token.Token.{Token}
 use Rattle.spec_lexing.proofs.KindsLemmas.{some_tokens}
-use Rattle.spec_grammar.specs.Grammars.{Grammar}
+use Rattle.spec_grammar.specs.Grammars.{Grammar, HasDistinctNames}
+use Rattle.spec_grammar.specs.Trees.{Tree}
+use Rattle.spec_grammar.specs.Cycles.{IsAcyclic}
+use Rattle.spec_text.specs.declared.limits.TheConstants.{MAX_NODES}
+use Rattle.spec_trees.specs.FirstTrees.{node_count}
+use Rattle.spec_trees.specs.TreeText.{tree_text}
+use Rattle.spec_lbnf.proofs.SymbolNameLemmas.{one_symbol_each}
 use Rattle.spec_lexing.specs.declared.kind_def.KindDef.{KindDef}
 use Rattle.spec_script.specs.declared.question.TokenSpan.{TokenSpan}
-use Rattle.spec_script.specs.Script.{Constituent, Query, has, tokens_in, Command, opens, ask, Part, header, grammar}
+use Rattle.spec_script.specs.Script.{Constituent, Query, has, tree, tokens_in, Command, opens, ask, Part, header, grammar}
 use Rattle.spec_script.specs.Script.{of_command, Script, nothing, header_alone, with_grammar, parts_of}
 use Rattle.spec_script.specs.Script.{as_parts, line_of, block_of, text_of, AreQuestions, AreInOrder}
 use Rattle.spec_script.specs.Script.{IsInOrder, MayFollow, question_form, BeginsWithParts, BeginsWithScript, GoesOn}
 use Rattle.spec_script.specs.Script.{HasEndLine, Ending, ended, broken, IsScript}
 use Rattle.spec_script.proofs.BeginningLemmas.{begins_more, parts_more}
-use Rattle.spec_session.specs.GrammarReplies.{grammar_reply}
+use Rattle.spec_session.specs.Lines.{as_line}
+use Rattle.spec_session.specs.GrammarReplies.{IsAccepted, grammar_reply}
 use Rattle.spec_session.specs.Steps.{version_reply, State, no_texts, with_text, IsCurrent}
-use Rattle.spec_session.specs.Questions.{HasSymbol, first_of, end_of, IsSpan, IsNoSpan, IsWithin, IsOutside}
+use Rattle.spec_session.specs.Questions.{HasSymbol, first_of, end_of, IsSpan, IsNoSpan, IsWithin}
 use Rattle.spec_session.specs.Questions.{IsDerived, unknown_category_line, outside_line, of_no_symbol, of_no_span}
 use Rattle.spec_session.specs.TokenAnswers.{tokens_line, span_first, span_end, IsTokensAnswer, refused_tokens, tokens_told}
+use Rattle.spec_session.specs.TreeAnswers.{IsFirstTreeOf, none_line, large_tree_line, IsTreeAnswer, refused_tree, no_tree, large_tree, printed_tree}
 use Rattle.spec_session.specs.Answers.{yes_line, no_line, IsHasAnswer, refused_has, yes, no, IsAnswer}
 use Rattle.spec_session.specs.Sessions.{serve_mode, last_line, last_status, IsSession, refused, whole}
 use Rattle.spec_session.specs.Existence.{SomeSession}
 use Rattle.spec_session.proofs.DenialLemmas.{IsUndeniable, decided}
+use Rattle.spec_session.proofs.TreeLemmas.{derived_has_tree}
 use Rattle.spec_session.proofs.RunLemmas.{AreTold, replies_told}
 use Rattle.spec_session.proofs.VerdictLemmas.{HasVerdict, some_verdict}
 
@@ -158,6 +167,58 @@ module _ (g : Grammar) (tokens : List Token) (constituent : Constituent) where
         | inr other ↦ denied (unknown_category_line, refused_has (of_no_symbol other refl))
       ])
 
+-- a grammar whose names are distinct, and of which no category reaches itself
+record HasTrees (g : Grammar) : Type 0 where
+  names : HasDistinctNames g
+  acyclic : IsAcyclic g.rules
+
+-- a grammar that is accepted is one
+accepted_has_trees : (block : List ℕ) (g : Grammar) → IsAccepted block g → HasTrees g
+accepted_has_trees block g h = record {
+  names = subst HasDistinctNames (sym h.3) (one_symbol_each h.0 h.2.fit.own_names);
+  acyclic = subst (λ (made : Grammar). IsAcyclic made.rules) (sym h.3) h.2.fit.acyclic;
+}
+
+module _ (g : Grammar) (fit : HasTrees g) (text : List ℕ) (tokens : List Token) (constituent : Constituent) where
+  -- what the first tree of the constituent is has an answer
+  abbrev HasTreeAnswer : Type 0
+  HasTreeAnswer = (line : List ℕ) × IsTreeAnswer g text tokens constituent line
+
+  -- a first tree is an answer, or is too large for one
+  answer_tree : IsWithin (length tokens) constituent →
+      (t : Tree) × IsFirstTreeOf g tokens constituent t → HasTreeAnswer
+  answer_tree span (t, first) = elim (cases_lt MAX_NODES (node_count t)) [
+    | inl many ↦ (large_tree_line, large_tree t span first many refl)
+    | inr few ↦ (as_line (tree_text g text tokens t), printed_tree t span first few refl)
+  ]
+
+  -- a question on a span of the text is answered by its first tree
+  tree_within : HasSymbol g constituent → IsWithin (length tokens) constituent → IsUndeniable HasTreeAnswer
+  tree_within known span denied =
+      let Derived : Type 0 = IsDerived g tokens constituent in
+      decided Derived (λ (split : Derived ⊎ (Derived → ⊥)). elim split [
+        | inl derived ↦
+            denied (answer_tree span (derived_has_tree g tokens constituent fit.names fit.acyclic derived))
+        | inr other ↦ denied (none_line, no_tree known span other refl)
+      ])
+
+  -- a question on a symbol of the grammar has an answer
+  tree_known : HasSymbol g constituent → IsUndeniable HasTreeAnswer
+  tree_known known denied =
+      elim (span_or_not (length tokens) (first_of constituent) (end_of (length tokens) constituent)) [
+        | inl within ↦ tree_within known within denied
+        | inr outside ↦ denied (outside_line (length tokens), refused_tree (of_no_span known outside refl))
+      ]
+
+  -- that a question has one cannot be denied
+  some_tree_answer : IsUndeniable HasTreeAnswer
+  some_tree_answer denied =
+      let Known : Type 0 = HasSymbol g constituent in
+      decided Known (λ (split : Known ⊎ (Known → ⊥)). elim split [
+        | inl known ↦ tree_known known denied
+        | inr other ↦ denied (unknown_category_line, refused_tree (of_no_symbol other refl))
+      ])
+
 -- a question on the tokens of a span has an answer
 some_tokens_answer : (kinds : List KindDef) (text : List ℕ) (tokens : List Token) (span : TokenSpan) →
     (line : List ℕ) × IsTokensAnswer kinds text tokens span line
@@ -174,13 +235,14 @@ abbrev HasAnswer : Grammar → List ℕ → List Token → Query → Type 0
 HasAnswer g text tokens query = (line : List ℕ) × IsAnswer g text tokens query line
 
 -- which cannot be denied
-some_answer : (g : Grammar) (text : List ℕ) (tokens : List Token) (query : Query) →
+some_answer : (g : Grammar) → HasTrees g → (text : List ℕ) (tokens : List Token) (query : Query) →
     IsUndeniable (HasAnswer g text tokens query)
-some_answer g text tokens (has constituent) = some_has_answer g tokens constituent
-some_answer g text tokens (tokens_in span) =
+some_answer g fit text tokens (has constituent) = some_has_answer g tokens constituent
+some_answer g fit text tokens (tree constituent) = some_tree_answer g fit text tokens constituent
+some_answer g fit text tokens (tokens_in span) =
     λ denied. denied (some_tokens_answer g.lexicon.kinds text tokens span)
 
-module _ (g : Grammar) where
+module _ (g : Grammar) (fit : HasTrees g) where
   -- questions on a current text have replies
   some_replies :
       (state : State) (text : List ℕ) → IsCurrent state text →
@@ -189,7 +251,7 @@ module _ (g : Grammar) where
   some_replies state text current [] are denied = denied ([], refl)
   some_replies state text current (ask query ∷ questions) are denied =
       let tokens = some_tokens g.lexicon text in
-      some_answer g text tokens.0 query
+      some_answer g fit text tokens.0 query
       (λ (answer : HasAnswer g text tokens.0 query).
       some_replies state text current questions are
       (λ (others : (out : List ℕ) × AreTold g state questions out).
@@ -223,7 +285,8 @@ module _ (input : List ℕ) where
   session_of_grammar block commands ending script denied =
       let h = script.begins in
       some_verdict block (λ (split : HasVerdict block). elim split [
-        | inl accepted ↦ replies_in_order accepted.0 commands script.in_order
+        | inl accepted ↦ replies_in_order accepted.0 (accepted_has_trees block accepted.0 accepted.1) commands
+            script.in_order
             (λ (told : (out : List ℕ) × AreTold accepted.0 no_texts commands out).
             let all : List ℕ = grammar_reply accepted.0 ++ told.0 in
             let replied = replies_told accepted.0 no_texts commands told.0 told.1 in

@@ -1,3 +1,4 @@
+pub mod TreeLemmas
 pub mod RepliesLemmas
 pub mod RunLemmas
 pub mod SessionsLemmas

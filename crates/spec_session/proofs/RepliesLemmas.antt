@@ -1,5 +1,5 @@
 -- A command has one reply: a grammar is accepted in one way or refused by one line, and so on.
-use Rattle.std.proofs.Common.{◌≡◌, ℕ, ◌≤◌, inl, inr, List, [], ◌∷◌, ◌++◌, length, drop, get_or, sym, subst, ◌∙◌, ap, arith, length-append}
+use Rattle.std.proofs.Common.{◌≡◌, ℕ, ◌<◌, ◌≤◌, inl, inr, List, [], ◌∷◌, ◌++◌, length, drop, get_or, sym, subst, ◌∙◌, ap, arith, length-append}
 use Rattle.spec_lexing.specs.declared.token.Token.{Token}
 use Rattle.spec_lexing.specs.Kinds.{MatchesKind, token_kind, lex_kinds}
 use Rattle.spec_lexing.specs.Tokens.{AreTokensOf}
@@ -14,7 +14,7 @@ use Rattle.lbnf_readers.proofs.FaultLemmas.{one_file_of_defs, one_first_fault, s
 use Rattle.spec_lbnf.proofs.CheckLemmas.{fit_or_unfit, one_unfitness}
 use Rattle.spec_lexing.specs.declared.kind_def.KindDef.{KindDef}
 use Rattle.spec_script.specs.declared.question.TokenSpan.{TokenSpan}
-use Rattle.spec_script.specs.Script.{Constituent, Query, has, tokens_in, Command, opens, ask}
+use Rattle.spec_script.specs.Script.{Constituent, Query, has, tree, tokens_in, Command, opens, ask}
 use Rattle.spec_session.specs.GrammarReplies.{IsAccepted, IsRefused, IsRefusedFor, faulty, unfit}
 use Rattle.spec_session.specs.GrammarReplies.{too_many_states, too_many_symbols, fault_reason, unfit_reason}
 use Rattle.spec_session.specs.GrammarReplies.{symbols_reason, refusal_line}
@@ -22,6 +22,13 @@ use Rattle.spec_session.specs.Steps.{version_reply, State, IsCurrent, IsReply}
 use Rattle.spec_session.specs.Questions.{HasSymbol, IsSpan, IsNoSpan, IsWithin, IsOutside, first_of, end_of}
 use Rattle.spec_session.specs.Questions.{IsDerived, IsQuestionRefused, of_no_symbol, of_no_span}
 use Rattle.spec_session.specs.TokenAnswers.{IsTokensAnswer, refused_tokens, tokens_told, span_first, span_end}
+use Rattle.spec_text.specs.declared.limits.TheConstants.{MAX_NODES}
+use Rattle.spec_grammar.specs.Trees.{Tree}
+use Rattle.spec_trees.specs.FirstTrees.{node_count}
+use Rattle.spec_trees.specs.TreeText.{tree_text}
+use Rattle.spec_session.specs.Lines.{as_line}
+use Rattle.spec_session.specs.TreeAnswers.{IsTreeAnswer, refused_tree, no_tree, large_tree, printed_tree}
+use Rattle.spec_session.proofs.TreeLemmas.{one_tree, tree_derives}
 use Rattle.spec_session.specs.Answers.{IsHasAnswer, refused_has, yes, no, IsAnswer}
 
 -- a block is accepted as one grammar
@@ -134,6 +141,47 @@ module _ (g : Grammar) (tokens : List Token) (constituent : Constituent) where
   one_has_answer line other (no a within denied e) (yes within' derives f) = absurd (denied derives)
   one_has_answer line other (no a within denied e) (no b within' denied' f) = e ∙ sym f
 
+  -- a tree is not too large where it is not
+  large_or_not : (t other : Tree) → t ≡ other → MAX_NODES < node_count t → node_count other ≤ MAX_NODES → ⊥
+  large_or_not t other same many few =
+      let again : MAX_NODES < node_count other = subst (λ (u : Tree). MAX_NODES < node_count u) same many in
+      omega (arith, again, few)
+
+  -- what the first tree is has one answer
+  one_tree_answer : (text line other : List ℕ) →
+      IsTreeAnswer g text tokens constituent line → IsTreeAnswer g text tokens constituent other → line ≡ other
+  one_tree_answer text line other (refused_tree h) (refused_tree k) = one_question_refusal line other h k
+  one_tree_answer text line other (refused_tree h) (no_tree b within denied f) =
+      absurd (not_refused line h b within)
+  one_tree_answer text line other (refused_tree h) (large_tree t within first many f) =
+      absurd (not_refused line h first.known within)
+  one_tree_answer text line other (refused_tree h) (printed_tree t within first few f) =
+      absurd (not_refused line h first.known within)
+  one_tree_answer text line other (no_tree a within denied e) (refused_tree k) =
+      absurd (not_refused other k a within)
+  one_tree_answer text line other (no_tree a within denied e) (no_tree b within' denied' f) = e ∙ sym f
+  one_tree_answer text line other (no_tree a within denied e) (large_tree t within' first many f) =
+      absurd (denied (tree_derives g tokens constituent t first))
+  one_tree_answer text line other (no_tree a within denied e) (printed_tree t within' first few f) =
+      absurd (denied (tree_derives g tokens constituent t first))
+  one_tree_answer text line other (large_tree t within first many e) (refused_tree k) =
+      absurd (not_refused other k first.known within)
+  one_tree_answer text line other (large_tree t within first many e) (no_tree b within' denied f) =
+      absurd (denied (tree_derives g tokens constituent t first))
+  one_tree_answer text line other (large_tree t within first many e) (large_tree t' within' first' many' f) =
+      e ∙ sym f
+  one_tree_answer text line other (large_tree t within first many e) (printed_tree t' within' first' few f) =
+      absurd (large_or_not t t' (one_tree g tokens constituent t t' first first') many few)
+  one_tree_answer text line other (printed_tree t within first few e) (refused_tree k) =
+      absurd (not_refused other k first.known within)
+  one_tree_answer text line other (printed_tree t within first few e) (no_tree b within' denied f) =
+      absurd (denied (tree_derives g tokens constituent t first))
+  one_tree_answer text line other (printed_tree t within first few e) (large_tree t' within' first' many f) =
+      absurd (large_or_not t' t (one_tree g tokens constituent t' t first' first) many few)
+  one_tree_answer text line other (printed_tree t within first few e) (printed_tree t' within' first' few' f) =
+      e ∙ ap (λ (u : Tree). as_line (tree_text g text tokens u)) (one_tree g tokens constituent t t' first first')
+      ∙ sym f
+
 -- so has a question on the tokens of a span
 one_tokens_answer : (kinds : List KindDef) (text : List ℕ) (tokens : List Token) (span : TokenSpan)
     (line other : List ℕ) → IsTokensAnswer kinds text tokens span line →
@@ -149,6 +197,8 @@ one_tokens_answer kinds text tokens span line other (tokens_told within e) (toke
 one_answer : (g : Grammar) (text : List ℕ) (tokens : List Token) (query : Query) (line other : List ℕ) →
     IsAnswer g text tokens query line → IsAnswer g text tokens query other → line ≡ other
 one_answer g text tokens (has constituent) line other h k = one_has_answer g tokens constituent line other h k
+one_answer g text tokens (tree constituent) line other h k =
+    one_tree_answer g tokens constituent text line other h k
 one_answer g text tokens (tokens_in span) line other h k =
     one_tokens_answer g.lexicon.kinds text tokens span line other h k
 

@@ -2,10 +2,11 @@
 use Rattle.std.specs.Prelude.{◌≡◌, ℕ, List, length, codes}
 use Rattle.spec_lexing.specs.declared.token.Token.{Token}
 use Rattle.spec_grammar.specs.Grammars.{Grammar}
-use Rattle.spec_script.specs.Script.{Constituent, Query, has, tokens_in}
+use Rattle.spec_script.specs.Script.{Constituent, Query, has, tree, tokens_in}
 use Rattle.spec_session.specs.Lines.{as_line}
 use Rattle.spec_session.specs.Questions.{HasSymbol, IsWithin, IsDerived, IsQuestionRefused}
 use Rattle.spec_session.specs.TokenAnswers.{IsTokensAnswer}
+use Rattle.spec_session.specs.TreeAnswers.{IsTreeAnswer}
 
 -- the answer that a constituent is derived
 abbrev pub yes_line : List ℕ
@@ -30,5 +31,6 @@ pub data IsHasAnswer (g : Grammar) (tokens : List Token) (constituent : Constitu
 -- the answer to a query on a text that has these tokens
 abbrev pub IsAnswer : Grammar → List ℕ → List Token → Query → List ℕ → Type 0
 IsAnswer g text tokens (has constituent) line = IsHasAnswer g tokens constituent line
+IsAnswer g text tokens (tree constituent) line = IsTreeAnswer g text tokens constituent line
 IsAnswer g text tokens (tokens_in span) line =
     IsTokensAnswer g.lexicon.kinds text tokens span line

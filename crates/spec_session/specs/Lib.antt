@@ -3,6 +3,7 @@ pub mod Runs
 pub mod Steps
 pub mod Answers
 pub mod TokenAnswers
+pub mod TreeAnswers
 pub mod Questions
 pub mod GrammarReplies
 pub mod Lines

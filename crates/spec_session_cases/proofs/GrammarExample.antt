@@ -33,13 +33,20 @@ use Rattle.lbnf_readers.proofs.ScanLemmas.{scanned}
 use Rattle.lbnf_readers.proofs.FaultLemmas.{defs_are}
 use Rattle.spec_script.specs.declared.question.TokenSpan.{TokenSpan}
 use Rattle.spec_script.specs.declared.question.TokenSpan.TheVariants.{Whole, Span}
-use Rattle.spec_script.specs.Script.{Constituent, has, tokens_in, ask}
+use Rattle.spec_script.specs.Script.{Constituent, has, tree, tokens_in, ask}
 use Rattle.spec_script.specs.declared.question.Constituent.TheVariants.{EntryWhole, NamedWhole}
 use Rattle.spec_script.specs.declared.question.Constituent.TheVariants.{NamedSpan}
 use Rattle.spec_session.specs.Lines.{as_line}
 use Rattle.spec_session.specs.GrammarReplies.{IsAccepted}
 use Rattle.spec_session.specs.Questions.{HasSymbol, IsOfSymbol, IsDerived, of_no_symbol, of_no_span}
 use Rattle.spec_session.specs.TokenAnswers.{tokens_line, IsTokensAnswer, refused_tokens, tokens_told}
+use Rattle.std.specs.Prelude.{nat_lt}
+use Rattle.std.proofs.lemmas.Bool.Decides.{nat_tests}
+use Rattle.spec_grammar.specs.Trees.{Tree}
+use Rattle.spec_trees.specs.FirstTrees.{lesser_from_left, IsFirstTree}
+use Rattle.spec_trees.specs.OrderLaws.{NoLesserCut}
+use Rattle.spec_trees.proofs.EndsLemmas.{none_before_none, none_before_cut}
+use Rattle.spec_session.specs.TreeAnswers.{IsFirstTreeOf, IsTreeAnswer, refused_tree, no_tree, printed_tree}
 use Rattle.spec_session.specs.Answers.{IsHasAnswer, refused_has, yes, no}
 use Rattle.spec_session.specs.Steps.{State, IsReply}
 use Rattle.spec_session_cases.proofs.StatesExample.{few_states}
@@ -167,6 +174,56 @@ empty_reply =
     (λ (d : IsDerived rule_grammar one_token (span_to 0)).
     omega (arith, derives_grows rule_grammar.rules (kinds_of one_token) full d.symbol 0 0 d.derives)) refl)
 
+-- its first tree there
+abbrev first_tree : Tree
+first_tree = node 0 0 1 (trees (leaf 0 0 1) no_trees)
+
+-- the one item ends nowhere before
+no_cut : NoLesserCut nat_lt rule_grammar.rules (kinds_of one_token) (Kind 0) [] 0 1 1
+no_cut zero lesser first (no_trees, are) = omega (arith, are.1)
+no_cut zero lesser first (trees t ts, are) = absurd (omega (arith, ap length are.3))
+no_cut (suc m) lesser first others = absurd (grind (arith, nat_tests, lesser))
+
+is_first : IsFirstTree lesser_from_left rule_grammar.rules (kinds_of one_token) first_tree (Category 0) 0 1
+is_first = (
+  _,
+  refl,
+  refl,
+  (_, _, _, refl, (refl, refl, refl, refl, refl), (refl, refl)),
+  refl,
+  refl,
+  (λ lesser rule lt. absurd (omega (arith, lt))),
+  none_before_cut nat_lt rule_grammar.rules (kinds_of one_token) (Kind 0) [] 0 1 1 [] no_cut
+      (none_before_none nat_lt rule_grammar.rules (kinds_of one_token) [] 1 1),
+)
+
+-- so it is the entry's
+entry_tree : IsFirstTreeOf rule_grammar one_token EntryWhole first_tree
+entry_tree = record {
+  known = (Category 0, refl);
+  is_first = λ s is. subst (λ (x : Symbol). IsFirstTree lesser_from_left rule_grammar.rules (kinds_of one_token) first_tree x 0 1)
+      (same_Some (Category 0) s is) is_first;
+}
+
+-- a question on a tree has the reply that is its answer
+tree_reply : (constituent : Constituent) (line : List ℕ) →
+    IsTreeAnswer rule_grammar (codes "a") one_token constituent line →
+    IsReply rule_grammar one_text (ask (tree constituent)) line
+tree_reply constituent line answer = (codes "a", one_token, ([], refl), are_tokens, answer)
+
+pub entry_tree_reply : IsReply rule_grammar one_text (ask (tree EntryWhole)) (codes "(A)\n")
+entry_tree_reply =
+    tree_reply EntryWhole (codes "(A)\n")
+    (printed_tree first_tree (omega arith, omega arith) entry_tree (omega arith) refl)
+
+-- over an empty span there is none
+pub no_tree_reply : IsReply rule_grammar one_text (ask (tree (span_to 0))) (codes "none\n")
+no_tree_reply =
+    tree_reply (span_to 0) (codes "none\n")
+    (no_tree (Category 0, refl) (omega arith, omega arith)
+    (λ (d : IsDerived rule_grammar one_token (span_to 0)).
+    omega (arith, derives_grows rule_grammar.rules (kinds_of one_token) full d.symbol 0 0 d.derives)) refl)
+
 -- nothing has the name `T`: neither a category, nor the one kind, which is a word
 no_other_category : (category : ℕ) → slice_get rule_grammar.categories category ≡ Some (codes "T") → ⊥
 no_other_category zero is = omega (arith, ap (λ name. get_or name 0 0) (same_Some (codes "S") (codes "T") is))
@@ -176,6 +233,10 @@ no_other_kind : (kind : ℕ) (def : KindDef) → slice_get rule_grammar.lexicon.
     IsTokenNamed def (codes "T") → ⊥
 no_other_kind zero def is named = subst (λ (d : KindDef). IsTokenNamed d (codes "T")) (sym (same_Some _ def is)) named
 no_other_kind (suc kind) def is named = none-some def is
+
+-- what has the name, over no span
+abbrev pub backward_t : Constituent
+backward_t = NamedSpan (codes "T") 1 0
 
 no_other : (s : Symbol) → IsOfSymbol rule_grammar category_t s → ⊥
 no_other (Category category) is = no_other_category category is
@@ -187,6 +248,11 @@ unknown_reply =
     reply category_t (codes "refused category\n")
     (refused_has (of_no_symbol (λ (known : HasSymbol rule_grammar category_t). no_other known.0 known.1) refl))
 
+pub unknown_tree_reply : IsReply rule_grammar one_text (ask (tree backward_t)) (codes "refused category\n")
+unknown_tree_reply =
+    tree_reply backward_t (codes "refused category\n")
+    (refused_tree (of_no_symbol (λ (known : HasSymbol rule_grammar backward_t). no_other known.0 known.1) refl))
+
 -- the line that tells that the text has one token
 outside_is : codes "refused span 1\n" ≡ codes "refused span " ++ as_line (decimal 1)
 outside_is = ap (λ digits. codes "refused span " ++ as_line digits) (sym (decimal_digit 1 (omega arith)))
@@ -196,6 +262,11 @@ pub outside_reply : IsReply rule_grammar one_text (ask (has (span_to 2))) (codes
 outside_reply =
     reply (span_to 2) (codes "refused span 1\n")
     (refused_has (of_no_span (Category 0, refl) (inr (omega arith)) outside_is))
+
+pub outside_tree_reply : IsReply rule_grammar one_text (ask (tree (span_to 2))) (codes "refused span 1\n")
+outside_tree_reply =
+    tree_reply (span_to 2) (codes "refused span 1\n")
+    (refused_tree (of_no_span (Category 0, refl) (inr (omega arith)) outside_is))
 
 -- a question on tokens has the reply that is its answer
 tokens_reply : (span : TokenSpan) (line : List ℕ) →

@@ -4,7 +4,7 @@ use Rattle.std.proofs.lemmas.Fmt.{decimal_digit, decimal-digits_value}
 use Rattle.std.specs.Str.{IsAscii}
 use Rattle.std.proofs.lemmas.Str.Ascii.{IsAscii-from_all}
 use Rattle.std.proofs.lemmas.List.Elements.{All-from_recursion}
-use Rattle.spec_script.specs.Script.{question_form, Constituent, Query, has, tokens_in, Command, opens, ask, Part, header, grammar}
+use Rattle.spec_script.specs.Script.{question_form, Constituent, Query, has, tree, tokens_in, Command, opens, ask, Part, header, grammar}
 use Rattle.spec_script.specs.Script.{of_command, Script, with_grammar, as_parts, text_of}
 use Rattle.spec_script.specs.Script.{line_of, IsWord, IsNameable, IsWithinLimits, AreQuestions}
 use Rattle.spec_script.specs.Script.{MayFollow, BeginsWithParts, BeginsWithScript, EndsAs, Ending}
@@ -20,7 +20,7 @@ use Rattle.spec_session.specs.Checking.{lines_from, bare_form, check_mode}
 use Rattle.spec_session_cases.specs.Examples.{front, front_replies}
 use Rattle.spec_script.proofs.ScriptLemmas.{model}
 use Rattle.spec_session.proofs.RunLemmas.{AreTold, replies_told}
-use Rattle.spec_session_cases.proofs.GrammarExample.{rule_block, rule_grammar, accepted, one_token, are_tokens, one_text, category_s, category_t, span_to, entry_reply, category_reply, empty_reply, unknown_reply, outside_reply, all_tokens_reply, no_tokens_reply, tokens_outside_reply}
+use Rattle.spec_session_cases.proofs.GrammarExample.{rule_block, rule_grammar, accepted, one_token, are_tokens, one_text, category_s, category_t, span_to, entry_reply, category_reply, empty_reply, unknown_reply, outside_reply, all_tokens_reply, no_tokens_reply, tokens_outside_reply, backward_t, entry_tree_reply, no_tree_reply, unknown_tree_reply, outside_tree_reply}
 
 -- the answer to a question comes before those to others
 told : (query : Query) (line rest : List ℕ) (questions : List Command) →
@@ -214,6 +214,66 @@ token_session =
     token_questions_begin token_questions_told
     (record { more = []; early = omega arith; complete = tt; spelled = refl }) refl
 
+-- the bytes of a question on the tree of a span from 0 to one digit
+tree_text : (end : ℕ) → end < 10 → text_of (of_command (ask (tree (span_to end)))) ≡ codes "tree S 0 " ++ ((48 + end) ∷ 10 ∷ [])
+tree_text end small =
+    ap (λ digits. codes "tree S " ++ ((digits ++ (32 ∷ decimal end)) ++ 10 ∷ [])) (decimal_digit 0 (omega arith))
+    ∙ ap (λ digits. codes "tree S 0 " ++ (digits ++ 10 ∷ [])) (decimal_digit end small)
+
+-- which keeps the limits
+tree_within : (end : ℕ) → end < 10 → IsWithinLimits (of_command (ask (tree (span_to end))))
+tree_within end small =
+    let named : IsNameable (span_to end) = (word_s, omega arith, omega arith) in
+    let size = length-append (line_of (of_command (ask (tree (span_to end))))) (10 ∷ []) in
+    (named, omega (arith, ap length (tree_text end small), size))
+
+-- those of a question on the tree of a span that runs backwards
+backward_text : text_of (of_command (ask (tree backward_t))) ≡ codes "tree T 1 0\n"
+backward_text =
+    ap (λ digits. codes "tree T " ++ ((digits ++ (32 ∷ decimal 0)) ++ 10 ∷ [])) (decimal_digit 1 (omega arith))
+    ∙ ap (λ digits. codes "tree T 1 " ++ (digits ++ 10 ∷ [])) (decimal_digit 0 (omega arith))
+
+backward_within : IsWithinLimits (of_command (ask (tree backward_t)))
+backward_within =
+    let named : IsNameable backward_t = (word_t, omega arith, omega arith) in
+    let size = length-append (line_of (of_command (ask (tree backward_t)))) (10 ∷ []) in
+    (named, omega (arith, ap length backward_text, size))
+
+-- the questions on trees
+abbrev tree_questions : List Command
+tree_questions =
+    ask (tree EntryWhole) ∷ ask (tree (span_to 0)) ∷ ask (tree backward_t) ∷ ask (tree (span_to 2)) ∷ []
+
+-- their bytes
+tree_questions_begin : BeginsWithParts 38 (codes "tree\ntree S 0 0\ntree T 1 0\ntree S 0 2\nend\n") (as_parts tree_questions) 76 (codes "end\n")
+tree_questions_begin =
+    let end : List ℕ = codes "end\n" in
+    let fourth = next (of_command (ask (tree (span_to 2)))) (codes "tree S 0 2\n") 65 76 [] end end
+    (tree_text 2 (omega arith)) (omega arith) (tree_within 2 (omega arith)) (refl, refl) in
+    let third = next (of_command (ask (tree backward_t))) (codes "tree T 1 0\n") 54 76 (as_parts (drop 3 tree_questions)) (codes "tree S 0 2\nend\n") end
+    backward_text (omega arith) backward_within fourth in
+    let second = next (of_command (ask (tree (span_to 0)))) (codes "tree S 0 0\n") 43 76 (as_parts (drop 2 tree_questions)) (codes "tree T 1 0\ntree S 0 2\nend\n") end
+    (tree_text 0 (omega arith)) (omega arith) (tree_within 0 (omega arith)) third in
+    next (of_command (ask (tree EntryWhole))) (codes "tree\n") 38 76 (as_parts (drop 1 tree_questions)) (codes "tree S 0 0\ntree T 1 0\ntree S 0 2\nend\n") end
+    refl (omega arith) (tt, omega arith) second
+
+-- and their answers
+tree_questions_told : AreTold rule_grammar one_text tree_questions (codes "(A)\nnone\nrefused category\nrefused span 1\n")
+tree_questions_told =
+    let fourth = told (tree (span_to 2)) (codes "refused span 1\n") [] [] outside_tree_reply refl in
+    let third = told (tree backward_t) (codes "refused category\n") (codes "refused span 1\n") (drop 3 tree_questions) unknown_tree_reply fourth in
+    let second = told (tree (span_to 0)) (codes "none\n") (codes "refused category\nrefused span 1\n") (drop 2 tree_questions) no_tree_reply third in
+    told (tree EntryWhole) (codes "(A)\n") (codes "none\nrefused category\nrefused span 1\n") (drop 1 tree_questions) entry_tree_reply second
+
+-- each answer once, and the end
+pub tree_session : IsSession serve_mode
+    (front ++ codes "tree\ntree S 0 0\ntree T 1 0\ntree S 0 2\nend\n")
+    (front_replies ++ codes "(A)\nnone\nrefused category\nrefused span 1\nend\n") 0
+tree_session =
+    small_session tree_questions _ (codes "(A)\nnone\nrefused category\nrefused span 1\n") (codes "end\n") 76 (codes "end\n") ended tt
+    tree_questions_begin tree_questions_told
+    (record { more = []; early = omega arith; complete = tt; spelled = refl }) refl
+
 -- a second text is no question
 no_second : (part : Part) (more : List ℕ) → MayFollow question_form (script_with (ask (has category_s) ∷ [])) part →
     codes "open 1\na\nend\n" ≡ text_of part ++ more → ⊥
@@ -221,6 +281,7 @@ no_second header more in_place e = in_place
 no_second (grammar block) more in_place e = in_place
 no_second (of_command (opens text)) more in_place e = in_place
 no_second (of_command (ask (has constituent))) more in_place e = omega (arith, ap (λ bytes. get_or bytes 0 0) e)
+no_second (of_command (ask (tree constituent))) more in_place e = omega (arith, ap (λ bytes. get_or bytes 0 0) e)
 no_second (of_command (ask (tokens_in span))) more in_place e = omega (arith, ap (λ bytes. get_or bytes 0 0) e)
 
 -- a script that breaks at a place of two digits

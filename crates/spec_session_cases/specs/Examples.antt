@@ -43,6 +43,10 @@ pub record SmallSessions : Type 0 where
   pub token_session : IsSession serve_mode
       (front ++ codes "tokens\ntokens 1 1\ntokens 0 2\nend\n")
       (front_replies ++ codes "tokens 1 word:a\ntokens 0\nrefused span 1\nend\n") 0
+  -- the first tree of the entry, and none over an empty span; a category is looked for before a span
+  pub tree_session : IsSession serve_mode
+      (front ++ codes "tree\ntree S 0 0\ntree T 1 0\ntree S 0 2\nend\n")
+      (front_replies ++ codes "(A)\nnone\nrefused category\nrefused span 1\nend\n") 0
   -- a second text breaks the script behind the replies to what stands before it
   pub second_text : IsSession serve_mode (front ++ codes "has S\nopen 1\na\nend\n")
       (front_replies ++ codes "yes\nscript refused 44\n") 3

@@ -1,22 +1,21 @@
 -- A longest match in a UTF-8 text ends where the text goes on as UTF-8.
-use Rattle.std.proofs.Common.{◌≡◌, ℕ, ◌+◌, ◌<◌, ◌≤◌, List, [], ◌∷◌, ◌++◌, length, drop, get_or, map, Bool, true, false, All, nat_eq, refl, sym, ◌∙◌, ap, subst, arith, append_assoc, length-append}
+use Rattle.std.proofs.Common.{◌≡◌, ℕ, ◌+◌, ◌<◌, ◌≤◌, List, [], ◌∷◌, ◌++◌, length, get_or, map, Bool, true, false, All, nat_eq, refl, sym, ◌∙◌, ap, subst, arith, append_assoc, length-append}
 use Rattle.std.specs.Str.{IsUtf8, IsCharBoundary}
 use Rattle.std.proofs.lemmas.Bool.{eqb-true}
 use Rattle.std.proofs.lemmas.Bool.Decides.{nat_tests}
 use Rattle.std.proofs.lemmas.List.{drop_at, append-nil}
-use Rattle.std.proofs.lemmas.List.Elements.{All-cons, All-append, All-map, All-push, All-nil, All-head, All-tail, All-weaker}
+use Rattle.std.proofs.lemmas.List.Elements.{All-cons, All-append, All-map, All-push, All-nil, All-head, All-tail}
 use Rattle.std.proofs.lemmas.Str.{encode_ascii, IsUtf8-nil, IsUtf8-past_char, IsUtf8-drop, IsCharBoundary-before_ascii, IsCharBoundary-start}
-use Rattle.spec_text.specs.Bytes.{is_white}
 use Rattle.spec_lexing.specs.declared.kind_def.KindDef.{KindDef}
 use Rattle.spec_lexing.specs.declared.kind_def.KindDef.TheVariants.{Word, Token as TokenDef}
 use Rattle.spec_lexing.specs.Classes.{IsSoundDef}
 use Rattle.spec_lexing.specs.Expressions.{expression_of}
 use Rattle.spec_lexing.specs.Lexicon.{Lexicon}
-use Rattle.spec_lexing.specs.Kinds.{LexKind, white, line_comment, block_comment, symbol, EndsFirst, MatchesDef, MatchesKind, numbered_from, lex_kinds}
+use Rattle.spec_lexing.specs.Kinds.{LexKind, white, line_comment, block_comment, symbol, MatchesDef, MatchesKind, numbered_from, lex_kinds}
 use Rattle.spec_automata.specs.Encoding.{IsSoundKind}
 use Rattle.spec_automata.proofs.EncodingLemmas.{reads, spells}
 use Rattle.spec_automata.proofs.ScalarLemmas.{behind_text}
-use Rattle.text_store.specs.TextStore.{AreUtf8, IsSoundForTexts}
+use Rattle.text_store.specs.TextStore.{IsSoundForTexts}
 
 -- the kind is sound, and the words of a comment are UTF-8
 abbrev pub IsCutKind : LexKind → Type 0

@@ -1,19 +1,17 @@
 -- What an automaton accepts of a text is the longest match of the least kind, and so the tokens that are
 -- read by it are those of the text.
-use Rattle.std.proofs.Common.{inl, inr, ◌≡◌, ◌≢◌, ℕ, suc, zero, ◌+◌, ◌-◌, ◌<◌, ◌≤◌, List, [], ◌∷◌, ◌++◌, length, take, drop, get_or, map, All, Option, Some, None, Bool, true, false, cond, nat_eq, nat_le, slice_get, slice_index_or, slice_range, MatchOption, refl, sym, ◌∙◌, ap, subst, arith, length-take, length-drop, length-append}
-use Rattle.std.specs.List.{cons_option}
+use Rattle.std.proofs.Common.{inl, inr, ◌≡◌, ◌≢◌, ℕ, suc, zero, ◌+◌, ◌-◌, ◌<◌, ◌≤◌, List, [], ◌∷◌, ◌++◌, length, take, drop, get_or, All, Option, Some, None, Bool, true, false, cond, nat_eq, nat_le, slice_get, slice_index_or, slice_range, refl, sym, ◌∙◌, ap, subst, arith, length-drop}
 use Rattle.std.specs.Option.{option_map}
 use Rattle.std.specs.Str.{IsUtf8}
 use Rattle.std.proofs.lemmas.List.{take-append-drop, length-take-le, take_more, drop_more, drop-drop}
 use Rattle.std.proofs.lemmas.List.Elements.{All-weaker, All-take, All-tail, All-head}
 use Rattle.std.proofs.lemmas.Option.{none-some, same_Some}
-use Rattle.spec_lexing.specs.declared.token.Token.{Token}
 use Rattle.spec_lexing.specs.Lexicon.{Lexicon}
 use Rattle.spec_lexing.specs.LongestMatch.{IsLongestMatch, IsUnmatched}
 use Rattle.spec_lexing.specs.Kinds.{LexKind, white, line_comment, block_comment, symbol, MatchesKind, token_kind, lex_kinds}
 use Rattle.spec_lexing.specs.Tokens.{scalar_end}
 use Rattle.spec_lexing.proofs.TokensLemmas.{skips, keeps, strays}
-use Rattle.spec_automata.specs.ByteExpressions.{ByteExpression, MatchesBytes}
+use Rattle.spec_automata.specs.ByteExpressions.{MatchesBytes}
 use Rattle.spec_automata.specs.Encoding.{bytes_of_kind, bytes_of_kinds, IsSoundKind}
 use Rattle.spec_automata.specs.Positions.{HasPosition}
 use Rattle.spec_automata.specs.States.{AreBytes}

@@ -3,3 +3,6 @@ pub mod ScalarTextLemmas
 pub mod KindEndLemmas
 pub mod LexingLemmas
 pub mod TextLemmas
+pub mod TrimmingLemmas
+pub mod TokenEditLemmas
+pub mod EditLemmas

@@ -1,13 +1,13 @@
 -- Where a UTF-8 text may be cut, and that it is of bytes.
-use Rattle.std.proofs.Common.{inl, inr, ◌≡◌, ℕ, suc, zero, ◌+◌, ◌-◌, ◌/◌, ◌%◌, ◌<◌, ◌≤◌, List, [], ◌∷◌, ◌++◌, length, take, drop, get_or, min, true, All, slice_index, slice_range, refl, sym, ◌∙◌, ap, subst, arith, length-take, length-drop, length-append}
+use Rattle.std.proofs.Common.{inl, inr, ◌≡◌, ℕ, ◌+◌, ◌-◌, ◌/◌, ◌%◌, ◌<◌, ◌≤◌, List, [], ◌∷◌, ◌++◌, length, drop, min, true, slice_index, slice_range, refl, sym, ◌∙◌, ap, subst, arith, length-drop, length-append}
 use Rattle.std.specs.Char.{IsScalar, encode_utf8}
-use Rattle.std.specs.Str.{IsUtf8, IsCharBoundary}
+use Rattle.std.specs.Str.{IsUtf8}
 use lib.Utf8.{scalar, scalars, encodes}
 use Rattle.std.proofs.lemmas.Bool.{cases_lt, and_parts}
 use Rattle.std.proofs.lemmas.Bool.Decides.{nat_tests}
-use Rattle.std.proofs.lemmas.List.{take_rest, take-append-drop, drop_more, drop-drop, take_at, drop_at, append-nil}
+use Rattle.std.proofs.lemmas.List.{drop_more, drop-drop, drop_at}
 use Rattle.std.proofs.lemmas.List.Elements.{All-from_recursion, All-append, All-nil}
-use Rattle.std.proofs.lemmas.Str.{encode_ascii, IsUtf8-past_char, IsUtf8-between, IsCharBoundary-from_drop, IsUtf8-drop, IsUtf8-encode}
+use Rattle.std.proofs.lemmas.Str.{encode_ascii, IsUtf8-past_char, IsUtf8-between, IsCharBoundary-from_drop}
 use Rattle.spec_text.specs.Scalars.{scalar_len}
 use Rattle.spec_text.proofs.ScalarsLemmas.{encode_two, encode_three, encode_four, has_length}
 use Rattle.spec_lexing.specs.Tokens.{scalar_end}

@@ -1,5 +1,5 @@
 -- The tokens of a text as they are read one by one, and what opening a text answers.
-use Rattle.std.proofs.Common.{inl, inr, ◌≡◌, ℕ, suc, zero, ◌+◌, ◌<◌, ◌≤◌, List, [], ◌∷◌, ◌++◌, length, drop, All, Option, Some, None, Result, Ok, Err, IfSome, IsErrAnd, MatchResult, get_or, slice_get, slice_range, refl, sym, ◌∙◌, ap, subst, arith, append_assoc, length-append}
+use Rattle.std.proofs.Common.{inl, inr, ◌≡◌, ℕ, ◌<◌, ◌≤◌, List, [], ◌∷◌, ◌++◌, length, drop, All, Option, Some, None, Result, Ok, Err, IfSome, IsErrAnd, MatchResult, get_or, slice_get, slice_range, refl, sym, ◌∙◌, ap, subst, arith, append_assoc, length-append}
 use Rattle.std.specs.Coded.{Coded-set, coded_list}
 use Rattle.std.specs.List.{cons_option}
 use Rattle.std.specs.Option.{option_map}
@@ -11,6 +11,7 @@ use Rattle.std.proofs.lemmas.List.{append-nil}
 use Rattle.std.proofs.lemmas.List.Elements.{All-nil, All-cons, All-append, All-same}
 use Rattle.std.proofs.lemmas.Option.{slice_get-get_or}
 use Rattle.std.proofs.lemmas.Str.{IsUtf8-had}
+use Rattle.spec_text.specs.declared.limits.TheConstants.{MAX_TOKENS}
 use Rattle.spec_lexing.specs.declared.token.Token.{Token}
 use Rattle.spec_lexing.specs.contracts.token.Token.{the_row as token_row}
 use Rattle.spec_lexing.specs.Lexicon.{Lexicon}
@@ -23,7 +24,7 @@ use Rattle.lbnf_regex.specs.Automata.{Machine}
 use Rattle.text_store.specs.declared.fault.EditFault.{EditFault}
 use Rattle.text_store.specs.declared.fault.EditFault.TheVariants.{Memory, Range, FullText, NotUtf8, FullTokens}
 use Rattle.text_store.specs.declared.lexing.Lexeme.{Lexeme}
-use Rattle.text_store.specs.TextStore.{TextValue, FitText, IsSoundAutomatonOf, Lexes, OpensBytes, OpensTokens, token_bytes}
+use Rattle.text_store.specs.TextStore.{TextValue, FitText, IsSoundAutomatonOf, Lexes, LiesIn, OpensBytes, OpensTokens, token_bytes}
 use Rattle.text_store.specs.Lexing.{AreTokensBehind, IsTokenIn, MayKeep, Spans, IsLexeme, IsNotKept, IsLexerFault, HasTooMany, IsBytesFault}
 use Rattle.text_store.proofs.ScalarTextLemmas.{utf8_between}
 
@@ -184,6 +185,28 @@ pub opened_tokens : (lexicon : Lexicon) (a : Machine) (bytes : List ℕ) (tokens
     AreTokensOf lexicon bytes tokens
 opened_tokens lexicon a bytes tokens are lexed = had_tokens lexicon bytes tokens (∥∥₁_map lexed are)
 
+-- the same where the text is seen as other bytes, which are equal
+module _ (lexicon : Lexicon) (a : Machine) (bytes own : List ℕ) (is : own ≡ bytes) (lexed : Lexes lexicon a) where
+  pub seen_stops : (fault : EditFault) → (IsSoundAutomatonOf lexicon a → HasTooMany lexicon own fault) →
+      OpensTokens lexicon bytes (Err fault)
+  seen_stops fault many =
+      subst (λ (b : List ℕ). OpensTokens lexicon b (Err fault)) is (stops_full lexicon a own fault many lexed)
+
+  pub seen_tokens : (tokens : List Token) → (IsSoundAutomatonOf lexicon a → AreTokensBehind lexicon own 0 tokens) →
+      AreTokensOf lexicon bytes tokens
+  seen_tokens tokens are =
+      subst (λ (b : List ℕ). AreTokensOf lexicon b tokens) is (opened_tokens lexicon a own tokens are lexed)
+
+-- bytes and tokens that were read may be kept
+pub read_kept : (bytes own : List ℕ) (tokens : List Token) → own ≡ bytes → FitText bytes →
+    length tokens ≤ MAX_TOKENS → All (IsTokenIn own) tokens → MayKeep bytes tokens
+read_kept bytes own tokens is fit few within = (
+  fit.few,
+  few,
+  subst (λ (b : List ℕ). All (IsTokenIn b) tokens) is within,
+  ∣ fit.utf8 ∣₁,
+)
+
 -- a fault that is known
 pub at_fault : {T : Type 0} → (P : T → Type 0) (Q : EditFault → Type 0) (fault : EditFault) (r : Result T EditFault) →
     IsErrAnd r (λ x. x ≡ fault) → Q fault → MatchResult r P Q
@@ -210,6 +233,12 @@ token_utf8 bytes tokens i token kept within is =
     let there : IsTokenIn bytes (get_or tokens i token) = kept.2 i token within in
     IsUtf8-had (token_bytes bytes token)
     (subst (λ (t : Token). ∥ IsUtf8 (token_bytes bytes t) ∥₁) (sym is) there.2)
+
+-- the tokens that are kept lie in the bytes
+pub tokens_lie_in : (bytes : List ℕ) (tokens : List Token) → MayKeep bytes tokens → All (LiesIn bytes) tokens
+tokens_lie_in bytes tokens kept k d below =
+    let there : IsTokenIn bytes (get_or tokens k d) = kept.2 k d below in
+    (there.0, there.1)
 
 -- what is told of the token at a place
 pub token_told : (bytes : List ℕ) (tokens : List Token) (i : ℕ) (token : Token) (name : List ℕ) → i < length tokens →

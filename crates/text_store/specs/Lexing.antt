@@ -1,5 +1,5 @@
 -- Serves the proofs alone: what an automaton accepts at a place, and what the lexer makes of it.
-use Rattle.std.specs.Prelude.{◌≡◌, ℕ, ◌<◌, ◌≤◌, List, [], ◌∷◌, ◌++◌, length, take, drop, All, IsUtf8}
+use Rattle.std.specs.Prelude.{◌≡◌, ℕ, ◌<◌, ◌≤◌, List, length, take, drop, All, IsUtf8}
 use Rattle.std.specs.Prelude.{Option, Some, None, MatchOption, slice_index_or}
 use Rattle.std.specs.List.{cons_option}
 use Rattle.std.specs.Option.{option_map}
@@ -18,6 +18,7 @@ use Rattle.text_store.specs.declared.limits.TheConstants.{MAX_BYTES}
 use Rattle.text_store.specs.declared.fronts.Front.{Front}
 use Rattle.text_store.specs.declared.lexing.Lexeme.{Lexeme}
 use Rattle.text_store.specs.TextStore.{token_bytes}
+use Rattle.text_store.specs.TextEdits.{IsCutAt}
 
 -- the kind that the automaton accepts in this state, if there is a state
 abbrev pub kind_in : Machine → Option ℕ → Option Kind
@@ -62,10 +63,12 @@ IsTokenIn bytes token =
     (token.first ≤ token.end) × (token.end ≤ length bytes)
     × ∥ IsUtf8 (token_bytes bytes token) ∥₁
 
--- a text may keep the bytes and the tokens: neither are too many, and each token is one in the bytes
+-- a text may keep the bytes and the tokens: they are UTF-8, neither are too many, and each token is
+-- one in the bytes
 abbrev pub MayKeep : List ℕ → List Token → Type 0
 MayKeep bytes tokens =
     (length bytes ≤ MAX_BYTES) × (length tokens ≤ MAX_TOKENS) × All (IsTokenIn bytes) tokens
+    × ∥ IsUtf8 bytes ∥₁
 
 -- the token has the bytes from start up to end
 abbrev pub Spans : ℕ → ℕ → Token → Type 0
@@ -104,3 +107,8 @@ IsBytesFault bytes (FullText count) = (MAX_BYTES < length bytes) × (count ≡ l
 IsBytesFault bytes (NotUtf8 at) =
     (length bytes ≤ MAX_BYTES) × (at ≡ utf8_valid_len bytes) × (at < length bytes)
 IsBytesFault bytes other = ⊥
+
+-- an edit cuts no scalar of the old bytes, and inserts UTF-8, but for this place
+abbrev pub IsCutFault : List ℕ → ℕ → ℕ → List ℕ → EditFault → Type 0
+IsCutFault old at deleted inserted (NotUtf8 place) = IsCutAt old at deleted inserted place
+IsCutFault old at deleted inserted other = ⊥

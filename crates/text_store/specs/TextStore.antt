@@ -23,6 +23,10 @@ pub record TextValue : Type 0 where
 abbrev pub token_bytes : List ℕ → Token → List ℕ
 token_bytes bytes token = slice_range bytes token.first token.end
 
+-- the token's own bytes lie in these
+abbrev pub LiesIn : List ℕ → Token → Type 0
+LiesIn bytes token = (token.first ≤ token.end) × (token.end ≤ length bytes)
+
 -- both words are UTF-8
 abbrev pub AreUtf8 : List ℕ × List ℕ → Type 0
 AreUtf8 words = IsUtf8 words.0 × IsUtf8 words.1

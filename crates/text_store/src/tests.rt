@@ -46,7 +46,7 @@ fn words(alloc: Global, texts: &[&str]) -> Result<Vec<KindDef>, AllocError>
 
 /// The automaton of these words, of line comments behind `--`, and of block comments between `{-`
 /// and `-}`.
-fn lexer(alloc: Global, texts: &[&str]) -> Result<Automaton, Fail>
+pub(crate) fn lexer(alloc: Global, texts: &[&str]) -> Result<Automaton, Fail>
     ensures { IfOk result (λ a. (lexicon : Lexicon) × Lexes lexicon a) }
 {
     let lines = [name(alloc, "--")?];
@@ -69,7 +69,7 @@ fn open(alloc: Global, texts: &[&str], bytes: &[u8]) -> Result<Result<Text, Edit
 }
 
 /// The same, where there is one.
-fn opened(alloc: Global, texts: &[&str], text: &str) -> Result<Text, Fail> {
+pub(crate) fn opened(alloc: Global, texts: &[&str], text: &str) -> Result<Text, Fail> {
     match open(alloc, texts, text.as_bytes())? {
         Ok(text) => Ok(text),
         Err(_) => Err("a text that is opened".into()),

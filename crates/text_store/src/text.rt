@@ -1,15 +1,18 @@
 //! A text that keeps its tokens.
 ghost use Rattle.std.specs.Prelude.{◌≡◌, ◌<◌, length, slice_get, slice_range, IsUtf8, Some, IfOk};
-ghost use Rattle.std.specs.Prelude.{MatchResult};
+ghost use Rattle.std.specs.Prelude.{All, IfErr, MatchResult};
 ghost use Rattle.std.specs.Option.{option_map};
 ghost use Rattle.spec_lexing.specs.Lexicon.{Lexicon};
 ghost use Rattle.spec_lexing.specs.Tokens.{kinds_of};
-ghost use Rattle.text_store.specs.TextStore.{FitText, Lexes, OpensBytes, OpensTokens, token_bytes};
-ghost use Rattle.text_store.specs.Lexing.{IsBytesFault};
+ghost use Rattle.text_store.specs.TextStore.{FitText, Lexes, LiesIn, OpensBytes, OpensTokens};
+ghost use Rattle.text_store.specs.TextStore.{token_bytes};
+ghost use Rattle.text_store.specs.TokenEdits.{IsTrimmedEdit};
+ghost use Rattle.text_store.specs.Lexing.{IsBytesFault, IsLexerFault};
 
 use crate::fault::EditFault;
 use crate::lexing::tokens_of;
 use crate::limits::MAX_BYTES;
+use crate::token_edit::{TokenEdit, token_edit};
 use lbnf_regex::Automaton;
 use spec_lexing::Token;
 use spec_text::Name;
@@ -69,9 +72,34 @@ impl Text {
             → OpensTokens lexicon bytes.now result }
     {
         check_bytes(bytes)?;
-        let tokens = tokens_of(alloc, automaton, bytes)?;
         let bytes = Vec::from_slice(alloc, bytes)?;
+        Text::lexed(alloc, automaton, bytes)
+    }
+
+    /// The text of these bytes, which are kept, with its tokens.
+    pub(crate) fn lexed(
+        alloc: Global,
+        automaton: &Automaton,
+        bytes: Vec<u8>,
+    ) -> Result<Text, EditFault>
+        requires fit { FitText bytes.items }
+        requires lexed { (lexicon : Lexicon) × Lexes lexicon automaton.now }
+        ensures bytes { IfOk result (λ text. text.bytes ≡ bytes.items) }
+        ensures tokens { (lexicon : Lexicon) → Lexes lexicon automaton.now
+            → OpensTokens lexicon bytes.items result }
+        ensures err { IfErr result IsLexerFault }
+    {
+        let tokens = tokens_of(alloc, automaton, bytes.as_slice())?;
         Ok(Text { bytes, tokens })
+    }
+
+    /// The bytes. It takes no memory.
+    pub fn bytes(&self) -> &[u8]
+        ensures bytes { result.now ≡ self.now.bytes }
+        ensures utf8 { ∥ IsUtf8 self.now.bytes ∥₁ }
+        ensures tokens { All (LiesIn self.now.bytes) self.now.tokens }
+    {
+        self.bytes.as_slice()
     }
 
     /// How many bytes there are. It takes no memory.
@@ -122,6 +150,14 @@ impl Text {
         ensures { result.now ≡ self.now.tokens }
     {
         self.tokens.as_slice()
+    }
+
+    /// What one has to do to the kinds of this text's tokens to get those of the other.
+    pub(crate) fn edit_to(&self, alloc: Global, other: &Text) -> Result<TokenEdit, AllocError>
+        ensures { IfOk result
+            (IsTrimmedEdit (kinds_of self.now.tokens) (kinds_of other.now.tokens)) }
+    {
+        token_edit(alloc, self.tokens.as_slice(), other.tokens.as_slice())
     }
 
     /// The kind of each token, None for a stray one: what a chart is filled from.

@@ -39,8 +39,8 @@ head_tree (trees t ts) = t
 abbrev pub tree_of : List TreeNode → Tree
 tree_of nodes = head_tree (forest_of nodes no_trees)
 
--- trees before others
 infixr 20 ◌before◌
+-- trees before others
 abbrev pub ◌before◌ : Forest → Forest → Forest
 no_trees before behind = behind
 (trees t ts) before behind = trees t (ts before behind)
@@ -70,7 +70,9 @@ mutual
       (t : Tree) (behind : Forest) → forest_of (preorder t) behind ≡ trees t behind
   forest_of-preorder (leaf kind first end) behind = refl
   forest_of-preorder (node r first end subtrees) behind =
-      rw (forest_of-forest_preorder subtrees behind, front_trees-before subtrees behind, back_trees-before subtrees behind) refl
+      let all = forest_of-forest_preorder subtrees behind in
+      let front = front_trees-before subtrees behind in
+      rw (all, front, back_trees-before subtrees behind) refl
 
   -- and so do those of trees side by side
   pub forest_of-forest_preorder :

@@ -245,6 +245,44 @@ fn a_product_is_made_by_items_and_the_suffixes_behind_them(rt: HostRuntime) -> R
 }
 
 #[test]
+fn an_item_is_left_of_the_suffix_behind_it(rt: HostRuntime) -> Result<(), Fail> {
+    let cases: [(Sample, &[u16], &[u16]); 10] = [
+        (TRIPLES, &[3], &[0]),
+        (TRIPLES, &[0, 3, 4], &[0]),
+        (TRIPLES, &[0, 1, 2, 5], &[]),
+        (BRACKETS, &[4], &[1]),
+        (BRACKETS, &[5], &[0]),
+        (BRACKETS, &[2, 4, 5], &[0, 1]),
+        (BRACKETS, &[0, 1, 2, 3], &[]),
+        (PAIRS, &[0, 2, 4, 5], &[1]),
+        (PAIRS, &[6], &[]),
+        (NOTHING, &[], &[]),
+    ];
+    for (sample, right, want) in cases {
+        let form = sample_form(rt.alloc(), sample).ok_or("a form")?;
+        let right: ListCell = cell_of(rt.alloc(), &form, right)?;
+        let partners: ListCell = form.left_partners(rt.alloc(), &right)?;
+        assert_eq!(rt; partners.as_slice(), want, "at {sample:?}, {want:?}");
+    }
+    Ok(())
+}
+
+#[test]
+fn items_with_an_item_behind_are_on_the_left(rt: HostRuntime) -> Result<(), Fail> {
+    let cases: [(Sample, &[u16]); 4] = [
+        (TRIPLES, &[0]),
+        (BRACKETS, &[0, 1]),
+        (PAIRS, &[1]),
+        (NOTHING, &[]),
+    ];
+    for (sample, want) in cases {
+        let form = sample_form(rt.alloc(), sample).ok_or("a form")?;
+        assert_eq!(rt; form.left_symbols().as_slice(), want, "at {sample:?}");
+    }
+    Ok(())
+}
+
+#[test]
 fn tokens_meet_where_their_product_is_not_empty(rt: HostRuntime) -> Result<(), Fail> {
     for sample in [TRIPLES, BRACKETS, PAIRS, NOTHING] {
         let form = sample_form(rt.alloc(), sample).ok_or("a form")?;

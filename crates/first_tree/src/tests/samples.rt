@@ -31,6 +31,22 @@ pub const TRIPLES: Sample = (1, 1, &[(0, &[S, S, S]), (0, &[FIRST])]);
 /// `S ::= A B`, `A ::=`, `B ::=`, `A ::= a`.
 pub const PAIRS: Sample = (3, 1, &[(0, &[A, B]), (1, EMPTY), (2, EMPTY), (1, &[FIRST])]);
 
+/// `S ::= a S`, `S ::= A`, `S ::=`, `A ::=`.
+pub const NULLABLES: Sample = (2, 1, &[(0, &[FIRST, S]), (0, &[A]), (0, EMPTY), (1, EMPTY)]);
+
+/// `S ::= A B`, `A ::=`, `A ::= a`, `B ::= a`, `B ::=`: one of the siblings is empty.
+pub const SIBLINGS: Sample = (
+    3,
+    1,
+    &[
+        (0, &[A, B]),
+        (1, EMPTY),
+        (1, &[FIRST]),
+        (2, &[FIRST]),
+        (2, EMPTY),
+    ],
+);
+
 /// Statements `S ::= skip`, and lists `A ::=`, `A ::= S ; A` of them.
 pub const LISTS: Sample = (2, 2, &[(0, &[FIRST]), (1, EMPTY), (1, &[S, SECOND, A])]);
 
@@ -49,7 +65,7 @@ pub const SUMS: Sample = (
     ],
 );
 
-fn names(alloc: Global, count: u16) -> Option<Vec<Name>> {
+pub fn names(alloc: Global, count: u16) -> Option<Vec<Name>> {
     let mut names = Vec::new(alloc);
     for number in 0..count {
         let text = format!(in alloc; "{number}").ok()?;

@@ -1,5 +1,5 @@
 //! Differences of token expressions, good and bad, with answers by hand.
-use super::files::answer_to;
+use super::files::tells;
 use std::test::*;
 
 /// Files with differences.
@@ -46,9 +46,5 @@ const DIFFERENCES: &[(&str, &str)] = &[
 
 #[test]
 fn a_difference_is_one_of_a_class_and_an_ascii_class(rt: HostRuntime) -> Result<(), Fail> {
-    for (text, want) in DIFFERENCES {
-        let answer = answer_to(rt.alloc(), text.as_bytes())?;
-        assert_eq!(rt; answer.as_str(), *want, "at {text:?}");
-    }
-    Ok(())
+    tells(&rt, rt.alloc(), DIFFERENCES)
 }

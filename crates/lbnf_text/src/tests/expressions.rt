@@ -1,5 +1,5 @@
 //! What token expressions give, and where they cannot go on, with answers by hand.
-use super::files::answer_to;
+use super::files::{answer_to, tells};
 use super::forms::shown;
 use spec_lexing::{Class, Expr};
 use std::alloc::{AllocError, Global};
@@ -197,11 +197,7 @@ const STOPS: &[(&str, &str)] = &[
 
 #[test]
 fn expressions_and_comments_that_cannot_go_on(rt: HostRuntime) -> Result<(), Fail> {
-    for (text, want) in STOPS {
-        let answer = answer_to(rt.alloc(), text.as_bytes())?;
-        assert_eq!(rt; answer.as_str(), *want, "at {text:?}");
-    }
-    Ok(())
+    tells(&rt, rt.alloc(), STOPS)
 }
 
 /// The file `token T`, an atom, and so often before it and behind it.
@@ -224,30 +220,41 @@ fn around(
     Ok(text)
 }
 
+/// What stands before an atom, the atom, what stands behind it, and how often both do; and what is
+/// told of such a file.
+type Around = (
+    &'static str,
+    &'static str,
+    &'static str,
+    usize,
+    &'static str,
+);
+
+const LIMITS: &[Around] = &[
+    ("(", "'a'", ")", 64, "defs 1"),
+    ("(", "'a'", ")", 65, "syntax 72"),
+    ("('a')", "'a'", "", 66, "defs 1"),
+    ("(", "[\"a\"]", ")", 64, "defs 1"),
+    ("", "'a'", "*", 8, "defs 1"),
+    ("", "'a'", "*", 9, "syntax 19"),
+    ("", "'a'", "?+", 4, "defs 1"),
+    ("", "'a'", "?+", 5, "syntax 19"),
+    ("", "('a'********)", "+", 8, "defs 1"),
+    ("", "char", "-'a'", 8, "defs 1"),
+    ("", "char", "-'a'", 9, "syntax 44"),
+    ("", "'b'", "|char-'a'", 9, "defs 1"),
+    ("", "(char-'a'-'b')", "-'c'", 8, "defs 1"),
+    ("(", "char-'a'", ")-'b'", 8, "defs 1"),
+];
+
 #[test]
 fn expressions_at_their_limits(rt: HostRuntime) -> Result<(), Fail> {
-    let cases = [
-        ("(", "'a'", ")", 64, "defs 1"),
-        ("(", "'a'", ")", 65, "syntax 72"),
-        ("('a')", "'a'", "", 66, "defs 1"),
-        ("(", "[\"a\"]", ")", 64, "defs 1"),
-        ("", "'a'", "*", 8, "defs 1"),
-        ("", "'a'", "*", 9, "syntax 19"),
-        ("", "'a'", "?+", 4, "defs 1"),
-        ("", "'a'", "?+", 5, "syntax 19"),
-        ("", "('a'********)", "+", 8, "defs 1"),
-        ("", "char", "-'a'", 8, "defs 1"),
-        ("", "char", "-'a'", 9, "syntax 44"),
-        ("", "'b'", "|char-'a'", 9, "defs 1"),
-        ("", "(char-'a'-'b')", "-'c'", 8, "defs 1"),
-        ("(", "char-'a'", ")-'b'", 8, "defs 1"),
-    ];
-    for (before, atom, behind, count, want) in cases {
-        let text = around(rt.alloc(), before, atom, behind, count)?;
+    for (before, atom, behind, count, want) in LIMITS {
+        let text = around(rt.alloc(), before, atom, behind, *count)?;
         let answer = answer_to(rt.alloc(), text.as_slice())?;
         assert_eq!(rt;
             answer.as_str(),
-            want,
+            *want,
             "{count} of {before:?} and {behind:?}"
         );
     }

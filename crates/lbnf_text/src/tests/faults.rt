@@ -1,7 +1,6 @@
 //! Grammar files that cannot be read, by sorts of fault, and near ones that can, with answers by
 //! hand.
-use super::files::answer_to;
-use std::alloc::{AllocError, Global};
+use super::files::{answer_to, tells};
 use std::test::*;
 
 /// Files with strings and characters.
@@ -42,41 +41,35 @@ const LITERALS: &[(&str, &str)] = &[
 
 #[test]
 fn literals_without_their_end_or_with_a_wrong_part(rt: HostRuntime) -> Result<(), Fail> {
-    for (text, want) in LITERALS {
-        let answer = answer_to(rt.alloc(), text.as_bytes())?;
-        assert_eq!(rt; answer.as_str(), *want, "at {text:?}");
-    }
-    Ok(())
+    tells(&rt, rt.alloc(), LITERALS)
 }
+
+/// Files with numbers.
+const NUMBERS: &[(&str, &str)] = &[
+    ("coercions E 9999 ;", "defs 1"),
+    ("coercions E 10000 ;", "syntax 12"),
+    ("coercions E 0000 ;", "defs 1"),
+    ("coercions E 00000 ;", "syntax 12"),
+    ("coercions E 02 ;", "defs 1"),
+    ("coercions E 1a ;", "syntax 13"),
+    ("coercions E 1A ;", "syntax 13"),
+    ("coercions E 12\"w\" ;", "syntax 14"),
+    ("coercions E 1 2 ;", "syntax 14"),
+    ("coercions E 3, ;", "syntax 13"),
+    ("coercions E 1_ ;", "syntax 13"),
+    ("12 ;", "syntax 0"),
+    ("12345 ;", "syntax 0"),
+    ("S 1 ;", "syntax 2"),
+    ("S. 1 ::= ;", "syntax 3"),
+    ("S. S ::= A 1 ;", "syntax 11"),
+    ("coercions E -1 ;", "syntax 12"),
+    ("coercions E 1.5 ;", "syntax 13"),
+    ("S. S ::= 1A ;", "syntax 9"),
+];
 
 #[test]
 fn numbers_of_more_than_four_digits_and_out_of_place(rt: HostRuntime) -> Result<(), Fail> {
-    let cases = [
-        ("coercions E 9999 ;", "defs 1"),
-        ("coercions E 10000 ;", "syntax 12"),
-        ("coercions E 0000 ;", "defs 1"),
-        ("coercions E 00000 ;", "syntax 12"),
-        ("coercions E 02 ;", "defs 1"),
-        ("coercions E 1a ;", "syntax 13"),
-        ("coercions E 1A ;", "syntax 13"),
-        ("coercions E 12\"w\" ;", "syntax 14"),
-        ("coercions E 1 2 ;", "syntax 14"),
-        ("coercions E 3, ;", "syntax 13"),
-        ("coercions E 1_ ;", "syntax 13"),
-        ("12 ;", "syntax 0"),
-        ("12345 ;", "syntax 0"),
-        ("S 1 ;", "syntax 2"),
-        ("S. 1 ::= ;", "syntax 3"),
-        ("S. S ::= A 1 ;", "syntax 11"),
-        ("coercions E -1 ;", "syntax 12"),
-        ("coercions E 1.5 ;", "syntax 13"),
-        ("S. S ::= 1A ;", "syntax 9"),
-    ];
-    for (text, want) in cases {
-        let answer = answer_to(rt.alloc(), text.as_bytes())?;
-        assert_eq!(rt; answer.as_str(), want, "at {text:?}");
-    }
-    Ok(())
+    tells(&rt, rt.alloc(), NUMBERS)
 }
 
 /// Files with comments and white bytes.
@@ -122,102 +115,92 @@ const COMMENTS: &[(&str, &str)] = &[
 
 #[test]
 fn comments_and_white_bytes(rt: HostRuntime) -> Result<(), Fail> {
-    for (text, want) in COMMENTS {
-        let answer = answer_to(rt.alloc(), text.as_bytes())?;
-        assert_eq!(rt; answer.as_str(), *want, "at {text:?}");
-    }
-    Ok(())
+    tells(&rt, rt.alloc(), COMMENTS)
 }
+
+/// Files with scalars that begin no token.
+const SCALARS: &[(&str, &str)] = &[
+    ("\u{feff}S. S ::= ;", "syntax 0"),
+    ("\x00", "syntax 0"),
+    ("S. S ::= \u{e9} ;", "syntax 9"),
+    ("S. S ::= A\u{e9} ;", "syntax 10"),
+    ("S. S ::= A\u{a0}B ;", "syntax 10"),
+    ("S. S ::= ~ ;", "syntax 9"),
+    ("S. S ::= # ;", "syntax 9"),
+    ("S. S ::= / ;", "syntax 9"),
+    ("S. S ::= \\ ;", "syntax 9"),
+    ("S. S = A ;", "syntax 5"),
+    ("S. S ::= = A ;", "syntax 9"),
+    ("S. S ::= \x7f ;", "syntax 9"),
+    ("S. S ::= \x08 ;", "syntax 9"),
+    ("S. S ::= ; $", "syntax 11"),
+    ("S @", "syntax 2"),
+    ("S. S ::= ; \u{20ac}", "syntax 11"),
+    ("S. S ::= A \u{1f600}", "syntax 11"),
+    ("internal &", "syntax 9"),
+];
 
 #[test]
 fn scalars_that_begin_no_token(rt: HostRuntime) -> Result<(), Fail> {
-    let cases = [
-        ("\u{feff}S. S ::= ;", "syntax 0"),
-        ("\x00", "syntax 0"),
-        ("S. S ::= \u{e9} ;", "syntax 9"),
-        ("S. S ::= A\u{e9} ;", "syntax 10"),
-        ("S. S ::= A\u{a0}B ;", "syntax 10"),
-        ("S. S ::= ~ ;", "syntax 9"),
-        ("S. S ::= # ;", "syntax 9"),
-        ("S. S ::= / ;", "syntax 9"),
-        ("S. S ::= \\ ;", "syntax 9"),
-        ("S. S = A ;", "syntax 5"),
-        ("S. S ::= = A ;", "syntax 9"),
-        ("S. S ::= \x7f ;", "syntax 9"),
-        ("S. S ::= \x08 ;", "syntax 9"),
-        ("S. S ::= ; $", "syntax 11"),
-        ("S @", "syntax 2"),
-        ("S. S ::= ; \u{20ac}", "syntax 11"),
-        ("S. S ::= A \u{1f600}", "syntax 11"),
-        ("internal &", "syntax 9"),
-    ];
-    for (text, want) in cases {
-        let answer = answer_to(rt.alloc(), text.as_bytes())?;
-        assert_eq!(rt; answer.as_str(), want, "at {text:?}");
-    }
-    Ok(())
+    tells(&rt, rt.alloc(), SCALARS)
 }
+
+/// Files with signs where a definition might begin.
+const SIGNS: &[(&str, &str)] = &[
+    (". ;", "syntax 0"),
+    ("::= ;", "syntax 0"),
+    (": ;", "syntax 0"),
+    ("] ;", "syntax 0"),
+    (") ;", "syntax 0"),
+    ("{ ;", "syntax 0"),
+    ("} ;", "syntax 0"),
+    (", ;", "syntax 0"),
+    ("| ;", "syntax 0"),
+    ("* ;", "syntax 0"),
+    ("+ ;", "syntax 0"),
+    ("? ;", "syntax 0"),
+    ("- ;", "syntax 0"),
+    ("[ ;", "syntax 2"),
+    ("( ;", "syntax 2"),
+    ("_ ;", "syntax 2"),
+    ("\"a\" ;", "syntax 0"),
+    ("S. S ::= ; . ;", "syntax 11"),
+    ("S. S ::= ;\n) ;", "syntax 11"),
+];
 
 #[test]
 fn signs_that_begin_no_definition(rt: HostRuntime) -> Result<(), Fail> {
-    let cases = [
-        (". ;", "syntax 0"),
-        ("::= ;", "syntax 0"),
-        (": ;", "syntax 0"),
-        ("] ;", "syntax 0"),
-        (") ;", "syntax 0"),
-        ("{ ;", "syntax 0"),
-        ("} ;", "syntax 0"),
-        (", ;", "syntax 0"),
-        ("| ;", "syntax 0"),
-        ("* ;", "syntax 0"),
-        ("+ ;", "syntax 0"),
-        ("? ;", "syntax 0"),
-        ("- ;", "syntax 0"),
-        ("[ ;", "syntax 2"),
-        ("( ;", "syntax 2"),
-        ("_ ;", "syntax 2"),
-        ("\"a\" ;", "syntax 0"),
-        ("S. S ::= ; . ;", "syntax 11"),
-        ("S. S ::= ;\n) ;", "syntax 11"),
-    ];
-    for (text, want) in cases {
-        let answer = answer_to(rt.alloc(), text.as_bytes())?;
-        assert_eq!(rt; answer.as_str(), want, "at {text:?}");
-    }
-    Ok(())
+    tells(&rt, rt.alloc(), SIGNS)
 }
+
+/// Files with signs, and with what is no item, behind a right side.
+const SIGNS_BEHIND: &[(&str, &str)] = &[
+    ("S. S ::= A .", "syntax 11"),
+    ("S. S ::= A ::=", "syntax 11"),
+    ("S. S ::= A :", "syntax 11"),
+    ("S. S ::= A ]", "syntax 11"),
+    ("S. S ::= A (", "syntax 11"),
+    ("S. S ::= A )", "syntax 11"),
+    ("S. S ::= A { }", "syntax 11"),
+    ("S. S ::= A }", "syntax 11"),
+    ("S. S ::= A ,", "syntax 11"),
+    ("S. S ::= A |", "syntax 11"),
+    ("S. S ::= A *", "syntax 11"),
+    ("S. S ::= A +", "syntax 11"),
+    ("S. S ::= A ?", "syntax 11"),
+    ("S. S ::= A -", "syntax 11"),
+    ("S. S ::= A _", "syntax 11"),
+    ("S. S ::= A [", "syntax 12"),
+    ("S. S ::= A []", "syntax 12"),
+    ("S. S ::= A a", "syntax 11"),
+    ("S. S ::= A nonempty", "syntax 11"),
+    ("S. S ::= A ; T. S ::= . ;", "syntax 22"),
+    ("S. S ::= F (", "syntax 11"),
+];
 
 #[test]
 fn signs_behind_a_right_side(rt: HostRuntime) -> Result<(), Fail> {
-    let cases = [
-        ("S. S ::= A .", "syntax 11"),
-        ("S. S ::= A ::=", "syntax 11"),
-        ("S. S ::= A :", "syntax 11"),
-        ("S. S ::= A ]", "syntax 11"),
-        ("S. S ::= A (", "syntax 11"),
-        ("S. S ::= A )", "syntax 11"),
-        ("S. S ::= A { }", "syntax 11"),
-        ("S. S ::= A }", "syntax 11"),
-        ("S. S ::= A ,", "syntax 11"),
-        ("S. S ::= A |", "syntax 11"),
-        ("S. S ::= A *", "syntax 11"),
-        ("S. S ::= A +", "syntax 11"),
-        ("S. S ::= A ?", "syntax 11"),
-        ("S. S ::= A -", "syntax 11"),
-        ("S. S ::= A _", "syntax 11"),
-        ("S. S ::= A [", "syntax 12"),
-        ("S. S ::= A []", "syntax 12"),
-        ("S. S ::= A a", "syntax 11"),
-        ("S. S ::= A nonempty", "syntax 11"),
-        ("S. S ::= A ; T. S ::= . ;", "syntax 22"),
-        ("S. S ::= F (", "syntax 11"),
-    ];
-    for (text, want) in cases {
-        let answer = answer_to(rt.alloc(), text.as_bytes())?;
-        assert_eq!(rt; answer.as_str(), want, "at {text:?}");
-    }
-    Ok(())
+    tells(&rt, rt.alloc(), SIGNS_BEHIND)
 }
 
 /// Files that stop at a label, and some that do not.
@@ -266,49 +249,43 @@ const LABELS: &[(&str, &str)] = &[
 
 #[test]
 fn labels_that_cannot_go_on(rt: HostRuntime) -> Result<(), Fail> {
-    for (text, want) in LABELS {
-        let answer = answer_to(rt.alloc(), text.as_bytes())?;
-        assert_eq!(rt; answer.as_str(), *want, "at {text:?}");
-    }
-    Ok(())
+    tells(&rt, rt.alloc(), LABELS)
 }
+
+/// Files that stop at a category, and some that do not.
+const CATEGORIES: &[(&str, &str)] = &[
+    ("F . e ::= ;", "syntax 4"),
+    ("F . _ ::= ;", "syntax 4"),
+    ("F . \"E\" ::= ;", "syntax 4"),
+    ("F . ::= ;", "syntax 4"),
+    ("F . ; ", "syntax 4"),
+    ("F . [] ::= ;", "syntax 5"),
+    ("F . [E ::= ;", "syntax 7"),
+    ("F . [[E] ::= ;", "syntax 9"),
+    ("F . E] ::= ;", "syntax 5"),
+    ("F . [E]] ::= ;", "syntax 7"),
+    ("F . [e] ::= ;", "syntax 5"),
+    ("F . [\"a\"] ::= ;", "syntax 5"),
+    ("F . (E) ::= ;", "syntax 4"),
+    ("F . E . ::= ;", "syntax 6"),
+    ("F . E \"a\" ;", "syntax 6"),
+    ("F . E : ;", "syntax 6"),
+    ("F . E :: E ;", "syntax 6"),
+    ("F . E := E ;", "syntax 6"),
+    ("F . E ; ", "syntax 6"),
+    ("F . E F ;", "syntax 6"),
+    ("F . E ::= [\"a\"] ;", "syntax 11"),
+    ("F . E ::= [E, E] ;", "syntax 12"),
+    ("F . E ::= [[E] ;", "syntax 15"),
+    ("F . E ::= e ;", "syntax 10"),
+    ("F . E ::= E, E ;", "syntax 11"),
+    ("F . [ [ E ] ] ::= [E] [[F]] \"a\" E ;", "defs 1"),
+    ("F. Integer ::= Char String ;", "defs 1"),
+];
 
 #[test]
 fn categories_that_cannot_go_on(rt: HostRuntime) -> Result<(), Fail> {
-    let cases = [
-        ("F . e ::= ;", "syntax 4"),
-        ("F . _ ::= ;", "syntax 4"),
-        ("F . \"E\" ::= ;", "syntax 4"),
-        ("F . ::= ;", "syntax 4"),
-        ("F . ; ", "syntax 4"),
-        ("F . [] ::= ;", "syntax 5"),
-        ("F . [E ::= ;", "syntax 7"),
-        ("F . [[E] ::= ;", "syntax 9"),
-        ("F . E] ::= ;", "syntax 5"),
-        ("F . [E]] ::= ;", "syntax 7"),
-        ("F . [e] ::= ;", "syntax 5"),
-        ("F . [\"a\"] ::= ;", "syntax 5"),
-        ("F . (E) ::= ;", "syntax 4"),
-        ("F . E . ::= ;", "syntax 6"),
-        ("F . E \"a\" ;", "syntax 6"),
-        ("F . E : ;", "syntax 6"),
-        ("F . E :: E ;", "syntax 6"),
-        ("F . E := E ;", "syntax 6"),
-        ("F . E ; ", "syntax 6"),
-        ("F . E F ;", "syntax 6"),
-        ("F . E ::= [\"a\"] ;", "syntax 11"),
-        ("F . E ::= [E, E] ;", "syntax 12"),
-        ("F . E ::= [[E] ;", "syntax 15"),
-        ("F . E ::= e ;", "syntax 10"),
-        ("F . E ::= E, E ;", "syntax 11"),
-        ("F . [ [ E ] ] ::= [E] [[F]] \"a\" E ;", "defs 1"),
-        ("F. Integer ::= Char String ;", "defs 1"),
-    ];
-    for (text, want) in cases {
-        let answer = answer_to(rt.alloc(), text.as_bytes())?;
-        assert_eq!(rt; answer.as_str(), want, "at {text:?}");
-    }
-    Ok(())
+    tells(&rt, rt.alloc(), CATEGORIES)
 }
 
 /// Files that end too early, and some that do not.
@@ -355,37 +332,31 @@ const ENDS: &[(&str, &str)] = &[
 
 #[test]
 fn files_that_end_within_a_definition(rt: HostRuntime) -> Result<(), Fail> {
-    for (text, want) in ENDS {
-        let answer = answer_to(rt.alloc(), text.as_bytes())?;
-        assert_eq!(rt; answer.as_str(), *want, "at {text:?}");
-    }
-    Ok(())
+    tells(&rt, rt.alloc(), ENDS)
 }
+
+/// Files in which a semicolon stands too early.
+const EARLY_ENDS: &[(&str, &str)] = &[
+    ("S ; A. E ::= ;", "syntax 2"),
+    ("S. ;", "syntax 3"),
+    ("S. S ;", "syntax 5"),
+    ("internal ;", "syntax 9"),
+    ("internal F. ;", "syntax 12"),
+    ("terminator ;", "syntax 11"),
+    ("terminator E ;", "syntax 13"),
+    ("separator nonempty ;", "syntax 19"),
+    ("separator nonempty E ;", "syntax 21"),
+    ("coercions ;", "syntax 10"),
+    ("coercions E ;", "syntax 12"),
+    ("entrypoints ;", "syntax 12"),
+    ("entrypoints E, ;", "syntax 15"),
+    ("entrypoints [E ;", "syntax 15"),
+    ("A. E ::= ; S ; ;", "syntax 13"),
+];
 
 #[test]
 fn definitions_that_end_too_early(rt: HostRuntime) -> Result<(), Fail> {
-    let cases = [
-        ("S ; A. E ::= ;", "syntax 2"),
-        ("S. ;", "syntax 3"),
-        ("S. S ;", "syntax 5"),
-        ("internal ;", "syntax 9"),
-        ("internal F. ;", "syntax 12"),
-        ("terminator ;", "syntax 11"),
-        ("terminator E ;", "syntax 13"),
-        ("separator nonempty ;", "syntax 19"),
-        ("separator nonempty E ;", "syntax 21"),
-        ("coercions ;", "syntax 10"),
-        ("coercions E ;", "syntax 12"),
-        ("entrypoints ;", "syntax 12"),
-        ("entrypoints E, ;", "syntax 15"),
-        ("entrypoints [E ;", "syntax 15"),
-        ("A. E ::= ; S ; ;", "syntax 13"),
-    ];
-    for (text, want) in cases {
-        let answer = answer_to(rt.alloc(), text.as_bytes())?;
-        assert_eq!(rt; answer.as_str(), want, "at {text:?}");
-    }
-    Ok(())
+    tells(&rt, rt.alloc(), EARLY_ENDS)
 }
 
 /// Files with words of the notation that this profile leaves out.
@@ -448,11 +419,7 @@ const LEFT_OUT: &[(&str, &str)] = &[
 
 #[test]
 fn words_that_are_not_supported(rt: HostRuntime) -> Result<(), Fail> {
-    for (text, want) in LEFT_OUT {
-        let answer = answer_to(rt.alloc(), text.as_bytes())?;
-        assert_eq!(rt; answer.as_str(), *want, "at {text:?}");
-    }
-    Ok(())
+    tells(&rt, rt.alloc(), LEFT_OUT)
 }
 
 /// Files that stop at a macro, and some that do not.
@@ -500,214 +467,57 @@ const MACROS: &[(&str, &str)] = &[
 
 #[test]
 fn macros_that_cannot_go_on(rt: HostRuntime) -> Result<(), Fail> {
-    for (text, want) in MACROS {
-        let answer = answer_to(rt.alloc(), text.as_bytes())?;
-        assert_eq!(rt; answer.as_str(), *want, "at {text:?}");
-    }
-    Ok(())
+    tells(&rt, rt.alloc(), MACROS)
 }
+
+/// Files with more than one fault.
+const FIRST_FAULTS: &[(&str, &str)] = &[
+    ("S S ; layout ;", "syntax 2"),
+    ("layout ; ) ;", "unsupported layout 0"),
+    ("token ) ;", "syntax 6"),
+    ("token T 'a ; layout ;", "syntax 8"),
+    ("S. S ::= e \x00", "syntax 9"),
+    ("S. S ::= . \"a", "syntax 9"),
+    ("S. S ::= ; ) ; {-", "syntax 11"),
+    ("S. S ::= 'a' '''", "syntax 9"),
+    ("A. E ::= ; B. ; token T ;", "syntax 14"),
+];
 
 #[test]
 fn the_fault_that_stands_first_is_told(rt: HostRuntime) -> Result<(), Fail> {
-    let cases = [
-        ("S S ; layout ;", "syntax 2"),
-        ("layout ; ) ;", "unsupported layout 0"),
-        ("token ) ;", "syntax 6"),
-        ("token T 'a ; layout ;", "syntax 8"),
-        ("S. S ::= e \x00", "syntax 9"),
-        ("S. S ::= . \"a", "syntax 9"),
-        ("S. S ::= ; ) ; {-", "syntax 11"),
-        ("S. S ::= 'a' '''", "syntax 9"),
-        ("A. E ::= ; B. ; token T ;", "syntax 14"),
-    ];
-    for (text, want) in cases {
-        let answer = answer_to(rt.alloc(), text.as_bytes())?;
-        assert_eq!(rt; answer.as_str(), want, "at {text:?}");
-    }
-    Ok(())
+    tells(&rt, rt.alloc(), FIRST_FAULTS)
 }
+
+/// Files of bytes that are no UTF-8, and near ones.
+const BYTES: &[(&[u8], &str)] = &[
+    (b"\xff", "utf8 0"),
+    (b"S. S ::= \xff", "utf8 9"),
+    (b"S. S ::= \"a\xff\" ;", "utf8 11"),
+    (b"S. S ::= '\xff' ;", "utf8 10"),
+    (b"-- \xff\n", "utf8 3"),
+    (b"{- \x80 -}", "utf8 3"),
+    (b"S\xa0. S ::= ;", "utf8 1"),
+    // a fault of syntax before it is not told
+    (b") \xff", "utf8 2"),
+    (b"layout \xff", "utf8 7"),
+    (b"S. S ::= \"\xc3", "utf8 10"),
+    (b"S. S ::= \"\xe2\x82\" ;", "utf8 10"),
+    (b"S. S ::= \"\xf0\x9f\x98", "utf8 10"),
+    // longer forms than need be, surrogates, and what is above the last scalar
+    (b"\"\xc0\x80\"", "utf8 1"),
+    (b"\"\xe0\x80\x80\"", "utf8 1"),
+    (b"\"\xed\xa0\x80\"", "utf8 1"),
+    (b"\"\xf4\x90\x80\x80\"", "utf8 1"),
+    (b"\"\xf5\x80\x80\x80\"", "utf8 1"),
+    (b"\xef\xbb\xbf", "syntax 0"),
+    (b"\xef\xbb", "utf8 0"),
+];
 
 #[test]
 fn bytes_that_are_not_utf8(rt: HostRuntime) -> Result<(), Fail> {
-    let cases = [
-        (b"\xff".as_slice(), "utf8 0"),
-        (b"S. S ::= \xff".as_slice(), "utf8 9"),
-        (b"S. S ::= \"a\xff\" ;".as_slice(), "utf8 11"),
-        (b"S. S ::= '\xff' ;".as_slice(), "utf8 10"),
-        (b"-- \xff\n".as_slice(), "utf8 3"),
-        (b"{- \x80 -}".as_slice(), "utf8 3"),
-        (b"S\xa0. S ::= ;".as_slice(), "utf8 1"),
-        // a fault of syntax before it is not told
-        (b") \xff".as_slice(), "utf8 2"),
-        (b"layout \xff".as_slice(), "utf8 7"),
-        (b"S. S ::= \"\xc3".as_slice(), "utf8 10"),
-        (b"S. S ::= \"\xe2\x82\" ;".as_slice(), "utf8 10"),
-        (b"S. S ::= \"\xf0\x9f\x98".as_slice(), "utf8 10"),
-        // longer forms than need be, surrogates, and what is above the last scalar
-        (b"\"\xc0\x80\"".as_slice(), "utf8 1"),
-        (b"\"\xe0\x80\x80\"".as_slice(), "utf8 1"),
-        (b"\"\xed\xa0\x80\"".as_slice(), "utf8 1"),
-        (b"\"\xf4\x90\x80\x80\"".as_slice(), "utf8 1"),
-        (b"\"\xf5\x80\x80\x80\"".as_slice(), "utf8 1"),
-        (b"\xef\xbb\xbf".as_slice(), "syntax 0"),
-        (b"\xef\xbb".as_slice(), "utf8 0"),
-    ];
-    for (bytes, want) in cases {
+    for (bytes, want) in BYTES {
         let answer = answer_to(rt.alloc(), bytes)?;
-        assert_eq!(rt; answer.as_str(), want, "at {bytes:?}");
+        assert_eq!(rt; answer.as_str(), *want, "at {bytes:?}");
     }
-    Ok(())
-}
-
-/// The bytes with so many of one byte between them.
-fn with_many(
-    alloc: Global,
-    front: &[u8],
-    byte: u8,
-    count: usize,
-    back: &[u8],
-) -> Result<Vec<u8>, AllocError> {
-    let mut text = Vec::from_slice(alloc, front)?;
-    let many = vec![in alloc; byte; count]?;
-    text.extend_from_slice(many.as_slice())?;
-    text.extend_from_slice(back)?;
-    Ok(text)
-}
-
-#[test]
-fn identifiers_of_more_than_sixty_four_bytes(rt: HostRuntime) -> Result<(), Fail> {
-    let cases = [
-        ("", b'A', 64, ". E ::= ;", "defs 1"),
-        ("", b'A', 65, ". E ::= ;", "syntax 0"),
-        ("", b'a', 65, " ;", "syntax 0"),
-        ("internal ", b'A', 65, ". E ::= ;", "syntax 9"),
-        ("internal ", b'a', 65, ". E ::= ;", "syntax 9"),
-        ("L. ", b'A', 64, " ::= ;", "defs 1"),
-        ("L. ", b'A', 65, " ::= ;", "syntax 3"),
-        ("L. E ::= ", b'A', 64, "", "defs 1"),
-        ("L. E ::= ", b'A', 65, "", "syntax 9"),
-        ("L. E ::= E [", b'A', 65, "]", "syntax 12"),
-        ("L. E ::= E ", b'a', 65, "", "syntax 11"),
-        ("coercions ", b'A', 65, " 1", "syntax 10"),
-        ("terminator ", b'n', 65, " E \"a\"", "syntax 11"),
-        ("entrypoints E, ", b'A', 65, "", "syntax 15"),
-        ("L. E ::= \"", b'A', 65, "\"", "defs 1"),
-    ];
-    for (front, byte, count, back, want) in cases {
-        let text = with_many(rt.alloc(), front.as_bytes(), byte, count, back.as_bytes())?;
-        let answer = answer_to(rt.alloc(), text.as_slice())?;
-        assert_eq!(rt; answer.as_str(), want, "{count} bytes behind {front:?}");
-    }
-    Ok(())
-}
-
-/// A category of so many brackets and of a name of so many bytes, between other bytes.
-fn with_category(
-    alloc: Global,
-    front: &str,
-    depth: usize,
-    letters: usize,
-    back: &str,
-) -> Result<Vec<u8>, AllocError> {
-    let mut text = with_many(alloc, front.as_bytes(), b'[', depth, b"".as_slice())?;
-    let name = vec![in alloc; b'E'; letters]?;
-    text.extend_from_slice(name.as_slice())?;
-    let closing = vec![in alloc; b']'; depth]?;
-    text.extend_from_slice(closing.as_slice())?;
-    text.extend_from_slice(back.as_bytes())?;
-    Ok(text)
-}
-
-#[test]
-fn categories_of_more_than_128_bytes(rt: HostRuntime) -> Result<(), Fail> {
-    let cases = [
-        ("L. ", 32, 64, " ::= ;", "defs 1"),
-        ("L. ", 33, 62, " ::= ;", "defs 1"),
-        ("L. ", 33, 63, " ::= ;", "syntax 3"),
-        ("L. ", 63, 2, " ::= ;", "defs 1"),
-        ("L. ", 63, 3, " ::= ;", "syntax 3"),
-        ("L. ", 64, 1, " ::= ;", "syntax 3"),
-        ("L. ", 300, 1, " ::= ;", "syntax 3"),
-        ("L. ", 30_000, 1, "", "syntax 3"),
-        // it is found as soon as its last token is read
-        ("L. ", 64, 1, " )", "syntax 3"),
-        ("L. ", 64, 1, " {-", "syntax 3"),
-        ("L. E ::= A ", 64, 1, "", "syntax 11"),
-        ("L. E ::= A ", 63, 2, "", "defs 1"),
-        ("terminator ", 64, 1, " \"a\"", "syntax 11"),
-        ("terminator ", 63, 2, " \"a\"", "defs 1"),
-        ("separator nonempty ", 64, 1, " \"a\"", "syntax 19"),
-        ("entrypoints ", 64, 1, "", "syntax 12"),
-        ("entrypoints E, ", 64, 1, ", e", "syntax 15"),
-        ("internal L. ", 64, 1, " ::= ;", "syntax 12"),
-        ("A. E ::= ; L. ", 64, 1, " ::= ;", "syntax 14"),
-        // a fault that stands before it is told, and one that stands behind it is not
-        ("L E. ", 64, 1, " ::= ;", "syntax 2"),
-        ("coercions ", 64, 1, " 1", "syntax 10"),
-        ("[", 64, 1, ". E ::= ;", "syntax 1"),
-    ];
-    for (front, depth, letters, back, want) in cases {
-        let text = with_category(rt.alloc(), front, depth, letters, back)?;
-        let answer = answer_to(rt.alloc(), text.as_slice())?;
-        assert_eq!(rt; answer.as_str(), want, "{depth} brackets behind {front:?}");
-    }
-    Ok(())
-}
-
-#[test]
-fn long_categories_that_are_not_finished(rt: HostRuntime) -> Result<(), Fail> {
-    let cases = [
-        ("L. ", 60_000, "", "syntax 60003"),
-        ("L. ", 300, "E ::= ;", "syntax 305"),
-        ("L. ", 300, "E] ::= ;", "syntax 306"),
-        ("L. ", 300, "] ::= ;", "syntax 303"),
-        ("L. ", 300, "e", "syntax 303"),
-        ("L. E ::= ", 100, "E]]] ;", "syntax 114"),
-    ];
-    for (front, count, back, want) in cases {
-        let text = with_many(rt.alloc(), front.as_bytes(), b'[', count, back.as_bytes())?;
-        let answer = answer_to(rt.alloc(), text.as_slice())?;
-        assert_eq!(rt; answer.as_str(), want, "{count} brackets behind {front:?}");
-    }
-    Ok(())
-}
-
-#[test]
-fn files_of_more_than_65536_bytes(rt: HostRuntime) -> Result<(), Fail> {
-    let cases = [
-        ("", b' ', 65_536, "defs 0"),
-        ("", b' ', 65_537, "large 65537"),
-        ("", b';', 65_536, "defs 0"),
-        ("", b';', 65_537, "large 65537"),
-        ("", b')', 65_536, "syntax 0"),
-        ("", 0xff, 65_536, "utf8 0"),
-        ("", 0xff, 65_537, "large 65537"),
-        ("layout ", b')', 70_000, "large 70007"),
-        ("S. S ::= A ", b'e', 64, "syntax 11"),
-        ("S. S ::= \"", b'"', 65_525, "defs 1"),
-        ("S. S ::= \"", b'"', 65_526, "syntax 65535"),
-        ("S. S ::= \"", b'a', 65_526, "syntax 9"),
-        ("S. S ::= A --", b'a', 65_523, "defs 1"),
-        ("S. S ::= A {-", b'-', 65_523, "syntax 11"),
-    ];
-    for (front, byte, count, want) in cases {
-        let text = with_many(rt.alloc(), front.as_bytes(), byte, count, b"".as_slice())?;
-        let answer = answer_to(rt.alloc(), text.as_slice())?;
-        assert_eq!(rt; answer.as_str(), want, "{count} bytes behind {front:?}");
-    }
-    Ok(())
-}
-
-#[test]
-fn a_file_has_any_number_of_definitions(rt: HostRuntime) -> Result<(), Fail> {
-    let mut text = Vec::new(rt.alloc());
-    for _ in 0..1_025 {
-        text.extend_from_slice(b"A. E ::= ;".as_slice())?;
-    }
-    let answer = answer_to(rt.alloc(), text.as_slice())?;
-    assert_eq!(rt; answer.as_str(), "defs 1025");
-    text.extend_from_slice(b"; token T 'a' ;".as_slice())?;
-    let answer = answer_to(rt.alloc(), text.as_slice())?;
-    assert_eq!(rt; answer.as_str(), "defs 1026");
     Ok(())
 }

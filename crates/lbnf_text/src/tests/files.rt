@@ -1,6 +1,8 @@
 //! What a whole file gives, as tests compare it.
 use crate::{TextFault, read_defs};
 use std::alloc::{AllocError, Global};
+use std::process::Abort;
+use std::test::*;
 
 /// The number of the definitions, or the fault, in words.
 pub fn answer_to(alloc: Global, bytes: &[u8]) -> Result<String, AllocError> {
@@ -15,4 +17,13 @@ pub fn answer_to(alloc: Global, bytes: &[u8]) -> Result<String, AllocError> {
         }
         Err(TextFault::BadDifference { at }) => format!(in alloc; "difference {at}"),
     }
+}
+
+/// Compares what is told of each file with the answer beside it.
+pub fn tells(rt: &impl Abort, alloc: Global, cases: &[(&str, &str)]) -> Result<(), Fail> {
+    for (text, want) in cases {
+        let answer = answer_to(alloc, text.as_bytes())?;
+        assert_eq!(rt; answer.as_str(), *want, "at {text:?}");
+    }
+    Ok(())
 }

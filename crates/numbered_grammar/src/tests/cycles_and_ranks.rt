@@ -1,8 +1,9 @@
 //! Cyclic categories and ranks of small grammars, whose rules are built by hand.
-use super::small_grammars::{A, B, C, D, EMPTY, Sides, WORD, grammar_of, small_parts};
+use super::small_grammars::{A, B, C, D, EMPTY, Sides, WORD, grammar_of, is_grammar, small_parts};
 use crate::cycle_check::{CycleCheck, check_cycles};
 use crate::nullable::nullable_flags;
 use crate::*;
+use std::alloc::{AllocError, Global};
 use std::test::*;
 
 /// A grammar as it is written, with "w" for the word; its rules; and the first cyclic one of its
@@ -52,16 +53,28 @@ const CYCLES: &[Cycle] = &[
     ),
 ];
 
+/// The first category of the parts that reaches itself.
+fn cyclic_in(alloc: Global, parts: &GrammarParts) -> Result<Option<u16>, AllocError> {
+    let nullable = nullable_flags(alloc, parts)?;
+    match check_cycles(alloc, parts, nullable.as_slice())? {
+        CycleCheck::Cyclic(category) => Ok(Some(category)),
+        CycleCheck::Ranked(_) => Ok(None),
+    }
+}
+
+/// The first category that reaches itself by these rules, or `None` where they do not fit together.
+fn cyclic_of(alloc: Global, sides: Sides) -> Result<Option<Option<u16>>, AllocError> {
+    match small_parts(alloc, sides)? {
+        Some(parts) => Ok(Some(cyclic_in(alloc, &parts)?)),
+        None => Ok(None),
+    }
+}
+
 #[test]
 fn the_least_category_that_reaches_itself_is_told(rt: HostRuntime) -> Result<(), Fail> {
     for (text, rules, want) in CYCLES {
-        let parts = small_parts(rt.alloc(), *rules)?.ok_or("parts")?;
-        let nullable = nullable_flags(rt.alloc(), &parts)?;
-        let cyclic = match check_cycles(rt.alloc(), &parts, nullable.as_slice())? {
-            CycleCheck::Cyclic(category) => Some(category),
-            CycleCheck::Ranked(_) => None,
-        };
-        assert_eq!(rt; cyclic, *want, "at {text:?}");
+        let cyclic = cyclic_of(rt.alloc(), *rules)?;
+        assert_eq!(rt; cyclic, Some(*want), "at {text:?}");
     }
     Ok(())
 }
@@ -69,8 +82,8 @@ fn the_least_category_that_reaches_itself_is_told(rt: HostRuntime) -> Result<(),
 #[test]
 fn rules_by_which_a_category_reaches_itself_are_no_grammar(rt: HostRuntime) -> Result<(), Fail> {
     for (text, rules, cyclic) in CYCLES {
-        let grammar = grammar_of(rt.alloc(), *rules)?;
-        assert_eq!(rt; grammar.is_some(), cyclic.is_none(), "at {text:?}");
+        let accepted = is_grammar(rt.alloc(), *rules)?;
+        assert_eq!(rt; accepted, cyclic.is_none(), "at {text:?}");
     }
     Ok(())
 }
@@ -129,15 +142,28 @@ const RANKED: &[Ranked] = &[
     ),
 ];
 
+/// The rank of each category.
+fn ranks_in(alloc: Global, grammar: &Grammar) -> Result<Vec<u16>, AllocError> {
+    let mut ranks = Vec::new(alloc);
+    for category in 0..grammar.category_count() {
+        ranks.push(grammar.rank(category))?;
+    }
+    Ok(ranks)
+}
+
+/// The rank of each category by these rules, and none where they are no grammar.
+fn ranks_of(alloc: Global, sides: Sides) -> Result<Vec<u16>, AllocError> {
+    match grammar_of(alloc, sides)? {
+        Some(grammar) => ranks_in(alloc, &grammar),
+        None => Ok(Vec::new(alloc)),
+    }
+}
+
 #[test]
 fn a_rank_is_the_length_of_the_longest_chain_of_steps(rt: HostRuntime) -> Result<(), Fail> {
     for (text, rules, want) in RANKED {
-        let grammar = grammar_of(rt.alloc(), *rules)?.ok_or("a grammar")?;
-        for (number, rank) in want.iter().enumerate() {
-            let category = number as u16;
-            assert!(rt; category < grammar.category_count());
-            assert_eq!(rt; grammar.rank(category), *rank, "at {text:?} {category}");
-        }
+        let ranks = ranks_of(rt.alloc(), *rules)?;
+        assert_eq!(rt; ranks.as_slice(), want.as_slice(), "at {text:?}");
     }
     Ok(())
 }

@@ -1,7 +1,8 @@
 //! Nullable categories of small grammars, whose rules are built by hand.
-use super::small_grammars::{A, B, C, D, EMPTY, Sides, WORD, grammar_of, small_parts};
+use super::small_grammars::{A, B, C, D, EMPTY, Sides, WORD, is_grammar, small_parts};
 use crate::nullable::{category_numbers, is_nullable, nullable_flags};
 use crate::*;
+use std::alloc::{AllocError, Global};
 use std::test::*;
 
 /// A grammar as it is written, with "w" for the word; its rules; and which of A, B, C and D are
@@ -84,13 +85,20 @@ const CASES: &[Case] = &[
     ),
 ];
 
+/// Which categories are nullable by these rules, and none where they do not fit together.
+fn flags_of(alloc: Global, sides: Sides) -> Result<Vec<bool>, AllocError> {
+    match small_parts(alloc, sides)? {
+        Some(parts) => nullable_flags(alloc, &parts),
+        None => Ok(Vec::new(alloc)),
+    }
+}
+
 #[test]
 fn a_category_is_nullable_where_a_rule_of_it_has_nullable_items_alone(
     rt: HostRuntime,
 ) -> Result<(), Fail> {
     for (text, rules, want) in CASES {
-        let parts = small_parts(rt.alloc(), rules)?.ok_or("parts")?;
-        let flags = nullable_flags(rt.alloc(), &parts)?;
+        let flags = flags_of(rt.alloc(), *rules)?;
         assert_eq!(rt; flags.as_slice(), want.as_slice(), "at {text:?}");
     }
     Ok(())
@@ -112,21 +120,23 @@ fn a_kind_is_not_nullable_and_a_category_is_where_its_flag_is_set(
     Ok(())
 }
 
+/// Items, and their numbers where they are categories alone.
+const NUMBERED: &[(&[Symbol], Option<&[u16]>)] = &[
+    (EMPTY, Some(&[])),
+    (&[A], Some(&[0])),
+    (&[C, A, C], Some(&[2, 0, 2])),
+    (&[WORD], None),
+    (&[A, WORD], None),
+    (&[WORD, B], None),
+    (&[A, WORD, C], None),
+];
+
 #[test]
 fn items_have_numbers_where_they_are_categories_alone(rt: HostRuntime) -> Result<(), Fail> {
-    let cases: [(&[Symbol], Option<&[u16]>); 7] = [
-        (EMPTY, Some(&[])),
-        (&[A], Some(&[0])),
-        (&[C, A, C], Some(&[2, 0, 2])),
-        (&[WORD], None),
-        (&[A, WORD], None),
-        (&[WORD, B], None),
-        (&[A, WORD, C], None),
-    ];
-    for (items, want) in cases {
+    for (items, want) in NUMBERED {
         let numbers = category_numbers(rt.alloc(), items)?;
         let numbers = numbers.as_ref().map(|numbers| numbers.as_slice());
-        assert_eq!(rt; numbers, want, "at {items:?}");
+        assert_eq!(rt; numbers, *want, "at {items:?}");
     }
     Ok(())
 }
@@ -135,21 +145,23 @@ const E: Symbol = Symbol::Category(4);
 
 const SECOND_WORD: Symbol = Symbol::Kind(1);
 
+/// The category and the items of the second of three rules, and whether the three are a grammar.
+const SECOND_RULES: &[(u16, &[Symbol], bool)] = &[
+    (3, EMPTY, true),
+    (4, EMPTY, false),
+    (0, &[D, WORD], true),
+    (0, &[E], false),
+    (0, &[SECOND_WORD], false),
+    (0, &[A, WORD, A, E], false),
+    (0, &[SECOND_WORD, A], false),
+];
+
 #[test]
 fn rules_with_a_symbol_that_is_not_there_are_no_grammar(rt: HostRuntime) -> Result<(), Fail> {
-    let cases: [(u16, &[Symbol], bool); 7] = [
-        (3, EMPTY, true),
-        (4, EMPTY, false),
-        (0, &[D, WORD], true),
-        (0, &[E], false),
-        (0, &[SECOND_WORD], false),
-        (0, &[A, WORD, A, E], false),
-        (0, &[SECOND_WORD, A], false),
-    ];
-    for (category, items, want) in cases {
-        let sides = [(1, [A, B].as_slice()), (category, items), (2, EMPTY)];
-        let grammar = grammar_of(rt.alloc(), sides.as_slice())?;
-        assert_eq!(rt; grammar.is_some(), want, "at {category} {items:?}");
+    for (category, items, want) in SECOND_RULES {
+        let sides = [(1, [A, B].as_slice()), (*category, *items), (2, EMPTY)];
+        let accepted = is_grammar(rt.alloc(), sides.as_slice())?;
+        assert_eq!(rt; accepted, *want, "at {category} {items:?}");
     }
     Ok(())
 }

@@ -16,13 +16,17 @@ fn name_of(alloc: Global, text: &str) -> Result<Name, AllocError> {
     Ok(Name::of(Vec::from_slice(alloc, text.as_bytes())?))
 }
 
-/// The categories A, B, C and D.
-fn categories(alloc: Global) -> Result<Vec<Name>, AllocError> {
+fn names_of(alloc: Global, texts: &[&str]) -> Result<Vec<Name>, AllocError> {
     let mut names = Vec::new(alloc);
-    for text in ["A", "B", "C", "D"] {
+    for text in texts {
         names.push(name_of(alloc, text)?)?;
     }
     Ok(names)
+}
+
+/// The categories A, B, C and D.
+fn categories(alloc: Global) -> Result<Vec<Name>, AllocError> {
+    names_of(alloc, &["A", "B", "C", "D"])
 }
 
 /// One kind, which is a word.
@@ -31,14 +35,18 @@ fn one_word(alloc: Global) -> Result<LexiconParts, AllocError> {
     Ok(LexiconParts::of_kinds(alloc, kinds))
 }
 
+fn rule(alloc: Global, category: u16, items: &[Symbol]) -> Result<Rule, AllocError> {
+    Ok(Rule {
+        label: Label::Wild,
+        category,
+        items: Items::from_slice(alloc, items)?,
+    })
+}
+
 fn rules(alloc: Global, sides: &[(u16, &[Symbol])]) -> Result<Vec<Rule>, AllocError> {
     let mut rules = Vec::new(alloc);
     for (category, items) in sides {
-        rules.push(Rule {
-            label: Label::Wild,
-            category: *category,
-            items: Items::from_slice(alloc, items)?,
-        })?;
+        rules.push(rule(alloc, *category, items)?)?;
     }
     Ok(rules)
 }
@@ -52,22 +60,29 @@ pub fn small_parts(
     parts_of(alloc, rules(alloc, sides)?, categories, one_word(alloc)?)
 }
 
+fn token_of(alloc: Global, text: &str) -> Result<KindDef, AllocError> {
+    let name = name_of(alloc, text)?;
+    let expr = Expr::Eps;
+    Ok(KindDef::Token { name, expr })
+}
+
+/// A word, and tokens of these names.
+fn word_and_tokens(alloc: Global, tokens: &[&str]) -> Result<LexiconParts, AllocError> {
+    let mut lexicon = one_word(alloc)?;
+    for text in tokens {
+        lexicon.kinds.push(token_of(alloc, text)?)?;
+    }
+    Ok(lexicon)
+}
+
 /// The grammar of no rules over categories of these names, and a word and tokens of these.
 pub fn grammar_of_names(
     alloc: Global,
     names: &[&str],
     tokens: &[&str],
 ) -> Result<Option<Grammar>, AllocError> {
-    let mut categories = Vec::new(alloc);
-    for text in names {
-        categories.push(name_of(alloc, text)?)?;
-    }
-    let mut lexicon = one_word(alloc)?;
-    for text in tokens {
-        let name = name_of(alloc, text)?;
-        let expr = Expr::Eps;
-        lexicon.kinds.push(KindDef::Token { name, expr })?;
-    }
+    let categories = names_of(alloc, names)?;
+    let lexicon = word_and_tokens(alloc, tokens)?;
     Grammar::of_rules(alloc, Vec::new(alloc), categories, lexicon)
 }
 
@@ -78,6 +93,12 @@ pub fn grammar_of(
 ) -> Result<Option<Grammar>, AllocError> {
     let categories = categories(alloc)?;
     Grammar::of_rules(alloc, rules(alloc, sides)?, categories, one_word(alloc)?)
+}
+
+/// Whether these rules over the categories 0 to 3 and the kind 0 are a grammar.
+pub fn is_grammar(alloc: Global, sides: &[(u16, &[Symbol])]) -> Result<bool, AllocError> {
+    let grammar = grammar_of(alloc, sides)?;
+    Ok(grammar.is_some())
 }
 
 pub const A: Symbol = Symbol::Category(0);

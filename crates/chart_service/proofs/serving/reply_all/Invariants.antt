@@ -1,7 +1,9 @@
 -- The session runs, or it has ended.
 use Rattle.std.proofs.Common.{ℕ, ◌-◌, ◌^◌, ◌<◌, ◌≤◌, List}
 use Rattle.cyk_io.specs.Streams.{coming}
+use Rattle.spec_session.specs.Steps.{State}
 use Rattle.chart_service.specs.Languages.{CanOpen}
+use Rattle.chart_service.specs.Sessions.{IsIn}
 use Rattle.chart_service.specs.Progress.{Running}
 use Rattle.chart_service.proofs.serving.reply_all.Given as goal
 
@@ -15,6 +17,7 @@ invariant-loop-goes_on g l = record {
   can : CanOpen g.C.Room.ROOM (l.session).language;
   few : (l.session).texts ≤ (l.ahead).offset;
   early : (l.ahead).offset < 2 ^ 50;
+  is_in : (state : State) × IsIn l.session state;
   read : g.S.Source.faults l.fn.source ≤ g.S.Source.faults l.source;
   write : g.K.Sink.faults l.fn.sink ≤ g.K.Sink.faults l.sink;
 }

@@ -10,11 +10,13 @@ use Rattle.script_reader.specs.declared.stop.Stop.TheVariants.{Fault}
 use Rattle.chart_service.specs.declared.ending.EarlyEnd.TheVariants.{Stopped}
 use Rattle.cyk_io.specs.declared.fault.IoFault.TheVariants.{Write}
 use Rattle.chart_service.specs.Sessions.{is_open}
+use Rattle.chart_service.specs.Replying.{bytes_of}
 use Rattle.chart_service.specs.Progress.{EndsEarly}
 use Rattle.chart_service.proofs.ToldLemmas.{err_given, other_error}
 use Rattle.chart_service.proofs.RunningLemmas.{cut_running, running_on, running_stops, running_ends}
 use Rattle.chart_service.proofs.RunningLemmas.{running_said, cut_reply, command_read}
 use Rattle.chart_service.proofs.RunningLemmas.{reads_only, some_script, not_end}
+use Rattle.chart_service.proofs.SessionLemmas.{says_in}
 use Rattle.chart_service.proofs.serving.turn.Goals as goal
 
 pub returns-in_err-flush_unless-clause-err : goal.returns-in_err-flush_unless-clause-err
@@ -74,14 +76,14 @@ returns-in_err-say-clause-err g c input before r =
     c.args.replies.now c.args.session.now r (g.K.Sink.written c.flush_unless.new.sink)
     c.flush_unless.new.self c.in_ok-flush_unless.ensures.ok in
     let read = command_read c.in_ok-command.command (not_end c.is_end.result c.is_end.ensures.1 c.if-is_end.false) in
-    err_given (EndsEarly input before (g.K.Sink.written c.say.new.sink) c.say.new.self)
+    err_given (EndsEarly input before (g.K.Sink.written c.say.new.sink) c.say.new.replies)
     (Stopped (Fault c.in_err-say.field-0.0)) c.from_residual-in_err-say.result
     c.from_residual-in_err-say.ensures.1
     (cut_reply input before comes c.args.ahead.now.offset (g.K.Sink.written c.flush_unless.new.sink)
     c.flush_unless.new.self c.args.session.now on c.in_ok-command.command c.read_command.new.ahead.offset next
-    (rw c.is_open-2.ensures at c.in_ok-command.ensures.ok) read.0 read.1 c.reply.new.self
-    c.reply.ensures.language c.reply.result
-    (c.reply.ensures.ok (state_after no_texts on.steps) read.0 on.is_in read.1)
+    (rw c.is_open-2.ensures at c.in_ok-command.ensures.ok) read.0 read.1 (bytes_of c.reply-reply.new.self)
+    c.reply-reply.new.self c.reply-reply.ensures.language c.reply-reply.result
+    (c.reply-reply.ensures.ok (state_after no_texts on.steps) read.0 on.is_in read.1)
     (g.K.Sink.written c.say.new.sink) c.in_err-say.ensures.err)
 
 pub returns-clause-ok : goal.returns-clause-ok
@@ -94,7 +96,15 @@ returns-clause-ok g c input before r =
     let read = command_read c.in_ok-command.command (not_end c.is_end.result c.is_end.ensures.1 c.if-is_end.false) in
     running_said input before comes c.args.ahead.now.offset (g.K.Sink.written c.flush_unless.new.sink)
     c.flush_unless.new.self c.args.session.now on c.in_ok-command.command c.read_command.new.ahead.offset next
-    (rw c.is_open-2.ensures at c.in_ok-command.ensures.ok) read.0 read.1 c.reply.new.self
-    c.reply.ensures.language c.reply.result
-    (c.reply.ensures.ok (state_after no_texts on.steps) read.0 on.is_in read.1)
-    (g.K.Sink.written c.say.new.sink) c.say.new.self c.in_ok-say.ensures.ok
+    (rw c.is_open-2.ensures at c.in_ok-command.ensures.ok) read.0 read.1 (bytes_of c.reply-reply.new.self)
+    c.reply-reply.new.self c.reply-reply.ensures.language c.reply-reply.result
+    (c.reply-reply.ensures.ok (state_after no_texts on.steps) read.0 on.is_in read.1)
+    (g.K.Sink.written c.say.new.sink) c.say.new.replies c.in_ok-say.ensures.ok
+
+pub returns-clause-is_in : goal.returns-clause-is_in
+returns-clause-is_in g c =
+    let read = command_read c.in_ok-command.command (not_end c.is_end.result c.is_end.ensures.1 c.if-is_end.false) in
+    says_in c.reply-reply.new.self c.requires.is_in.0 read.0 (bytes_of c.reply-reply.new.self)
+    c.reply-reply.result (c.reply-reply.ensures.ok c.requires.is_in.0 read.0 c.requires.is_in.1 read.1)
+    (g.K.Sink.written c.flush_unless.new.sink) (g.K.Sink.written c.say.new.sink) c.flush_unless.new.self
+    c.say.new.replies c.in_ok-say.ensures.ok

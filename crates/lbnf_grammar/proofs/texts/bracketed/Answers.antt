@@ -7,5 +7,5 @@ use Rattle.lbnf_grammar.proofs.texts.bracketed.Goals as goal
 
 pub of-requires : goal.of-requires
 of-requires c =
-    let text : c.extend_from_slice-2.new.self.items ≡ category_text c.args.cat.now = grind (arith, common_steps) in
-    subst IsUtf8 (sym text) (category_utf8 c.args.cat.now c.as_slice.ensures.utf8)
+    let text : c.resize-2.new.self.items ≡ category_text c.args.cat.now = grind (arith, common_steps) in
+    subst IsUtf8 (sym text) (category_utf8 c.args.cat.now c.as_slice-name.ensures.utf8)

@@ -1,5 +1,5 @@
 -- The patterns are those of the kinds that are looked for.
-use Rattle.std.proofs.Common.{◌≡◌, ◌+◌, map, length, arith, ap}
+use Rattle.std.proofs.Common.{◌+◌, map, length, arith, ap}
 use Rattle.std.proofs.lemmas.List.{length-map}
 use Rattle.std.proofs.lemmas.Result.{IfOk-weaker}
 use Rattle.spec_lexing.specs.Kinds.{lex_kinds}

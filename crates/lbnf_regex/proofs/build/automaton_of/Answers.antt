@@ -1,5 +1,5 @@
 -- The table of one of the kinds, with the places of the kinds.
-use Rattle.std.proofs.Common.{◌≡◌, map, refl, sym, arith, subst}
+use Rattle.std.proofs.Common.{map, refl, sym, arith, subst}
 use Rattle.std.proofs.lemmas.List.{length-map}
 use Rattle.spec_automata.specs.Encoding.{one_of_these}
 use Rattle.lbnf_regex.specs.Automata.{RecognisesThese}

@@ -1,17 +1,18 @@
--- The sets of all bytes in turn.
-use Rattle.std.proofs.Common.{◌∷◌, [], ℕ, List, map, ap, sym, ◌∙◌}
-use Rattle.std.proofs.lemmas.List.{take_all}
-use Rattle.spec_automata.specs.ByteExpressions.{byte_in}
-use Rattle.spec_automata.specs.Encoding.{these_in_turn}
-use Rattle.lbnf_regex.specs.ByteSets.{flag_at, kept_of}
-use Rattle.lbnf_regex.proofs.PatternLemmas.{pattern-Seq}
-use Rattle.lbnf_regex.proofs.EncodingStepLemmas.{without_literal}
+-- Where no character is removed, the bytes stand for themselves.
+use Rattle.std.proofs.Common.{◌≡◌, List, Bool, [], length, ap, sym, ◌∙◌}
+use Rattle.std.proofs.lemmas.Bool.{eqb-true}
+use Rattle.std.proofs.lemmas.List.{nil_from_length}
+use Rattle.spec_automata.specs.Encoding.{literal, without}
+use Rattle.lbnf_regex.specs.ByteSets.{flag_at}
+use Rattle.lbnf_regex.proofs.PatternLemmas.{pattern-Literal}
+use Rattle.lbnf_regex.proofs.EncodingStepLemmas.{without_flags}
 use Rattle.lbnf_regex.proofs.encoding.literal.Goals as goal
 
 pub returns : goal.returns
 returns c =
-    let bytes : List ℕ = c.args.bytes.now in
-    pattern-Seq c.loop-byte.parts ∙ ap these_in_turn c.loop-byte.invariant
-    ∙ ap (λ (z : List ℕ). these_in_turn (map (λ b. byte_in (kept_of c.args.removed.now (b ∷ []))) z))
-    (take_all c.loop-byte.byte-index bytes c.loop-byte-test.false)
-    ∙ sym (without_literal (flag_at c.args.removed.now) bytes)
+    let bytes = c.args.bytes.now in
+    let removed : List Bool = c.args.removed.now in
+    let none : removed ≡ [] =
+    nil_from_length removed (eqb-true (length removed) 0 (sym c.is_empty.ensures ∙ c.if-not-is_empty.false)) in
+    pattern-Literal c.in_ok-bytes.bytes ∙ ap literal c.in_ok-bytes.ensures ∙ sym (without_flags (literal bytes))
+    ∙ ap (λ (flags : List Bool). without (flag_at flags) (literal bytes)) (sym none)

@@ -1,12 +1,15 @@
 -- A part stands before those that are left.
-use Rattle.std.proofs.Common.{◌+◌, IsTrue, drop, map, arith, sym, ◌∙◌}
+use Rattle.std.proofs.Common.{◌+◌, IsTrue, drop, map, length, arith, ap, sym, ◌∙◌}
 use Rattle.std.specs.List.{Contains}
 use Rattle.std.proofs.lemmas.Bool.{false≢true}
 use Rattle.spec_automata.specs.Encoding.{one_of_these}
 use Rattle.spec_automata.specs.Encoding.{these_in_turn}
+use Rattle.spec_automata.specs.Positions.{position_count}
 use Rattle.lbnf_regex.specs.Patterns.{bytes_of_pattern}
 use Rattle.lbnf_regex.specs.Steps.{HasLast}
 use Rattle.lbnf_regex.proofs.ExpectingLemmas.{parts_more, can_end_more, either_more}
+use Rattle.lbnf_regex.proofs.LiteralLemmas.{literal_count}
+use Rattle.lbnf_regex.proofs.PatternLemmas.{pattern-Literal}
 use Rattle.lbnf_regex.proofs.expecting.+can_end.Goals as goal
 
 pub loop-part-preserved : goal.loop-part-preserved
@@ -44,3 +47,9 @@ loop-part-2-preserved t c =
           (omega (arith, c.size-start-in-loop-part-2.ensures))
           (λ h. false≢true (sym c.if-can_end.false ∙ c.can_end.ensures.1 h)) rest;
     }
+
+pub ends_literal-requires : goal.ends_literal-requires
+ends_literal-requires t c =
+    let bytes = c.in-Literal.bytes in
+    let count = ap position_count (ap bytes_of_pattern c.in-Literal.is ∙ pattern-Literal bytes) ∙ literal_count bytes in
+    omega (arith, c.requires, count, ap length c.as_slice.ensures)

@@ -1,14 +1,16 @@
 -- A part stands before those that are left.
-use Rattle.std.proofs.Common.{◌+◌, IsTrue, drop, map, ap, arith, sym, ◌∙◌}
+use Rattle.std.proofs.Common.{◌+◌, IsTrue, drop, map, length, ap, arith, sym, ◌∙◌}
 use Rattle.std.specs.List.{Contains}
 use Rattle.std.proofs.lemmas.Bool.{false≢true}
 use Rattle.std.proofs.lemmas.Result.{on_ok_weaker}
 use Rattle.spec_automata.specs.ByteExpressions.{empty, nothing}
 use Rattle.spec_automata.specs.Encoding.{one_of_these, these_in_turn}
+use Rattle.spec_automata.specs.Positions.{position_count}
 use Rattle.lbnf_regex.specs.Patterns.{bytes_of_pattern}
 use Rattle.lbnf_regex.specs.Steps.{AddsExpected}
-use Rattle.lbnf_regex.proofs.PatternLemmas.{pattern-Bytes, pattern-Seq, pattern-Alt, pattern-Star, pattern-Plus, pattern-Until}
+use Rattle.lbnf_regex.proofs.PatternLemmas.{pattern-Bytes, pattern-Literal, pattern-Seq, pattern-Alt, pattern-Star, pattern-Plus, pattern-Until}
 use Rattle.lbnf_regex.proofs.ExpectingLemmas.{parts_more, parts_end, adds_none, adds_dead, adds_in_turn, adds_either, adds_star, adds_plus}
+use Rattle.lbnf_regex.proofs.LiteralLemmas.{literal_count}
 use Rattle.lbnf_regex.proofs.expecting.+expect.Goals as goal
 
 pub expect_in_turn-loop-part-preserved : goal.expect_in_turn-loop-part-preserved
@@ -83,6 +85,11 @@ pub expect-returns-in-Bytes : goal.expect-returns-in-Bytes
 expect-returns-in-Bytes t c =
     rw (ap bytes_of_pattern c.in-Bytes.is ∙ pattern-Bytes c.in-Bytes.set) (rw c.as_slice.ensures at c.expect_set.ensures)
 
+pub expect-returns-in-Literal : goal.expect-returns-in-Literal
+expect-returns-in-Literal t c =
+    rw (ap bytes_of_pattern c.in-Literal.is ∙ pattern-Literal c.in-Literal.bytes)
+    (rw c.as_slice-in-Literal.ensures at c.expect_literal.ensures)
+
 pub expect-returns-in-Star : goal.expect-returns-in-Star
 expect-returns-in-Star t c =
     let enters = rw c.get-inner.ensures at c.enters_again-enters.ensures in
@@ -107,3 +114,9 @@ expect-returns-in-Plus t c =
 pub expect-returns-in-Until : goal.expect-returns-in-Until
 expect-returns-in-Until t c =
     rw (ap bytes_of_pattern c.in-Until.is ∙ pattern-Until c.in-Until.closing) (rw c.as_slice-in-Until.ensures at c.expect_closing.ensures)
+
+pub expect-expect_literal-requires : goal.expect-expect_literal-requires
+expect-expect_literal-requires t c =
+    let bytes = c.in-Literal.bytes in
+    let count = ap position_count (ap bytes_of_pattern c.in-Literal.is ∙ pattern-Literal bytes) ∙ literal_count bytes in
+    omega (arith, c.requires, count, ap length c.as_slice-in-Literal.ensures)

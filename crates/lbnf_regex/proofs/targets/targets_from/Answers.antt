@@ -1,5 +1,5 @@
 -- What the state expects leads to what follows it.
-use Rattle.std.proofs.Common.{map, List, ℕ}
+use Rattle.std.proofs.Common.{map}
 use Rattle.std.proofs.lemmas.Result.{IfOk-weaker}
 use Rattle.spec_automata.specs.Encoding.{one_of_these}
 use Rattle.lbnf_regex.specs.Patterns.{bytes_of_pattern}

@@ -1,6 +1,6 @@
 -- By the side of the next column.
 use Rattle.std.proofs.Common.{map}
-use Rattle.quad_mat.proofs.MergingLemmas.{step_left, step_right, step_both}
+use Rattle.quad_mat.proofs.MergingLemmas.{step_left, step_right}
 use Rattle.quad_mat.proofs.merging.next_step.Goals as goal
 
 pub returns-in-Left : goal.returns-in-Left
@@ -12,9 +12,3 @@ pub returns-in-Right : goal.returns-in-Right
 returns-in-Right g c =
     step_right (map g.C.Cell.symbols c.args.cells.now.items) c.args.left.now c.args.right.now c.args.i c.args.j
     c.requires.full c.requires.right_cells c.in-Right.ensures
-
-pub returns-in_ok-cell-in-Both : goal.returns-in_ok-cell-in-Both
-returns-in_ok-cell-in-Both g c =
-    step_both (map g.C.Cell.symbols c.args.cells.now.items) c.args.left.now c.args.right.now c.args.i c.args.j
-    c.requires.full (map g.C.Cell.symbols c.number_of_both.new.cells.items) c.in_ok-cell-in-Both.cell c.in-Both.ensures
-    c.in_ok-cell-in-Both.ensures

@@ -1,7 +1,7 @@
 -- Where each input breaks, why its grammar is refused, or how each question is answered.
 use Rattle.std.proofs.Common.{[], ap, codes, get_or, length, arith}
 use Rattle.spec_session_cases.proofs.ExamplesLemmas.{refused_at_0, refused_at_9, part_is_some, short_block, refused_grammar, faulty_refused, unfit_refused}
-use Rattle.spec_session_cases.proofs.SessionExamples.{no_question, whole_session, token_session, second_text, checked_grammar}
+use Rattle.spec_session_cases.proofs.SessionExamples.{no_question, whole_session, token_session, tree_session, second_text, checked_grammar}
 use Rattle.spec_script.specs.Script.{grammar}
 use Rattle.spec_session_cases.proofs.laws.small_sessions.Goals as goal
 
@@ -18,6 +18,7 @@ returns c = record {
   no_question = no_question;
   whole_session = whole_session;
   token_session = token_session;
+  tree_session = tree_session;
   second_text = second_text;
   checked_grammar = checked_grammar;
 }

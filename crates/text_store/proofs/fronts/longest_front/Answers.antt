@@ -1,5 +1,5 @@
 -- One byte more leads nowhere, or to the next state.
-use Rattle.std.proofs.Common.{◌≡◌, ◌∙◌, sym, ap, arith}
+use Rattle.std.proofs.Common.{◌∙◌, sym, ap, arith}
 use Rattle.text_store.specs.Lexing.{kind_in}
 use Rattle.text_store.proofs.FrontLemmas.{one_more, stops, best_more}
 use Rattle.text_store.proofs.fronts.longest_front.Goals as goal

@@ -1,5 +1,5 @@
 -- One byte stands behind those so far, and in the end all have come.
-use Rattle.std.proofs.Common.{◌≡◌, ◌<◌, arith}
+use Rattle.std.proofs.Common.{◌<◌, arith}
 use Rattle.lbnf_regex.specs.declared.next_byte.NextByte.TheVariants.{InComment}
 use Rattle.lbnf_regex.specs.Steps.{LeadsTo}
 use Rattle.lbnf_regex.proofs.SetLemmas.{adds_like, comment_more}

@@ -1,5 +1,5 @@
 -- One byte stands behind those so far.
-use Rattle.std.proofs.Common.{◌≡◌, ℕ, List, [], take, subst}
+use Rattle.std.proofs.Common.{◌≡◌, ℕ, List, subst}
 use Rattle.std.specs.List.{Contains}
 use Rattle.std.proofs.lemmas.List.{take_all}
 use Rattle.lbnf_regex.specs.Sets.{AddsTargets}

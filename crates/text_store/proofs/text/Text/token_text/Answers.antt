@@ -1,5 +1,5 @@
 -- The bytes of a token that is kept are UTF-8.
-use Rattle.std.proofs.Common.{◌∙◌, sym, subst, ap, refl}
+use Rattle.std.proofs.Common.{◌∙◌, sym, subst, ap}
 use Rattle.std.specs.Str.{IsUtf8}
 use Rattle.text_store.specs.TextStore.{token_bytes}
 use Rattle.text_store.proofs.TextLemmas.{token_utf8, token_told}
