@@ -40,19 +40,23 @@ MakesLexer lexicon (Ok a) = (HasTooManyStates lexicon → ⊥) × Lexes lexicon 
 MakesLexer lexicon (Err LexMemory) = Unit {0}
 MakesLexer lexicon (Err TooManyStates) = HasTooManyStates lexicon
 
--- a fault of each layer, as one of the language: want of memory is the same of all
+-- a fault of each layer, as one of the language, where want of memory is the same of all: of what
+-- is no file
 abbrev pub of_text : TextFault → LanguageFault
 of_text TextMemory = Memory
 of_text fault = Text fault
 
+-- what is spelled out and unfit
 abbrev pub of_unfit : GrammarFault → LanguageFault
 of_unfit GrammarMemory = Memory
 of_unfit fault = Unfit fault
 
+-- what has no automaton
 abbrev pub of_lex : LexFault → LanguageFault
 of_lex LexMemory = Memory
 of_lex TooManyStates = Lex TooManyStates
 
+-- what has no binary form
 abbrev pub of_binary : BinaryFault → LanguageFault
 of_binary BinaryMemory = Memory
 of_binary fault = Binary fault

@@ -68,12 +68,15 @@ named_plan Text = EachText
 named_plan SpacedText = EachText
 named_plan Elements = First Nothing
 
+-- the plan for the children of a list, where it is wanted at all
 abbrev pub list_plan : Plan → Wanted → Plan
 list_plan plan Nothing = First Nothing
 list_plan plan Text = plan
 list_plan plan SpacedText = plan
 list_plan plan Elements = plan
 
+-- the plan for the children of a node by its label: `_` hands on what is wanted of it, and a list
+-- asks its first child for a text and its last one for elements
 abbrev pub plan_of : Label → Wanted → Plan
 plan_of (Named name) wanted = named_plan wanted
 plan_of Wild wanted = First wanted
@@ -95,6 +98,7 @@ list_opening comma Text = codes "["
 list_opening comma SpacedText = codes " ["
 list_opening comma Elements = comma
 
+-- what comes before the children of a node by its label
 abbrev pub opening : Label → Wanted → List ℕ
 opening (Named name) wanted = named_opening name wanted
 opening Wild wanted = []

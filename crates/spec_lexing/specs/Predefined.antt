@@ -79,25 +79,30 @@ character_expr text = Scalar (slice_index (codes text) 0)
 abbrev pub any_char_expr : String → Expr
 any_char_expr text = AnyOf (codes text)
 
--- the expressions above in code, each with the law that it stands for that one
+-- the expressions above in code, each with the law that it stands for that one: a digit or more
 abbrev pub integer_expr : Expr
 integer_expr = Plus (Class Digit)
 
+-- `e`, with a minus sign behind it or none, and a digit or more; or nothing at all
 abbrev pub exponent_expr : Expr
 exponent_expr =
     Opt (Seq (character_expr "e" ∷ Opt (character_expr "-") ∷ Plus (Class Digit) ∷ []))
 
+-- digits, a point, digits, and an exponent or none
 abbrev pub double_expr : Expr
 double_expr =
     Seq (Plus (Class Digit) ∷ character_expr "." ∷ Plus (Class Digit) ∷ exponent_expr ∷ [])
 
+-- a letter, a digit, an underscore or an apostrophe
 abbrev pub ident_part_expr : Expr
 ident_part_expr =
     Alt (Class Letter ∷ Class Digit ∷ character_expr "_" ∷ character_expr "'" ∷ [])
 
+-- a letter, and such parts behind it
 abbrev pub ident_expr : Expr
 ident_expr = Seq (Class Letter ∷ Star ident_part_expr ∷ [])
 
+-- a backslash with one of the five scalars that it may stand before
 abbrev pub escape_expr : Expr
 escape_expr = Seq (character_expr "\\" ∷ any_char_expr "\"'\\nt" ∷ [])
 
@@ -105,10 +110,12 @@ escape_expr = Seq (character_expr "\\" ∷ any_char_expr "\"'\\nt" ∷ [])
 abbrev pub inside_expr : String → Expr
 inside_expr text = Alt (Minus (Class AnyChar) (any_char_expr text) ∷ escape_expr ∷ [])
 
+-- between double quotes, any number of scalars or escapes
 abbrev pub string_expr : Expr
 string_expr =
     Seq (character_expr "\"" ∷ Star (inside_expr "\"\\") ∷ character_expr "\"" ∷ [])
 
+-- between apostrophes, one scalar or escape
 abbrev pub char_literal_expr : Expr
 char_literal_expr =
     Seq (character_expr "'" ∷ inside_expr "'\\" ∷ character_expr "'" ∷ [])
