@@ -2,8 +2,9 @@
 mod prints;
 mod samples;
 
-ghost use Rattle.std.specs.Prelude.{◌↔◌, IsTrue};
+ghost use Rattle.std.specs.Prelude.{◌↔◌, IfSome, IsTrue};
 ghost use Rattle.spec_grammar.specs.Grammars.{IsSymbolOf};
+ghost use Rattle.first_tree.specs.Answers.{TellsFirst};
 
 use crate::{First, first};
 use binary_form::{Binary, binary};
@@ -36,7 +37,10 @@ fn answer_of(
     grammar: &Grammar,
     kinds: &[Option<u16>],
     question: Question,
-) -> Option<First> {
+) -> Option<First>
+    ensures { IfSome result (TellsFirst grammar.now.rules kinds.now question.0 question.1
+        question.2) }
+{
     let (symbol, i, j) = question;
     if kinds.len() > 16384 || !is_own(grammar, symbol) {
         return None;

@@ -4,11 +4,9 @@ ghost use Rattle.spec_lexing.specs.Classes.{IsSoundDef};
 ghost use Rattle.spec_lexing.specs.Lexicon.{Lexicon};
 ghost use Rattle.text_store.specs.TextStore.{Lexes};
 
-use super::is_own;
+use super::answer_of;
 use super::samples::names;
-use crate::{First, first, print};
-use binary_form::{Binary, binary};
-use cell_sets::ListCell;
+use crate::{First, print};
 use cyk_io::{ByteSink, CleanSink, IoFault, Sink};
 use lbnf_regex::{Automaton, automaton};
 use numbered_grammar::{Grammar, Items, KindDef, Label, LexiconParts, Name, Rule, Symbol};
@@ -17,7 +15,6 @@ use spec_trees::a_first_tree_is_a_parse_tree;
 use std::alloc::Global;
 use std::test::*;
 use text_store::Text;
-use valiant::Chart;
 
 fn name(alloc: Global, text: &str) -> Option<Name>
     ensures { IfSome result IsUtf8 }
@@ -48,7 +45,10 @@ fn lexer(alloc: Global) -> Option<Automaton>
     if kinds.len() > 65535 {
         return None;
     }
-    automaton(alloc, &[], &[], kinds.as_slice()).ok()
+    match automaton(alloc, &[], &[], kinds.as_slice()) {
+        Ok(automaton) => Some(automaton),
+        Err(_) => None,
+    }
 }
 
 /// How a rule is labelled.
@@ -147,13 +147,11 @@ fn print_first<K: Sink>(
     let grammar = grammar(alloc)?;
     let automaton = lexer(alloc)?;
     let text = Text::open(alloc, &automaton, text.as_bytes()).ok()?;
-    let kinds = text.kinds(alloc).ok()?;
-    if kinds.len() > 16384 || !is_own(&grammar, symbol) {
+    let Ok(kinds) = text.kinds(alloc) else {
         return None;
-    }
-    let form: Binary<ListCell> = binary(alloc, &grammar).ok()?;
-    let chart = Chart::of_kinds(alloc, &form, kinds.as_slice()).ok()?;
-    let found = first(alloc, &chart, &form, &grammar, symbol, 0, chart.len()).ok()?;
+    };
+    let whole = (symbol, 0, text.token_count());
+    let found = answer_of(alloc, &grammar, kinds.as_slice(), whole)?;
     let First::Tree(tree) = found else {
         return None;
     };
