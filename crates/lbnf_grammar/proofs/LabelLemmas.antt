@@ -1,11 +1,13 @@
 -- The first definition that is not well labelled, and what holds of all definitions up to one.
-use Rattle.std.proofs.Common.{below_more, ◌≡◌, ◌≢◌, ◌↔◌, ℕ, ◌+◌, ◌<◌, List, [], ◌∷◌, ◌++◌, Bool, IsTrue, length, length-append, take, get_or, Some, All, slice_get, refl, sym, ap, subst, ◌∙◌, inl, inr, arith}
+use Rattle.std.proofs.Common.{below_more, ◌≡◌, ◌≢◌, ◌↔◌, ℕ, ◌+◌, ◌<◌, List, [], ◌∷◌, ◌++◌, Bool, IsTrue, cond, is_some, length, take, get_or, Some, All, slice_get, refl, sym, ap, subst, ◌∙◌, inl, inr, arith}
+use Rattle.std.specs.List.{count_by}
 use Rattle.std.proofs.lemmas.List.{take_more}
+use Rattle.std.proofs.lemmas.List.Recursion.{is_count_by}
 use Rattle.std.proofs.lemmas.List.Elements.{filter_map-append}
 use Rattle.std.proofs.lemmas.Option.{slice_get-get_or, slice_get_read, slice_get_within, get_or_from_slice_get, same_Some}
 use Rattle.spec_lbnf.specs.declared.definition.CatName.{CatName}
 use Rattle.spec_lbnf.specs.declared.definition.RawItem.{RawItem}
-use Rattle.spec_lbnf.specs.declared.definition.RawItem.TheVariants.{Cat}
+use Rattle.spec_lbnf.specs.declared.definition.RawItem.TheVariants.{Cat, Word}
 use Rattle.spec_lbnf.specs.declared.definition.Def.{Def}
 use Rattle.spec_lbnf.specs.declared.fault.GrammarFault.TheVariants.{BadCoercion, BadList}
 use Rattle.spec_lbnf.specs.Expansion.{category_in, categories_in}
@@ -29,11 +31,14 @@ pub categories_more : (items : List RawItem) (i : ℕ) (item : RawItem) → slic
     → categories_in (take (i + 1) items) ≡ categories_in (take i items) ++ categories_in (item ∷ [])
 categories_more items i item at = ap categories_in (take_next items i item at) ∙ categories_in-append (take i items) (item ∷ [])
 
--- the first items that are no words are counted with the next
-pub counted_more : (items : List RawItem) (i : ℕ) (item : RawItem) (count one : ℕ) → slice_get items i ≡ Some item
-    → one ≡ length (categories_in (item ∷ [])) → count ≡ length (categories_in (take i items)) → count + one ≡ length (categories_in (take (i + 1) items))
-counted_more items i item count one at is counted =
-    omega (arith, is, counted, ap length (categories_more items i item at), length-append (categories_in (take i items)) (categories_in (item ∷ [])))
+-- the items that are no words are counted
+pub counted : (items : List RawItem) → length (categories_in items) ≡ count_by (λ item. is_some (category_in item)) items
+counted items = is_count_by (λ rest. length (categories_in rest)) (λ item. is_some (category_in item)) refl step items
+  where
+    step : (item : RawItem) (rest : List RawItem) → length (categories_in (item ∷ rest))
+        ≡ cond (is_some (category_in item)) (1 + length (categories_in rest)) (length (categories_in rest))
+    step (Cat cat) rest = omega arith
+    step (Word word) rest = refl
 
 -- some categories are more than none
 pub some_categories : (cats : List CatName) → 0 < length cats ↔ (cats ≢ [])

@@ -1,8 +1,9 @@
 //! The check of labels, and of the levels of coercions.
 ghost use Rattle.std.specs.Prelude.{◌≡◌, ◌≢◌, ◌≤◌, ◌↔◌, List, [], ◌∷◌, ◌++◌, IsTrue, All, length};
+ghost use Rattle.std.specs.Prelude.{is_some};
 ghost use Rattle.spec_lbnf.specs.Limits.{size_of};
 ghost use Rattle.spec_lbnf.specs.declared.definition.CatName.{CatName};
-ghost use Rattle.spec_lbnf.specs.Expansion.{categories_in};
+ghost use Rattle.spec_lbnf.specs.Expansion.{category_in, categories_in};
 ghost use Rattle.spec_lbnf.specs.Checks.{AreElementAndList, IsOneElement};
 ghost use Rattle.spec_lbnf.specs.Checks.{IsBadWild, IsBadListRule, IsWellLabelled, AtLabels};
 ghost use Rattle.lbnf_grammar.specs.Checking.{EndsInList};
@@ -22,26 +23,22 @@ pub(crate) enum LabelFault {
     List,
 }
 
-/// 1 for an item that is no word, and else 0.
-fn one_if_category(item: &RawItem) -> usize
-    ensures count { result ≡ length (categories_in (item.now ∷ [])) }
-    ensures few { result ≤ 1 }
+/// Whether the item is no word.
+fn is_category(item: &RawItem) -> bool
+    ensures { result ≡ is_some (category_in item.now) }
 {
     match item {
-        RawItem::Cat(_) => 1,
-        RawItem::Word(_) => 0,
+        RawItem::Cat(_) => true,
+        RawItem::Word(_) => false,
     }
 }
 
 /// How many of the items are no words.
+#[tactic(auto, using(crate::proofs::LabelLemmas::counted))]
 fn category_count(items: &[RawItem]) -> usize
     ensures { result ≡ length (categories_in items.now) }
 {
-    let mut count = 0;
-    for item in items {
-        count += one_if_category(item);
-    }
-    count
+    items.iter().filter(|item| is_category(item)).count()
 }
 
 /// Whether some of the items are no words.
