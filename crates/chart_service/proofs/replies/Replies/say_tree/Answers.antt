@@ -10,18 +10,18 @@ returns-in_err-print-clause-err g c =
     let text : List ℕ = text_of c.args.grammar.now c.args.text.now c.args.tree.now in
     at_error _ c.from_residual.result
     (cut_of_both (g.K.Sink.written c.args.sink.now) (g.K.Sink.written c.print.new.sink) c.args.self.now text (10 ∷ [])
-    c.in_err-print.ensures.err)
+    (rw c.self.view_is at c.in_err-print.ensures.err))
 
 pub returns-clause-ok : goal.returns-clause-ok
 returns-clause-ok g c =
     let text : List ℕ = text_of c.args.grammar.now c.args.text.now c.args.tree.now in
     then_all (g.K.Sink.written c.args.sink.now) (g.K.Sink.written c.print.new.sink)
     (g.K.Sink.written c.add.new.sink) c.args.self.now text c.print.new.gathered (10 ∷ []) c.add.new.self
-    c.in_ok-print.ensures.ok c.add.result (rw c.as_slice.ensures at c.add.ensures.ok)
+    (rw c.self.view_is at c.in_ok-print.ensures.ok) c.add.result (rw c.as_slice.ensures at c.add.ensures.ok)
 
 pub returns-clause-err : goal.returns-clause-err
 returns-clause-err g c =
     let text : List ℕ = text_of c.args.grammar.now c.args.text.now c.args.tree.now in
     then_prefix (g.K.Sink.written c.args.sink.now) (g.K.Sink.written c.print.new.sink)
     (g.K.Sink.written c.add.new.sink) c.args.self.now text c.print.new.gathered (10 ∷ []) c.add.new.self
-    c.in_ok-print.ensures.ok c.add.result (rw c.as_slice.ensures at c.add.ensures.err)
+    (rw c.self.view_is at c.in_ok-print.ensures.ok) c.add.result (rw c.as_slice.ensures at c.add.ensures.err)
