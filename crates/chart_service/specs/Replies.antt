@@ -5,6 +5,7 @@ use Rattle.std.specs.Prelude.{string_bytes}
 use Rattle.std.specs.declared.alloc.Global.{Global}
 use Rattle.std.specs.declared.alloc.AllocError.{AllocError}
 use Rattle.cyk_io.specs.Streams.{Grows, GrowsByPrefix}
+pub use Rattle.cyk_io.specs.Gathering.{Passes}
 use Rattle.chart_service.specs.declared.status.Status.{Status}
 use Rattle.chart_service.specs.Statuses.{EndsAtFault}
 
@@ -17,12 +18,6 @@ line_in (Err error) = []
 abbrev pub bytes_in : {X : Type 0} → (X → List ℕ) → Result X AllocError → List ℕ
 bytes_in bytes_of (Ok x) = bytes_of x
 bytes_in bytes_of (Err error) = []
-
--- of the gathered bytes and those that come behind them some are written first, and the rest is
--- left
-abbrev pub Passes : Option (List ℕ) → Option (List ℕ) → List ℕ → List ℕ → List ℕ → Type 0
-Passes old new gathered bytes left =
-    (out : List ℕ) × Grows old new out × (gathered ++ bytes ≡ out ++ left)
 
 -- there is a line, and it was said
 abbrev pub Says : Result (String Global) AllocError → Option (List ℕ) → Option (List ℕ) → List ℕ

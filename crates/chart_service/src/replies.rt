@@ -1,5 +1,5 @@
 //! The replies of a session, which are gathered and go to the sink together.
-ghost use Rattle.std.specs.Prelude.{◌≡◌, ℕ, ◌++◌, [], IsTrue, IsFalse, IsErrOf, IfErr, OnOk, OnErr};
+ghost use Rattle.std.specs.Prelude.{◌≡◌, ℕ, ◌++◌, [], IsErrOf, IfErr, OnOk, OnErr};
 ghost use Rattle.cyk_io.specs.Causes.{HasCause};
 ghost use Rattle.cyk_io.specs.Streams.{Grows, GrowsByPrefix};
 ghost use Rattle.spec_session.specs.Lines.{as_line};
@@ -7,22 +7,18 @@ ghost use Rattle.first_tree.specs.Printing.{IsTreeIn, text_of};
 ghost use Rattle.chart_service.specs.Replies.{line_in, Passes, Says, WritesOut, Finishes};
 
 use crate::status::Status;
-use arrayvec::ArrayVec;
-use cyk_io::{IoFault, Sink, write_all_counted};
+use cyk_io::{Gathered, IoFault, Sink};
 use first_tree::{Tree, print};
 use lbnf_grammar::Grammar;
 use std::alloc::{AllocError, Global};
 use std::marker::Model;
 use text_store::Text;
 
-/// The most bytes that are gathered.
-const MAX_GATHERED: usize = 4096;
-
-/// What was said and is not written yet: at most 4,096 bytes, seen as their list. After an error
-/// nothing more may be said, since a part of the bytes may be written.
+/// What was said and is not written yet, seen as the list of its bytes. After an error nothing more
+/// may be said, since a part of the bytes may be written.
 #[derive(Drop)]
 pub(crate) struct Replies {
-    gathered: ArrayVec<u8, MAX_GATHERED>,
+    gathered: Gathered,
 }
 
 impl Model for Replies {
@@ -30,7 +26,7 @@ impl Model for Replies {
 
     ghost Value = { List ℕ };
 
-    ghost view = { λ r. r.gathered.items };
+    ghost view = { λ r. r.gathered };
 }
 
 impl Replies {
@@ -39,16 +35,8 @@ impl Replies {
         ensures { result ≡ [] }
     {
         Replies {
-            gathered: ArrayVec::new(),
+            gathered: Gathered::new(),
         }
-    }
-
-    /// Gathers the bytes where they fit behind those that are gathered, and answers whether.
-    fn gather(&mut self, bytes: &[u8]) -> bool
-        ensures yes { IsTrue result → self.new ≡ self.old ++ bytes.now }
-        ensures no { IsFalse result → self.new ≡ self.old }
-    {
-        self.gathered.try_extend_from_slice(bytes).is_ok()
     }
 
     /// Writes what is gathered.
@@ -61,9 +49,7 @@ impl Replies {
             (IsErrOf result IoFault.Write) }
         ensures read { IsErrOf result IoFault.Read → ⊥ }
     {
-        let written = write_all_counted(sink, self.gathered.as_slice());
-        self.gathered.clear();
-        written
+        self.gathered.flush(sink)
     }
 
     /// Writes what is gathered, unless what is read next is held already, so that nothing waits
@@ -87,27 +73,6 @@ impl Replies {
         self.flush(sink)
     }
 
-    /// Gathers the bytes. Where they don't fit, what was gathered is written first, and so are they
-    /// where they are more than can be gathered.
-    fn add<K: Sink>(&mut self, sink: &mut K, bytes: &[u8]) -> Result<(), IoFault>
-        ensures ok { OnOk result
-            (Passes (K.written sink.old) (K.written sink.new) self.old bytes.now self.new) }
-        ensures err { OnErr result
-            (GrowsByPrefix (K.written sink.old) (K.written sink.new) (self.old ++ bytes.now)) }
-        ensures cause { HasCause (K.faults sink.old) (K.faults sink.new)
-            (IsErrOf result IoFault.Write) }
-        ensures read { IsErrOf result IoFault.Read → ⊥ }
-    {
-        if self.gather(bytes) {
-            return Ok(());
-        }
-        self.flush(sink)?;
-        if self.gather(bytes) {
-            return Ok(());
-        }
-        write_all_counted(sink, bytes)
-    }
-
     /// Says the line. Where there was no memory for it, what is gathered is written, and the answer
     /// is that.
     pub(crate) fn say<K: Sink>(
@@ -124,7 +89,7 @@ impl Replies {
         ensures read { IsErrOf result IoFault.Read → ⊥ }
     {
         match line {
-            Ok(text) => self.add(sink, text.as_bytes()),
+            Ok(text) => self.gathered.add(sink, text.as_bytes()),
             Err(_) => {
                 self.flush(sink)?;
                 Err(IoFault::Memory)
@@ -132,8 +97,7 @@ impl Replies {
         }
     }
 
-    /// Says the printed text of the tree as a line. What is gathered is written first, and then the
-    /// text is, piece by piece, so that it is nowhere kept whole; its LF is gathered.
+    /// Says the printed text of the tree as a line, piece by piece, so that it is nowhere kept whole.
     pub(crate) fn say_tree<K: Sink>(
         &mut self,
         alloc: Global,
@@ -151,9 +115,8 @@ impl Replies {
             (IsErrOf result IoFault.Write) }
         ensures read { IsErrOf result IoFault.Read → ⊥ }
     {
-        self.flush(sink)?;
-        print(alloc, tree, grammar, text, sink)?;
-        self.add(sink, b"\n".as_slice())
+        print(alloc, tree, grammar, text, &mut self.gathered, sink)?;
+        self.gathered.add(sink, b"\n".as_slice())
     }
 
     /// Says the line and writes all.

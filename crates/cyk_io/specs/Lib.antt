@@ -1,5 +1,6 @@
 pub mod Streams
 pub mod Causes
+pub mod Gathering
 pub mod Lines
 pub mod Blocks
 pub mod Pieces

@@ -5,6 +5,7 @@
 mod ahead;
 mod block;
 mod fault;
+mod gathering;
 mod laws;
 mod line;
 mod memory;
@@ -18,6 +19,7 @@ mod tests;
 pub use ahead::Ahead;
 pub use block::{ReadBlock, read_exact_n};
 pub use fault::IoFault;
+pub use gathering::Gathered;
 pub use laws::{each_block_has_one_answer, each_line_has_one_answer};
 pub use line::{Line, ReadLine, read_line};
 pub use memory::{CleanSink, CleanSource};

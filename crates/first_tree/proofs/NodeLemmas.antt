@@ -1,5 +1,5 @@
 -- The node at the root of a first tree, and what is below it.
-use Rattle.std.proofs.Common.{◌≡◌, ℕ, ◌+◌, List, [], ◌∷◌, ◌++◌, Option, Some, length, slice_get, suc, refl, sym, ◌∙◌, ap, subst, arith}
+use Rattle.std.proofs.Common.{◌≡◌, ℕ, List, [], ◌∷◌, Option, Some, length, slice_get, suc, refl, sym, ◌∙◌, ap, subst, arith}
 use Rattle.std.proofs.lemmas.List.{length-append}
 use Rattle.spec_grammar.specs.declared.rule.Symbol.{Symbol}
 use Rattle.spec_grammar.specs.declared.rule.Symbol.TheVariants.{Category, Kind}

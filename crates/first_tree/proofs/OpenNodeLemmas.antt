@@ -1,22 +1,19 @@
 -- What is left of open nodes behind a leaf, behind the opening of a node, and behind a closing.
-use Rattle.std.proofs.Common.{◌≡◌, ℕ, suc, ◌<◌, List, [], ◌∷◌, ◌++◌, Bool, true, false, ◌||◌, Option, Some, None, map, get_or, length, slice_get, refl, sym, ◌∙◌, ap, subst, arith, append_assoc, append-nil}
+use Rattle.std.proofs.Common.{◌≡◌, ℕ, suc, List, [], ◌∷◌, ◌++◌, Bool, true, false, ◌||◌, Some, None, slice_get, refl, sym, ◌∙◌, ap, subst, arith, append_assoc, append-nil}
 use Rattle.std.specs.List.{cons_option}
 use Rattle.std.proofs.lemmas.List.{get_or-map}
 use Rattle.std.proofs.lemmas.Option.{get_or_from_slice_get, slice_get_within}
 use Rattle.spec_lexing.specs.declared.token.Token.{Token}
-use Rattle.spec_lexing.specs.Tokens.{kinds_of}
-use Rattle.spec_grammar.specs.declared.rule.Symbol.{Symbol}
 use Rattle.spec_grammar.specs.declared.rule.Rule.{Rule}
 use Rattle.spec_grammar.specs.Grammars.{Grammar}
 use Rattle.spec_grammar.specs.Trees.{Tree, leaf, node, Forest, no_trees, trees}
-use Rattle.spec_grammar.specs.Derivation.{IsParseTree, AreParseTrees}
-use Rattle.spec_trees.specs.TreeText.{Print, no_print, node_print, with_child, print_of, prints_of, tree_text}
+use Rattle.spec_trees.specs.TreeText.{Print, no_print, node_print, print_of, prints_of}
 use Rattle.tree_nodes.specs.declared.node.TreeNode.{TreeNode}
-use Rattle.tree_nodes.specs.TreeNodes.{tree_count, leaf_node, rule_node, preorder, forest_preorder}
+use Rattle.tree_nodes.specs.TreeNodes.{tree_count, leaf_node, rule_node, forest_preorder}
 use Rattle.first_tree.specs.declared.open_node.OpenNode.{OpenNode}
 use Rattle.first_tree.specs.declared.wanted.Wanted.{Wanted}
 use Rattle.first_tree.specs.Wanted.{is_print, has_child, wanted_text, first_wanted, plan_past, planned_text, plan_of, opening, closing_of, makes_child}
-use Rattle.first_tree.specs.OpenNodes.{node_past, opened, HasRoot, nodes_left, AreTreesIn, AreLeft, left_of, left_from, IsLeft}
+use Rattle.first_tree.specs.OpenNodes.{node_past, opened, HasRoot, nodes_left, AreLeft, left_of, left_from, IsLeft}
 use Rattle.first_tree.proofs.WantedLemmas.{planned_child, has_child-with, node_is_print, node_parts}
 
 or_assoc : (a b c : Bool) → a || (b || c) ≡ (a || b) || c

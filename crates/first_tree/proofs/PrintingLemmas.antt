@@ -1,27 +1,29 @@
 -- How a print begins, goes on by one node or one closing, and ends.
-use Rattle.std.proofs.Common.{inl, inr, ◌≡◌, ℕ, suc, ◌+◌, ◌-◌, ◌<◌, ◌≤◌, List, [], ◌∷◌, ◌++◌, Bool, false, Option, Some, None, Result, Ok, Err, OnOk, OnErr, IfOk, drop, get_or, length, slice_get, refl, sym, ◌∙◌, ap, subst, arith, append_assoc, append-nil}
+use Rattle.std.proofs.Common.{inl, inr, ◌≡◌, ℕ, ◌+◌, ◌-◌, ◌<◌, ◌≤◌, List, [], ◌∷◌, ◌++◌, false, Option, Some, None, Result, Ok, Err, OnOk, OnErr, IfOk, drop, get_or, length, map, slice_get, refl, sym, ◌∙◌, ap, subst, arith, append_assoc, append-nil}
 use Rattle.std.specs.List.{cons_option}
 use Rattle.std.proofs.lemmas.Bool.{cases_eq}
 use Rattle.std.proofs.lemmas.Option.{slice_get_within}
-use Rattle.std.proofs.lemmas.List.{drop_all, drop_more, length-map}
+use Rattle.std.proofs.lemmas.List.{drop_all, drop_more, get_or_past, length-map}
 use Rattle.spec_lexing.specs.declared.token.Token.{Token}
+use Rattle.spec_lexing.specs.declared.kind_def.KindDef.{KindDef}
 use Rattle.spec_lexing.specs.Tokens.{kinds_of}
 use Rattle.spec_grammar.specs.declared.rule.Symbol.{Symbol}
 use Rattle.spec_grammar.specs.declared.rule.Rule.{Rule}
 use Rattle.spec_grammar.specs.Grammars.{Grammar}
 use Rattle.spec_grammar.specs.Trees.{Tree, leaf, node, Forest, no_trees, trees}
 use Rattle.spec_grammar.specs.Derivation.{IsParseTree}
-use Rattle.spec_trees.specs.TreeText.{Print, print_text, print_of, prints_of, tree_text}
+use Rattle.spec_trees.specs.TreeText.{Print, no_print, token_print, token_bytes, print_text, print_of, prints_of, tree_text}
 use Rattle.tree_nodes.specs.declared.node.TreeNode.{TreeNode}
-use Rattle.tree_nodes.specs.TreeNodes.{tree_count, leaf_node, rule_node, preorder, forest_preorder}
-use Rattle.cyk_io.specs.Streams.{Grows, GrowsByPrefix}
+use Rattle.tree_nodes.specs.TreeNodes.{tree_count, leaf_node, rule_node, preorder}
+use Rattle.cyk_io.specs.Gathering.{Passes}
 use Rattle.first_tree.specs.declared.open_node.OpenNode.{OpenNode}
-use Rattle.first_tree.specs.declared.wanted.Wanted.TheVariants.{Text}
+use Rattle.first_tree.specs.declared.wanted.Wanted.{Wanted}
+use Rattle.first_tree.specs.declared.wanted.Wanted.TheVariants.{Nothing, Text, SpacedText, Elements}
 use Rattle.first_tree.specs.declared.wanted.Plan.TheVariants.{First}
-use Rattle.first_tree.specs.Wanted.{is_print, wanted_text, first_wanted, plan_past, planned_text, opening}
-use Rattle.first_tree.specs.OpenNodes.{node_past, opened, HasRoot, nodes_left, AreLeft, left_from, IsLeft, Advances}
+use Rattle.first_tree.specs.Wanted.{is_print, wanted_text, first_wanted, planned_text, opening}
+use Rattle.first_tree.specs.OpenNodes.{node_past, opened, nodes_left, AreLeft, left_from, IsLeft, Adds, StopsIn, Advances}
 use Rattle.first_tree.proofs.WantedLemmas.{planned_child}
-use Rattle.first_tree.proofs.WritingLemmas.{both_grow, prefix_of_both, prefix_behind, on_error}
+use Rattle.first_tree.proofs.WritingLemmas.{adds_none, both_add, stops_in_both, stops_later, on_error}
 use Rattle.first_tree.proofs.OpenNodeLemmas.{nodes_left-append, halves, leaf_print, leaf_turns, rule_turns, closing_turns, turned, HasBack}
 
 -- the root before its tree
@@ -111,10 +113,10 @@ module _ (g : Grammar) (text : List ℕ) (tokens : List Token) where
         (n ∷ nodes) nodes (opening rule.label (first_wanted top.plan)) bytes (λ root. root)
         (rule_turns g text tokens top n r rule (top.left - 1) nodes of_rule is_rule (omega (arith, some))) is
 
-    module _ (old new : Option (List ℕ)) where
+    module _ (old new : Option (List ℕ) × List ℕ) where
       pub leaf_advances :
           (behind : OpenNode) → n.rule ≡ None
-          → Grows old new (wanted_text (first_wanted top.plan) (leaf_print g text tokens n))
+          → Adds old new (wanted_text (first_wanted top.plan) (leaf_print g text tokens n))
           → behind ≡ node_past (is_print (leaf_print g text tokens n)) (top.left - 1) top
           → Advances g text tokens old new bytes (stack ++ behind ∷ []) nodes
       leaf_advances behind no_rule grows same =
@@ -124,17 +126,17 @@ module _ (g : Grammar) (text : List ℕ) (tokens : List Token) where
 
       pub leaf_stops :
           n.rule ≡ None
-          → GrowsByPrefix old new (wanted_text (first_wanted top.plan) (leaf_print g text tokens n))
-          → GrowsByPrefix old new bytes
+          → StopsIn old new (wanted_text (first_wanted top.plan) (leaf_print g text tokens n))
+          → StopsIn old new bytes
       leaf_stops no_rule cut =
           let (back, whole, left) = leaf_back no_rule in
-          let P : List ℕ → Type 0 = GrowsByPrefix old new in
-          subst P (sym whole) (prefix_of_both old new (wanted_text (first_wanted top.plan) (leaf_print g text tokens n)) back cut)
+          let P : List ℕ → Type 0 = StopsIn old new in
+          subst P (sym whole) (stops_in_both old new (wanted_text (first_wanted top.plan) (leaf_print g text tokens n)) back cut)
 
       pub rule_advances :
           (r : ℕ) (rule : Rule) (inner : OpenNode) (stack' : List OpenNode)
           → n.rule ≡ Some r → slice_get g.rules r ≡ Some rule
-          → Grows old new (opening rule.label (first_wanted top.plan))
+          → Adds old new (opening rule.label (first_wanted top.plan))
           → stack' ≡ stack ++ node_past false (top.left - 1) top ∷ []
           → inner ≡ opened rule.label (first_wanted top.plan) n.children
           → Advances g text tokens old new bytes (stack' ++ inner ∷ []) nodes
@@ -149,18 +151,18 @@ module _ (g : Grammar) (text : List ℕ) (tokens : List Token) where
 
       pub rule_stops :
           (r : ℕ) (rule : Rule) → n.rule ≡ Some r → slice_get g.rules r ≡ Some rule
-          → GrowsByPrefix old new (opening rule.label (first_wanted top.plan)) → GrowsByPrefix old new bytes
+          → StopsIn old new (opening rule.label (first_wanted top.plan)) → StopsIn old new bytes
       rule_stops r rule of_rule is_rule cut =
           let (back, whole, left) = rule_back r rule of_rule is_rule in
-          let P : List ℕ → Type 0 = GrowsByPrefix old new in
-          subst P (sym whole) (prefix_of_both old new (opening rule.label (first_wanted top.plan)) back cut)
+          let P : List ℕ → Type 0 = StopsIn old new in
+          subst P (sym whole) (stops_in_both old new (opening rule.label (first_wanted top.plan)) back cut)
 
   -- what a step at a leaf answers, by what it wrote
   module _ (stack : List OpenNode) (top : OpenNode) (n : TreeNode) (some : 0 < top.left) (no_rule : n.rule ≡ None)
-      (old new : Option (List ℕ)) where
+      (old new : Option (List ℕ) × List ℕ) where
     pub leaf_goes :
         {E : Type 0} → (r : Result OpenNode E)
-        → OnOk r (Grows old new (wanted_text (first_wanted top.plan) (leaf_print g text tokens n)))
+        → OnOk r (Adds old new (wanted_text (first_wanted top.plan) (leaf_print g text tokens n)))
         → IfOk r (λ behind. behind ≡ node_past (is_print (leaf_print g text tokens n)) (top.left - 1) top)
         → IfOk r (λ inner. (nodes : List TreeNode) (bytes : List ℕ)
         → IsLeft g text tokens (stack ++ top ∷ []) (n ∷ nodes) bytes
@@ -171,18 +173,18 @@ module _ (g : Grammar) (text : List ℕ) (tokens : List Token) where
 
     pub leaf_fails :
         {T E : Type 0} → (r : Result T E)
-        → OnErr r (GrowsByPrefix old new (wanted_text (first_wanted top.plan) (leaf_print g text tokens n)))
+        → OnErr r (StopsIn old new (wanted_text (first_wanted top.plan) (leaf_print g text tokens n)))
         → OnErr r ((nodes : List TreeNode) (bytes : List ℕ)
-        → IsLeft g text tokens (stack ++ top ∷ []) (n ∷ nodes) bytes → GrowsByPrefix old new bytes)
+        → IsLeft g text tokens (stack ++ top ∷ []) (n ∷ nodes) bytes → StopsIn old new bytes)
     leaf_fails (Ok inner) cut = cut
     leaf_fails (Err fault) cut = λ nodes bytes is. leaf_stops stack top n nodes bytes some is old new no_rule cut
 
   -- and at a node of a rule
   module _ (stack : List OpenNode) (top : OpenNode) (n : TreeNode) (some : 0 < top.left) (r : ℕ) (rule : Rule)
-      (of_rule : n.rule ≡ Some r) (is_rule : slice_get g.rules r ≡ Some rule) (old new : Option (List ℕ)) where
+      (of_rule : n.rule ≡ Some r) (is_rule : slice_get g.rules r ≡ Some rule) (old new : Option (List ℕ) × List ℕ) where
     pub rule_goes :
         {E : Type 0} → (stack' : List OpenNode) (result : Result OpenNode E)
-        → OnOk result (Grows old new (opening rule.label (first_wanted top.plan)))
+        → OnOk result (Adds old new (opening rule.label (first_wanted top.plan)))
         → OnOk result (stack' ≡ stack ++ node_past false (top.left - 1) top ∷ [])
         → IfOk result (λ inner. inner ≡ opened rule.label (first_wanted top.plan) n.children)
         → IfOk result (λ inner. (nodes : List TreeNode) (bytes : List ℕ)
@@ -194,16 +196,16 @@ module _ (g : Grammar) (text : List ℕ) (tokens : List Token) where
 
     pub rule_fails :
         {T E : Type 0} → (result : Result T E)
-        → OnErr result (GrowsByPrefix old new (opening rule.label (first_wanted top.plan)))
+        → OnErr result (StopsIn old new (opening rule.label (first_wanted top.plan)))
         → OnErr result ((nodes : List TreeNode) (bytes : List ℕ)
-        → IsLeft g text tokens (stack ++ top ∷ []) (n ∷ nodes) bytes → GrowsByPrefix old new bytes)
+        → IsLeft g text tokens (stack ++ top ∷ []) (n ∷ nodes) bytes → StopsIn old new bytes)
     rule_fails (Ok inner) cut = cut
     rule_fails (Err fault) cut = λ nodes bytes is.
         rule_stops stack top n nodes bytes some is old new r rule of_rule is_rule cut
 
   -- bytes advance, and then more
   pub advances_more :
-      (old mid new : Option (List ℕ)) (bytes : List ℕ) (stack stack' : List OpenNode) (nodes nodes' : List TreeNode)
+      (old mid new : Option (List ℕ) × List ℕ) (bytes : List ℕ) (stack stack' : List OpenNode) (nodes nodes' : List TreeNode)
       → Advances g text tokens old mid bytes stack nodes
       → ((rest : List ℕ) → IsLeft g text tokens stack nodes rest → Advances g text tokens mid new rest stack' nodes')
       → Advances g text tokens old new bytes stack' nodes'
@@ -212,26 +214,26 @@ module _ (g : Grammar) (text : List ℕ) (tokens : List Token) where
         front ++ next,
         last,
         whole ∙ ap (λ xs. front ++ xs) rest ∙ sym (append_assoc front next last),
-        both_grow old mid new front next grows grows_more,
+        both_add old mid new front next grows grows_more,
         left_more,
       )
 
   -- bytes advance, and then a prefix of the others comes
   pub stops_behind :
-      (old mid new : Option (List ℕ)) (bytes : List ℕ) (stack : List OpenNode) (nodes : List TreeNode)
+      (old mid new : Option (List ℕ) × List ℕ) (bytes : List ℕ) (stack : List OpenNode) (nodes : List TreeNode)
       → Advances g text tokens old mid bytes stack nodes
-      → ((rest : List ℕ) → IsLeft g text tokens stack nodes rest → GrowsByPrefix mid new rest)
-      → GrowsByPrefix old new bytes
+      → ((rest : List ℕ) → IsLeft g text tokens stack nodes rest → StopsIn mid new rest)
+      → StopsIn old new bytes
   stops_behind old mid new bytes stack nodes (front, back, whole, grows, left) cut =
-      let P : List ℕ → Type 0 = GrowsByPrefix old new in
-      subst P (sym whole) (prefix_behind old mid new front back grows (cut back left))
+      let P : List ℕ → Type 0 = StopsIn old new in
+      subst P (sym whole) (stops_later old mid new front back grows (cut back left))
 
   -- nothing is written
   pub stays :
-      (old : Option (List ℕ)) (bytes : List ℕ) (stack : List OpenNode) (nodes : List TreeNode)
+      (old : Option (List ℕ) × List ℕ) (bytes : List ℕ) (stack : List OpenNode) (nodes : List TreeNode)
       → IsLeft g text tokens stack nodes bytes → Advances g text tokens old old bytes stack nodes
   stays old bytes stack nodes left =
-      ([], bytes, refl, (λ told is. is ∙ ap Some (sym (append-nil told))), left)
+      ([], bytes, refl, adds_none old, left)
 
   module _ (stack before : List OpenNode) (below top : OpenNode) (nodes : List TreeNode) (bytes : List ℕ)
       (none : top.left ≡ 0) (popped : stack ≡ before ++ below ∷ [])
@@ -248,7 +250,7 @@ module _ (g : Grammar) (text : List ℕ) (tokens : List Token) where
         (closing_turns g text tokens below top nodes none) (subst P all is)
 
     pub closing_advances :
-        (old new : Option (List ℕ)) (behind : OpenNode) → Grows old new (cons_option top.closing [])
+        (old new : Option (List ℕ) × List ℕ) (behind : OpenNode) → Adds old new (cons_option top.closing [])
         → behind ≡ node_past top.is_child below.left below
         → Advances g text tokens old new bytes (before ++ behind ∷ []) nodes
     closing_advances old new behind grows same =
@@ -257,12 +259,12 @@ module _ (g : Grammar) (text : List ℕ) (tokens : List Token) where
         (cons_option top.closing [], back, whole, grows, subst P (sym same) left)
 
     pub closing_stops :
-        (old new : Option (List ℕ)) → GrowsByPrefix old new (cons_option top.closing [])
-        → GrowsByPrefix old new bytes
+        (old new : Option (List ℕ) × List ℕ) → StopsIn old new (cons_option top.closing [])
+        → StopsIn old new bytes
     closing_stops old new cut =
         let (back, whole, left) = closing_back in
-        let P : List ℕ → Type 0 = GrowsByPrefix old new in
-        subst P (sym whole) (prefix_of_both old new (cons_option top.closing []) back cut)
+        let P : List ℕ → Type 0 = StopsIn old new in
+        subst P (sym whole) (stops_in_both old new (cons_option top.closing []) back cut)
 
   -- where a node is left, some subtree of the top one is, unless other nodes are below it
   pub some_left :
@@ -315,7 +317,7 @@ module _ (g : Grammar) (text : List ℕ) (tokens : List Token) where
       nothing_left top (no_trees ∷ []) none (own, has, are) root = ap (λ byte. cons_option byte []) root
 
   -- of what is left the first node, and where none is left all is written
-  module _ (old now : Option (List ℕ)) (whole : List ℕ) (stack : List OpenNode) (top : OpenNode) (nodes : List TreeNode)
+  module _ (old now : Option (List ℕ) × List ℕ) (whole : List ℕ) (stack : List OpenNode) (top : OpenNode) (nodes : List TreeNode)
       (ready : top.left ≡ 0 → stack ≡ []) (advances : Advances g text tokens old now whole (stack ++ top ∷ []) nodes) where
     pub next_left :
         (n : TreeNode) (others : List TreeNode) → nodes ≡ n ∷ others
@@ -330,13 +332,34 @@ module _ (g : Grammar) (text : List ℕ) (tokens : List Token) where
         let (ns, bytes, left) = next_left n others same in
         some_left stack top n ns bytes ready left
 
-    pub all_written : nodes ≡ [] → Grows old now whole
+    pub all_written : nodes ≡ [] → Adds old now whole
     all_written none =
         let (front, back, parts, grows, left) = advances in
         let P : List TreeNode → Type 0 = λ ns. IsLeft g text tokens (stack ++ top ∷ []) ns back in
         let nothing : back ≡ [] = none_left stack top back ready (subst P none left) in
-        let Q : List ℕ → Type 0 = Grows old now in
+        let Q : List ℕ → Type 0 = Adds old now in
         subst Q (sym (parts ∙ ap (λ bytes. front ++ bytes) nothing ∙ append-nil front)) grows
+
+-- of a leaf whose kind is none of the grammar's nothing is printed, so nothing passes
+module _ (g : Grammar) (text : List ℕ) (tokens : List Token) (kind first end : ℕ)
+    (past : length g.lexicon.kinds ≤ kind) where
+  unprinted : print_of g text tokens (leaf kind first end) ≡ no_print
+  unprinted =
+      let print : KindDef → Print = λ def. token_print def (token_bytes g text tokens first) in
+      get_or_past (map print g.lexicon.kinds) kind no_print (omega (arith, past, length-map g.lexicon.kinds print))
+
+  pub unprinted_passes :
+      (old : Option (List ℕ)) (gathered : List ℕ) (wanted : Wanted)
+      → Passes old old gathered (wanted_text wanted (print_of g text tokens (leaf kind first end))) gathered
+  unprinted_passes old gathered wanted =
+      let P : List ℕ → Type 0 = λ bytes. Passes old old gathered bytes gathered in
+      subst P (sym (ap (wanted_text wanted) unprinted ∙ nothing wanted)) (adds_none (old, gathered))
+    where
+      nothing : (w : Wanted) → wanted_text w no_print ≡ []
+      nothing Nothing = refl
+      nothing Text = refl
+      nothing SpacedText = refl
+      nothing Elements = refl
 
 -- what stands at a place that there is not
 abbrev pub no_node : TreeNode
@@ -344,11 +367,11 @@ no_node = record { rule = None; kind = 0; first = 0; end = 0; children = 0 }
 
 -- the print of a tree, before the node of this place
 module _ (g : Grammar) (text : List ℕ) (tokens : List Token) (t : Tree) (nodes : List TreeNode) (i : ℕ)
-    (stack : List OpenNode) (top : OpenNode) (old now : Option (List ℕ)) (same : nodes ≡ preorder t)
+    (stack : List OpenNode) (top : OpenNode) (old now : Option (List ℕ) × List ℕ) (same : nodes ≡ preorder t)
     (ready : top.left ≡ 0 → stack ≡ [])
     (advances : Advances g text tokens old now (tree_text g text tokens t) (stack ++ top ∷ []) (drop i (preorder t))) where
   -- behind the last node all is written
-  pub all_at_end : length nodes ≤ i → Grows old now (tree_text g text tokens t)
+  pub all_at_end : length nodes ≤ i → Adds old now (tree_text g text tokens t)
   all_at_end past =
       let P : List TreeNode → Type 0 = λ xs. drop i xs ≡ [] in
       all_written g text tokens old now (tree_text g text tokens t) stack top (drop i (preorder t)) ready advances
@@ -382,18 +405,18 @@ module _ (g : Grammar) (text : List ℕ) (tokens : List Token) (t : Tree) (nodes
 
     -- the node cannot be entered
     pub entering_fails :
-        {X E : Type 0} → (new : Option (List ℕ)) (r : Result X E)
+        {X E : Type 0} → (new : Option (List ℕ) × List ℕ) (r : Result X E)
         → ((others : List TreeNode) (bytes : List ℕ)
         → IsLeft g text tokens (stack ++ top ∷ []) (get_or nodes i no_node ∷ others) bytes
-        → GrowsByPrefix now new bytes)
-        → OnErr r (GrowsByPrefix old new (tree_text g text tokens t))
+        → StopsIn now new bytes)
+        → OnErr r (StopsIn old new (tree_text g text tokens t))
     entering_fails new r cut =
-        on_error (GrowsByPrefix old new (tree_text g text tokens t)) r
+        on_error (StopsIn old new (tree_text g text tokens t)) r
         (stops_behind g text tokens old now new (tree_text g text tokens t) (stack ++ top ∷ [])
         (get_or nodes i no_node ∷ drop (i + 1) (preorder t)) begun (cut (drop (i + 1) (preorder t))))
 
     -- it is entered
-    module _ (mid : Option (List ℕ)) (entered : List OpenNode) (inner : OpenNode)
+    module _ (mid : Option (List ℕ) × List ℕ) (entered : List OpenNode) (inner : OpenNode)
         (enters : (others : List TreeNode) (bytes : List ℕ)
         → IsLeft g text tokens (stack ++ top ∷ []) (get_or nodes i no_node ∷ others) bytes
         → Advances g text tokens now mid bytes (entered ++ inner ∷ []) others) where
@@ -407,7 +430,7 @@ module _ (g : Grammar) (text : List ℕ) (tokens : List Token) (t : Tree) (nodes
 
       -- and those of which nothing is left are closed
       pub goes_on :
-          (new : Option (List ℕ)) (closed : List OpenNode) (below : OpenNode)
+          (new : Option (List ℕ) × List ℕ) (closed : List OpenNode) (below : OpenNode)
           → ((g' : Grammar) (text' : List ℕ) (tokens' : List Token) (others : List TreeNode) (bytes : List ℕ)
           → IsLeft g' text' tokens' (entered ++ inner ∷ []) others bytes
           → Advances g' text' tokens' mid new bytes (closed ++ below ∷ []) others)
@@ -418,11 +441,11 @@ module _ (g : Grammar) (text : List ℕ) (tokens : List Token) (t : Tree) (nodes
           (closes g text tokens (drop (i + 1) (preorder t)))
 
       pub closing_fails :
-          {X E : Type 0} → (new : Option (List ℕ)) (r : Result X E)
+          {X E : Type 0} → (new : Option (List ℕ) × List ℕ) (r : Result X E)
           → ((g' : Grammar) (text' : List ℕ) (tokens' : List Token) (others : List TreeNode) (bytes : List ℕ)
-          → IsLeft g' text' tokens' (entered ++ inner ∷ []) others bytes → GrowsByPrefix mid new bytes)
-          → OnErr r (GrowsByPrefix old new (tree_text g text tokens t))
+          → IsLeft g' text' tokens' (entered ++ inner ∷ []) others bytes → StopsIn mid new bytes)
+          → OnErr r (StopsIn old new (tree_text g text tokens t))
       closing_fails new r cut =
-          on_error (GrowsByPrefix old new (tree_text g text tokens t)) r
+          on_error (StopsIn old new (tree_text g text tokens t)) r
           (stops_behind g text tokens old mid new (tree_text g text tokens t) (entered ++ inner ∷ [])
           (drop (i + 1) (preorder t)) past_node (cut g text tokens (drop (i + 1) (preorder t))))

@@ -1,6 +1,6 @@
 -- What is kept of rules: one more behind, the last one taken, and one item of it found.
-use Rattle.std.proofs.Common.{◌≡◌, ℕ, ◌+◌, ◌<◌, ◌≤◌, List, [], ◌∷◌, ◌++◌, Option, Some, length, slice_get, drop, suc, refl, sym, ◌∙◌, ap, subst, arith, append_assoc, append-nil}
-use Rattle.std.specs.Prelude.{nat_lt, IsTrue}
+use Rattle.std.proofs.Common.{◌≡◌, ℕ, ◌+◌, ◌<◌, ◌≤◌, List, [], ◌∷◌, ◌++◌, Option, Some, length, slice_get, drop, refl, sym, ◌∙◌, ap, subst, append_assoc, append-nil}
+use Rattle.std.specs.Prelude.{nat_lt}
 use Rattle.std.proofs.lemmas.Bool.{lt-ltb}
 use Rattle.std.proofs.lemmas.Option.{slice_get_within}
 use Rattle.spec_grammar.specs.declared.rule.Symbol.{Symbol}
@@ -11,11 +11,10 @@ use Rattle.spec_trees.specs.FirstTrees.{tree_end, ends_of, lesser_from_left, NoE
 use Rattle.spec_trees.specs.OrderLaws.{NoLesserCut}
 use Rattle.spec_trees.proofs.FirstTreeLemmas.{ends_with_span, first_is_parse_tree, firsts_are_parse_trees}
 use Rattle.spec_trees.proofs.EndsLemmas.{cut_is_least, ends_behind_are_least}
-use Rattle.binary_form.proofs.ItemLemmas.{drop_behind}
 use Rattle.tree_nodes.specs.declared.node.TreeNode.{TreeNode}
 use Rattle.tree_nodes.specs.TreeNodes.{preorder, forest_preorder}
 use Rattle.first_tree.specs.declared.rest.Rest.{Rest}
-use Rattle.first_tree.specs.Searching.{rest_behind, HasItemLeft, IsCut, IsLeastCut, AreFirst, AreNodesOf, AreNodesOfAll, KeepsRest}
+use Rattle.first_tree.specs.Searching.{rest_behind, HasItemLeft, IsLeastCut, AreFirst, AreNodesOf, AreNodesOfAll, KeepsRest}
 use Rattle.first_tree.proofs.DerivationLemmas.{drop_all}
 use Rattle.first_tree.proofs.ChoosingLemmas.{one_least_cut}
 

@@ -1,5 +1,5 @@
 -- How a search for a first tree begins, goes on by one node, and ends.
-use Rattle.std.proofs.Common.{◌≡◌, ℕ, ◌+◌, ◌<◌, ◌≤◌, List, [], ◌∷◌, ◌++◌, Option, Some, None, length, slice_get, drop, suc, refl, sym, ◌∙◌, ap, subst, arith, append_assoc, append-nil}
+use Rattle.std.proofs.Common.{◌≡◌, ℕ, ◌+◌, ◌<◌, ◌≤◌, List, [], ◌∷◌, ◌++◌, Option, Some, None, length, slice_get, drop, refl, sym, ◌∙◌, ap, subst, arith, append_assoc, append-nil}
 use Rattle.std.proofs.lemmas.List.{length-append}
 use Rattle.spec_text.specs.declared.limits.TheConstants.{MAX_NODES}
 use Rattle.spec_grammar.specs.declared.rule.Symbol.{Symbol}
@@ -14,7 +14,7 @@ use Rattle.first_tree.specs.declared.answer.First.TheVariants.{Tree as Found, La
 use Rattle.first_tree.specs.declared.rest.Rest.{Rest}
 use Rattle.first_tree.specs.declared.rest.Part.{Part}
 use Rattle.first_tree.specs.Answers.{TellsFirst}
-use Rattle.first_tree.specs.Searching.{rest_behind, IsLeastRule, IsLeastCut, HasFirst, AreNodesOf, AreNodesOfAll, HasFirstNode, Enters, GivesNode, KeepsRest, IsUnderWay}
+use Rattle.first_tree.specs.Searching.{rest_behind, IsLeastRule, IsLeastCut, HasFirst, AreNodesOf, AreNodesOfAll, Enters, GivesNode, KeepsRest, IsUnderWay}
 use Rattle.first_tree.proofs.NodeLemmas.{length-preorder, leaf_nodes, rule_nodes}
 use Rattle.first_tree.proofs.RestLemmas.{nodes_pop, next_nodes}
 

@@ -1,17 +1,17 @@
 -- What is wanted of a node comes as its opening, what is planned for its children, and its closing.
-use Rattle.std.proofs.Common.{◌≡◌, ℕ, List, [], ◌∷◌, ◌++◌, codes, flat_map, Bool, true, false, ◌||◌, refl, sym, ◌∙◌, ap, append_assoc, append-nil}
+use Rattle.std.proofs.Common.{◌≡◌, ℕ, List, [], ◌∷◌, ◌++◌, codes, flat_map, ◌||◌, refl, sym, ◌∙◌, ap, append-nil}
 use Rattle.std.specs.List.{cons_option}
 use Rattle.spec_lexing.specs.declared.token.Token.{Token}
 use Rattle.spec_grammar.specs.declared.rule.Label.{Label}
 use Rattle.spec_grammar.specs.declared.rule.Label.TheVariants.{Named, Wild, Nil, Cons, One}
 use Rattle.spec_grammar.specs.Grammars.{Grammar}
-use Rattle.spec_grammar.specs.Trees.{Tree, leaf, node, Forest, no_trees, trees}
+use Rattle.spec_grammar.specs.Trees.{Forest, no_trees, trees}
 use Rattle.spec_trees.specs.TreeText.{Print, no_print, text_print, list_print, comma_separated, print_text, print_elements, child_print, node_print, with_child, print_of, prints_of}
 use Rattle.first_tree.specs.declared.wanted.Wanted.{Wanted}
 use Rattle.first_tree.specs.declared.wanted.Wanted.TheVariants.{Nothing, Text, SpacedText, Elements}
 use Rattle.first_tree.specs.declared.wanted.Plan.{Plan}
 use Rattle.first_tree.specs.declared.wanted.Plan.TheVariants.{EachText, TextAndElements, First}
-use Rattle.first_tree.specs.Wanted.{is_print, has_child, spaced, commas_before, wanted_text, first_wanted, plan_behind, plan_past, planned_text, plan_of, opening, closing_of, makes_child}
+use Rattle.first_tree.specs.Wanted.{is_print, has_child, commas_before, wanted_text, first_wanted, plan_past, planned_text, plan_of, opening, closing_of, makes_child}
 
 -- nothing is printed of what is no child
 wanted_of_none : (wanted : Wanted) → wanted_text wanted no_print ≡ []

@@ -1,68 +1,31 @@
--- Bytes are written, and then others.
-use Rattle.std.proofs.Common.{◌≡◌, ℕ, ◌+◌, List, [], ◌∷◌, ◌++◌, length, take, Option, Some, Result, Ok, Err, OnOk, OnErr, refl, sym, ◌∙◌, ap, subst, arith}
-use Rattle.std.proofs.Common.{append_assoc, length-append}
-use Rattle.std.proofs.lemmas.List.{take-append-le}
-use Rattle.std.proofs.Math.Seq.{take-append-add}
-use Rattle.cyk_io.specs.Streams.{Grows, GrowsByPrefix}
+-- Bytes are added, and then others.
+use Rattle.std.proofs.Common.{ℕ, List, [], ◌++◌, Option, Some, Result, Ok, Err, OnErr, sym, ◌∙◌, ap, append-nil}
+use Rattle.cyk_io.proofs.GatheringLemmas.{both_pass, passes_cut, cut_of_both}
+use Rattle.first_tree.specs.OpenNodes.{Adds, StopsIn}
 
--- both are written
-pub both_grow :
-    (old mid new : Option (List ℕ)) (first second : List ℕ)
-    → Grows old mid first → Grows mid new second → Grows old new (first ++ second)
-both_grow old mid new first second grows more told is =
-    more (told ++ first) (grows told is) ∙ ap Some (append_assoc told first second)
+-- none are added
+pub adds_none : (old : Option (List ℕ) × List ℕ) → Adds old old []
+adds_none old = ([], (λ told is. is ∙ ap Some (sym (append-nil told))), append-nil old.1)
+
+-- both are added
+pub both_add :
+    (old mid new : Option (List ℕ) × List ℕ) (first second : List ℕ)
+    → Adds old mid first → Adds mid new second → Adds old new (first ++ second)
+both_add old mid new first second adds more =
+    both_pass old.0 mid.0 new.0 old.1 first mid.1 second new.1 adds more
 
 -- a prefix of the first is one of both
-pub prefix_of_both :
-    (old new : Option (List ℕ)) (first second : List ℕ)
-    → GrowsByPrefix old new first → GrowsByPrefix old new (first ++ second)
-prefix_of_both old new first second cut =
-    let P : List ℕ → Type 0 = Grows old new in (
-      cut.0,
-      omega (arith, cut.1, length-append first second),
-      subst P (sym (take-append-le cut.0 first second cut.1)) cut.2,
-    )
+pub stops_in_both :
+    (old new : Option (List ℕ) × List ℕ) (first second : List ℕ)
+    → StopsIn old new first → StopsIn old new (first ++ second)
+stops_in_both old new first second cut = cut_of_both old.0 new.0 old.1 first second cut
 
--- the first are written, and then a prefix of the second
-pub prefix_behind :
-    (old mid new : Option (List ℕ)) (first second : List ℕ)
-    → Grows old mid first → GrowsByPrefix mid new second → GrowsByPrefix old new (first ++ second)
-prefix_behind old mid new first second grows cut =
-    let P : List ℕ → Type 0 = Grows old new in (
-      length first + cut.0,
-      omega (arith, cut.1, length-append first second),
-      subst P (sym (take-append-add first second cut.0))
-          (both_grow old mid new first (take cut.0 second) grows cut.2),
-    )
-
--- the first are written, and then none
-pub prefix_so_far :
-    (old new : Option (List ℕ)) (first second : List ℕ)
-    → Grows old new first → GrowsByPrefix old new (first ++ second)
-prefix_so_far old new first second grows =
-    let P : List ℕ → Type 0 = Grows old new in (
-      length first,
-      omega (arith, length-append first second),
-      subst P (sym (take-append-le (length first) first second (omega arith) ∙ take_all first)) grows,
-    )
-  where
-    take_all : (xs : List ℕ) → take (length xs) xs ≡ xs
-    take_all [] = refl
-    take_all (x ∷ xs) = ap (λ ys. x ∷ ys) (take_all xs)
-
--- the first are written, and then what is to be said of the second is said of both
-module _ (old mid new : Option (List ℕ)) (first second : List ℕ) (grows : Grows old mid first) where
-  pub then_all :
-      {X E : Type 0} → (r : Result X E)
-      → OnOk r (Grows mid new second) → OnOk r (Grows old new (first ++ second))
-  then_all (Ok x) more = both_grow old mid new first second grows more
-  then_all (Err fault) more = more
-
-  pub then_prefix :
-      {X E : Type 0} → (r : Result X E)
-      → OnErr r (GrowsByPrefix mid new second) → OnErr r (GrowsByPrefix old new (first ++ second))
-  then_prefix (Ok x) cut = cut
-  then_prefix (Err fault) cut = prefix_behind old mid new first second grows cut
+-- the first are added, and then a prefix of the second
+pub stops_later :
+    (old mid new : Option (List ℕ) × List ℕ) (first second : List ℕ)
+    → Adds old mid first → StopsIn mid new second → StopsIn old new (first ++ second)
+stops_later old mid new first second adds cut =
+    passes_cut old.0 mid.0 new.0 old.1 first mid.1 second adds cut
 
 -- an error came where this is so
 pub on_error : {X E : Type 0} (P : Type 0) (r : Result X E) → P → OnErr r P

@@ -11,11 +11,21 @@ use Rattle.spec_grammar.specs.Derivation.{AreParseTrees}
 use Rattle.spec_trees.specs.TreeText.{prints_of}
 use Rattle.tree_nodes.specs.declared.node.TreeNode.{TreeNode}
 use Rattle.tree_nodes.specs.TreeNodes.{tree_count, forest_preorder}
-use Rattle.cyk_io.specs.Streams.{Grows, GrowsByPrefix}
+use Rattle.cyk_io.specs.Streams.{GrowsByPrefix}
+use Rattle.cyk_io.specs.Gathering.{Passes}
 use Rattle.first_tree.specs.declared.open_node.OpenNode.{OpenNode}
 use Rattle.first_tree.specs.declared.wanted.Wanted.{Wanted}
 use Rattle.first_tree.specs.Wanted.{has_child, plan_past, planned_text, plan_of, closing_of}
 use Rattle.first_tree.specs.Wanted.{makes_child}
+
+-- these bytes pass between two moments, of each of which there is what is written, where it is told,
+-- and what is gathered
+abbrev pub Adds : Option (List ℕ) × List ℕ → Option (List ℕ) × List ℕ → List ℕ → Type 0
+Adds old new bytes = Passes old.0 new.0 old.1 bytes new.1
+
+-- a prefix of what is gathered and of these bytes is written between the two
+abbrev pub StopsIn : Option (List ℕ) × List ℕ → Option (List ℕ) × List ℕ → List ℕ → Type 0
+StopsIn old new bytes = GrowsByPrefix old.0 new.0 (old.1 ++ bytes)
 
 -- the node behind one more of its subtrees, which is a child or is none; so many are left
 abbrev pub node_past : Bool → ℕ → OpenNode → OpenNode
@@ -81,9 +91,9 @@ module _ (g : Grammar) (text : List ℕ) (tokens : List Token) where
     pub same : bytes ≡ (left_from ([], false) stack forests).0
     pub root : HasRoot stack
 
-  -- these bytes were written, and the others are left
-  abbrev pub Advances : Option (List ℕ) → Option (List ℕ) → List ℕ → List OpenNode → List TreeNode
-      → Type 0
+  -- of these bytes some passed, and the others are left
+  abbrev pub Advances : Option (List ℕ) × List ℕ → Option (List ℕ) × List ℕ → List ℕ → List OpenNode
+      → List TreeNode → Type 0
   Advances before after bytes stack nodes =
-      (front : List ℕ) × (back : List ℕ) × (bytes ≡ front ++ back) × Grows before after front
+      (front : List ℕ) × (back : List ℕ) × (bytes ≡ front ++ back) × Adds before after front
       × IsLeft stack nodes back

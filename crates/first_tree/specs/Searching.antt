@@ -7,7 +7,7 @@ use Rattle.spec_grammar.specs.declared.rule.Symbol.TheVariants.{Kind}
 use Rattle.spec_grammar.specs.declared.rule.Rule.{Rule}
 use Rattle.spec_grammar.specs.Trees.{Tree, Forest}
 use Rattle.spec_grammar.specs.Derivation.{Derives, DerivesAll}
-use Rattle.spec_trees.specs.FirstTrees.{ends_of, lesser_from_left, NoEndsBefore, NoLesserRule}
+use Rattle.spec_trees.specs.FirstTrees.{ends_of, lesser_from_left, NoEndsBefore}
 use Rattle.spec_trees.specs.FirstTrees.{IsFirstTree, AreFirstTrees}
 use Rattle.tree_nodes.specs.declared.node.TreeNode.{TreeNode}
 use Rattle.tree_nodes.specs.TreeNodes.{preorder, forest_preorder}

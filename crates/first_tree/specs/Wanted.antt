@@ -1,7 +1,7 @@
 -- Serves the proofs alone. What is printed of a tree where its text is wanted, or its elements, or
 -- nothing, and in what order it comes.
-use Rattle.std.specs.Prelude.{◌≡◌, ℕ, List, [], ◌∷◌, ◌++◌, codes, flat_map, Bool, true, false, ◌||◌}
-use Rattle.std.specs.Prelude.{Option, Some, None, cond}
+use Rattle.std.specs.Prelude.{ℕ, List, [], ◌∷◌, ◌++◌, codes, flat_map, Bool, true, false}
+use Rattle.std.specs.Prelude.{Option, Some, None}
 use Rattle.spec_grammar.specs.declared.rule.Label.{Label}
 use Rattle.spec_grammar.specs.declared.rule.Label.TheVariants.{Named, Wild, Nil, Cons, One}
 use Rattle.spec_trees.specs.TreeText.{Print, no_print, text_print, list_print, print_text}

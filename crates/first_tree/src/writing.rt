@@ -1,80 +1,96 @@
-//! Pieces of the printed text of a tree, each written at once.
+//! Pieces of the printed text of a tree, each gathered or written whole.
 ghost use Rattle.std.specs.Prelude.{◌≡◌, ◌<◌, ◌++◌, ◌∷◌, [], ℕ, List, OnOk, OnErr, IfOk, IsErrOf, IsTrue};
 ghost use Rattle.std.specs.Char.{digit_char};
 ghost use Rattle.std.specs.List.{cons_option};
 ghost use Rattle.spec_text.specs.Escapes.{printed, printed_byte};
 ghost use Rattle.spec_trees.specs.TreeText.{token_print};
 ghost use Rattle.cyk_io.specs.Causes.{HasCause};
-ghost use Rattle.cyk_io.specs.Streams.{Grows, GrowsByPrefix};
+ghost use Rattle.cyk_io.specs.Streams.{GrowsByPrefix};
+ghost use Rattle.cyk_io.specs.Gathering.{Passes};
 ghost use Rattle.first_tree.specs.Wanted.{is_print, named_opening, opening, wanted_text};
 
 use crate::wanted::{Wanted, list_opening};
-use cyk_io::{IoFault, Sink, write_all_counted};
+use cyk_io::{Gathered, IoFault, Sink};
 use spec_grammar::Label;
 use spec_lexing::KindDef;
 use std::alloc::{AllocError, Global};
 
 /// Writes the first bytes and then the second.
-fn write_both<K: Sink>(sink: &mut K, first: &[u8], second: &[u8]) -> Result<(), IoFault>
-    ensures ok { OnOk result (Grows (K.written sink.old) (K.written sink.new)
-        (first.now ++ second.now)) }
+fn write_both<K: Sink>(
+    gathered: &mut Gathered,
+    sink: &mut K,
+    first: &[u8],
+    second: &[u8],
+) -> Result<(), IoFault>
+    ensures ok { OnOk result (Passes (K.written sink.old) (K.written sink.new) gathered.old
+        (first.now ++ second.now) gathered.new) }
     ensures err { OnErr result (GrowsByPrefix (K.written sink.old) (K.written sink.new)
-        (first.now ++ second.now)) }
+        (gathered.old ++ (first.now ++ second.now))) }
     ensures cause { HasCause (K.faults sink.old) (K.faults sink.new)
         (IsErrOf result IoFault.Write) }
     ensures read { IsErrOf result IoFault.Read → ⊥ }
 {
-    write_all_counted(sink, first)?;
-    write_all_counted(sink, second)
+    gathered.add(sink, first)?;
+    gathered.add(sink, second)
 }
 
 /// Writes what comes before the children of a node that has a name.
-fn write_name<K: Sink>(sink: &mut K, name: &[u8], wanted: Wanted) -> Result<(), IoFault>
-    ensures ok { OnOk result (Grows (K.written sink.old) (K.written sink.new)
-        (named_opening name.now wanted)) }
+fn write_name<K: Sink>(
+    gathered: &mut Gathered,
+    sink: &mut K,
+    name: &[u8],
+    wanted: Wanted,
+) -> Result<(), IoFault>
+    ensures ok { OnOk result (Passes (K.written sink.old) (K.written sink.new) gathered.old
+        (named_opening name.now wanted) gathered.new) }
     ensures err { OnErr result (GrowsByPrefix (K.written sink.old) (K.written sink.new)
-        (named_opening name.now wanted)) }
+        (gathered.old ++ named_opening name.now wanted)) }
     ensures cause { HasCause (K.faults sink.old) (K.faults sink.new)
         (IsErrOf result IoFault.Write) }
     ensures read { IsErrOf result IoFault.Read → ⊥ }
 {
     match wanted {
         Wanted::Nothing => Ok(()),
-        Wanted::Text => write_both(sink, "(".as_bytes(), name),
-        Wanted::SpacedText => write_both(sink, " (".as_bytes(), name),
+        Wanted::Text => write_both(gathered, sink, "(".as_bytes(), name),
+        Wanted::SpacedText => write_both(gathered, sink, " (".as_bytes(), name),
         Wanted::Elements => Ok(()),
     }
 }
 
 /// Writes what comes before the children of a node with this label.
 pub(crate) fn write_opening<K: Sink>(
+    gathered: &mut Gathered,
     sink: &mut K,
     label: &Label,
     wanted: Wanted,
 ) -> Result<(), IoFault>
-    ensures ok { OnOk result (Grows (K.written sink.old) (K.written sink.new)
-        (opening label.now wanted)) }
+    ensures ok { OnOk result (Passes (K.written sink.old) (K.written sink.new) gathered.old
+        (opening label.now wanted) gathered.new) }
     ensures err { OnErr result (GrowsByPrefix (K.written sink.old) (K.written sink.new)
-        (opening label.now wanted)) }
+        (gathered.old ++ opening label.now wanted)) }
     ensures cause { HasCause (K.faults sink.old) (K.faults sink.new)
         (IsErrOf result IoFault.Write) }
     ensures read { IsErrOf result IoFault.Read → ⊥ }
 {
     match label {
-        Label::Named(name) => write_name(sink, name.as_slice(), wanted),
+        Label::Named(name) => write_name(gathered, sink, name.as_slice(), wanted),
         Label::Wild => Ok(()),
-        Label::Nil => write_all_counted(sink, list_opening("", wanted).as_bytes()),
-        Label::One => write_all_counted(sink, list_opening(", ", wanted).as_bytes()),
-        Label::Cons => write_all_counted(sink, list_opening(", ", wanted).as_bytes()),
+        Label::Nil => gathered.add(sink, list_opening("", wanted).as_bytes()),
+        Label::One => gathered.add(sink, list_opening(", ", wanted).as_bytes()),
+        Label::Cons => gathered.add(sink, list_opening(", ", wanted).as_bytes()),
     }
 }
 
 /// Writes the byte, if there is one.
-pub(crate) fn write_closing<K: Sink>(sink: &mut K, closing: Option<u8>) -> Result<(), IoFault>
-    ensures ok { OnOk result (Grows (K.written sink.old) (K.written sink.new)
-        (cons_option closing [])) }
+pub(crate) fn write_closing<K: Sink>(
+    gathered: &mut Gathered,
+    sink: &mut K,
+    closing: Option<u8>,
+) -> Result<(), IoFault>
+    ensures ok { OnOk result (Passes (K.written sink.old) (K.written sink.new) gathered.old
+        (cons_option closing []) gathered.new) }
     ensures err { OnErr result (GrowsByPrefix (K.written sink.old) (K.written sink.new)
-        (cons_option closing [])) }
+        (gathered.old ++ cons_option closing [])) }
     ensures cause { HasCause (K.faults sink.old) (K.faults sink.new)
         (IsErrOf result IoFault.Write) }
     ensures read { IsErrOf result IoFault.Read → ⊥ }
@@ -82,7 +98,7 @@ pub(crate) fn write_closing<K: Sink>(sink: &mut K, closing: Option<u8>) -> Resul
     let Some(byte) = closing else {
         return Ok(());
     };
-    write_all_counted(sink, &[byte])
+    gathered.add(sink, &[byte])
 }
 
 /// Whether the byte is printed as it is.
@@ -145,20 +161,25 @@ fn printed(alloc: Global, bytes: &[u8]) -> Result<Vec<u8>, AllocError>
 
 /// Writes a colon and the bytes as they are printed. They are copied only where they are not
 /// printed as they are.
-fn write_printed<K: Sink>(alloc: Global, sink: &mut K, bytes: &[u8]) -> Result<(), IoFault>
-    ensures ok { OnOk result (Grows (K.written sink.old) (K.written sink.new)
-        (58 ∷ printed bytes.now)) }
+fn write_printed<K: Sink>(
+    alloc: Global,
+    gathered: &mut Gathered,
+    sink: &mut K,
+    bytes: &[u8],
+) -> Result<(), IoFault>
+    ensures ok { OnOk result (Passes (K.written sink.old) (K.written sink.new) gathered.old
+        (58 ∷ printed bytes.now) gathered.new) }
     ensures err { OnErr result (GrowsByPrefix (K.written sink.old) (K.written sink.new)
-        (58 ∷ printed bytes.now)) }
+        (gathered.old ++ (58 ∷ printed bytes.now))) }
     ensures cause { HasCause (K.faults sink.old) (K.faults sink.new)
         (IsErrOf result IoFault.Write) }
     ensures read { IsErrOf result IoFault.Read → ⊥ }
 {
     if is_plain(bytes) {
-        return write_both(sink, ":".as_bytes(), bytes);
+        return write_both(gathered, sink, ":".as_bytes(), bytes);
     }
     match printed(alloc, bytes) {
-        Ok(text) => write_both(sink, ":".as_bytes(), text.as_slice()),
+        Ok(text) => write_both(gathered, sink, ":".as_bytes(), text.as_slice()),
         Err(_) => Err(IoFault::Memory),
     }
 }
@@ -166,35 +187,37 @@ fn write_printed<K: Sink>(alloc: Global, sink: &mut K, bytes: &[u8]) -> Result<(
 /// Writes the name of a token's kind behind these bytes, and then the token's bytes.
 fn write_token<K: Sink>(
     alloc: Global,
+    gathered: &mut Gathered,
     sink: &mut K,
     lead: &[u8],
     name: &[u8],
     bytes: &[u8],
 ) -> Result<(), IoFault>
-    ensures ok { OnOk result (Grows (K.written sink.old) (K.written sink.new)
-        ((lead.now ++ name.now) ++ (58 ∷ printed bytes.now))) }
+    ensures ok { OnOk result (Passes (K.written sink.old) (K.written sink.new) gathered.old
+        ((lead.now ++ name.now) ++ (58 ∷ printed bytes.now)) gathered.new) }
     ensures err { OnErr result (GrowsByPrefix (K.written sink.old) (K.written sink.new)
-        ((lead.now ++ name.now) ++ (58 ∷ printed bytes.now))) }
+        (gathered.old ++ ((lead.now ++ name.now) ++ (58 ∷ printed bytes.now)))) }
     ensures cause { HasCause (K.faults sink.old) (K.faults sink.new)
         (IsErrOf result IoFault.Write) }
     ensures read { IsErrOf result IoFault.Read → ⊥ }
 {
-    write_both(sink, lead, name)?;
-    write_printed(alloc, sink, bytes)
+    write_both(gathered, sink, lead, name)?;
+    write_printed(alloc, gathered, sink, bytes)
 }
 
 /// Writes what is wanted of a token of the kind with these bytes.
 pub(crate) fn write_leaf<K: Sink>(
     alloc: Global,
+    gathered: &mut Gathered,
     sink: &mut K,
     kind: &KindDef,
     bytes: &[u8],
     wanted: Wanted,
 ) -> Result<(), IoFault>
-    ensures ok { OnOk result (Grows (K.written sink.old) (K.written sink.new)
-        (wanted_text wanted (token_print kind.now bytes.now))) }
+    ensures ok { OnOk result (Passes (K.written sink.old) (K.written sink.new) gathered.old
+        (wanted_text wanted (token_print kind.now bytes.now)) gathered.new) }
     ensures err { OnErr result (GrowsByPrefix (K.written sink.old) (K.written sink.new)
-        (wanted_text wanted (token_print kind.now bytes.now))) }
+        (gathered.old ++ wanted_text wanted (token_print kind.now bytes.now))) }
     ensures cause { HasCause (K.faults sink.old) (K.faults sink.new)
         (IsErrOf result IoFault.Write) }
     ensures read { IsErrOf result IoFault.Read → ⊥ }
@@ -203,8 +226,15 @@ pub(crate) fn write_leaf<K: Sink>(
         KindDef::Word(_) => Ok(()),
         KindDef::Token { name, .. } => match wanted {
             Wanted::Nothing => Ok(()),
-            Wanted::Text => write_token(alloc, sink, &[], name.as_slice(), bytes),
-            Wanted::SpacedText => write_token(alloc, sink, " ".as_bytes(), name.as_slice(), bytes),
+            Wanted::Text => write_token(alloc, gathered, sink, &[], name.as_slice(), bytes),
+            Wanted::SpacedText => write_token(
+                alloc,
+                gathered,
+                sink,
+                " ".as_bytes(),
+                name.as_slice(),
+                bytes,
+            ),
             Wanted::Elements => Ok(()),
         },
     }

@@ -1,5 +1,5 @@
 -- A kind ends behind its token, and what stands before kinds as many tokens before the end.
-use Rattle.std.proofs.Common.{◌≤◌, ◌∷◌, length, refl, ap, arith}
+use Rattle.std.proofs.Common.{◌∷◌, refl, ap, arith}
 use Rattle.first_tree.proofs.ChoosingLemmas.{begins_with_kind, kind_ends, ends_before_kinds, behind_fits}
 use Rattle.first_tree.proofs.choosing.known_end.Goals as goal
 

@@ -1,5 +1,5 @@
 -- One byte more is printed.
-use Rattle.std.proofs.Common.{◌≡◌, ◌++◌, ℕ, List, get_or, take, sym, ◌∙◌, ap, subst, arith}
+use Rattle.std.proofs.Common.{◌++◌, get_or, sym, ◌∙◌, ap, arith}
 use Rattle.std.proofs.lemmas.List.{take_all}
 use Rattle.spec_text.specs.Escapes.{printed, printed_byte}
 use Rattle.first_tree.proofs.PrintedLemmas.{printed_more}

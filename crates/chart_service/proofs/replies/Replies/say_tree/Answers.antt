@@ -1,31 +1,27 @@
--- What is gathered is written, then the text, and its LF is added.
+-- The text passes, and its LF behind it.
 use Rattle.std.proofs.Common.{ℕ, ◌∷◌, List, []}
-use Rattle.cyk_io.specs.Streams.{GrowsByPrefix}
-use Rattle.spec_session.specs.Lines.{as_line}
+use Rattle.cyk_io.proofs.GatheringLemmas.{then_all, then_prefix, cut_of_both}
 use Rattle.first_tree.specs.Printing.{text_of}
-use Rattle.chart_service.proofs.RepliesLemmas.{text_added, added_cut, text_cut, at_error}
+use Rattle.chart_service.proofs.RepliesLemmas.{at_error}
 use Rattle.chart_service.proofs.replies.Replies.say_tree.Goals as goal
 
 pub returns-in_err-print-clause-err : goal.returns-in_err-print-clause-err
 returns-in_err-print-clause-err g c =
     let text : List ℕ = text_of c.args.grammar.now c.args.text.now c.args.tree.now in
-    at_error _ c.from_residual-in_err-print.result
-    (text_cut (g.K.Sink.written c.args.sink.now) (g.K.Sink.written c.flush.new.sink)
-    (g.K.Sink.written c.print.new.sink) (g.K.Sink.written c.print.new.sink) c.args.self.now text (10 ∷ []) []
-    c.in_ok-flush.ensures.ok c.in_err-print.ensures.err)
+    at_error _ c.from_residual.result
+    (cut_of_both (g.K.Sink.written c.args.sink.now) (g.K.Sink.written c.print.new.sink) c.args.self.now text (10 ∷ [])
+    (rw c.self.view_is at c.in_err-print.ensures.err))
 
 pub returns-clause-ok : goal.returns-clause-ok
 returns-clause-ok g c =
     let text : List ℕ = text_of c.args.grammar.now c.args.text.now c.args.tree.now in
-    text_added (g.K.Sink.written c.args.sink.now) (g.K.Sink.written c.flush.new.sink)
-    (g.K.Sink.written c.print.new.sink) (g.K.Sink.written c.add.new.sink) c.args.self.now text (10 ∷ [])
-    c.add.new.self c.in_ok-flush.ensures.ok c.in_ok-print.ensures.ok c.add.result
-    (rw (c.in_ok-flush.ensures.empty, c.as_slice.ensures) at c.add.ensures.ok)
+    then_all (g.K.Sink.written c.args.sink.now) (g.K.Sink.written c.print.new.sink)
+    (g.K.Sink.written c.add.new.sink) c.args.self.now text c.print.new.gathered (10 ∷ []) c.add.new.self
+    (rw c.self.view_is at c.in_ok-print.ensures.ok) c.add.result (rw c.as_slice.ensures at c.add.ensures.ok)
 
 pub returns-clause-err : goal.returns-clause-err
 returns-clause-err g c =
     let text : List ℕ = text_of c.args.grammar.now c.args.text.now c.args.tree.now in
-    added_cut (g.K.Sink.written c.args.sink.now) (g.K.Sink.written c.flush.new.sink)
-    (g.K.Sink.written c.print.new.sink) (g.K.Sink.written c.add.new.sink) c.args.self.now text (10 ∷ [])
-    c.add.new.self c.in_ok-flush.ensures.ok c.in_ok-print.ensures.ok c.add.result
-    (rw (c.in_ok-flush.ensures.empty, c.as_slice.ensures) at c.add.ensures.err)
+    then_prefix (g.K.Sink.written c.args.sink.now) (g.K.Sink.written c.print.new.sink)
+    (g.K.Sink.written c.add.new.sink) c.args.self.now text c.print.new.gathered (10 ∷ []) c.add.new.self
+    (rw c.self.view_is at c.in_ok-print.ensures.ok) c.add.result (rw c.as_slice.ensures at c.add.ensures.err)

@@ -1,7 +1,7 @@
 -- What is gathered is written, and then what comes behind it.
 use Rattle.std.proofs.Common.{◌∙◌}
-use Rattle.chart_service.proofs.RepliesLemmas.{added, add_cut}
-use Rattle.chart_service.proofs.replies.Replies.add.Goals as goal
+use Rattle.cyk_io.proofs.GatheringLemmas.{added, add_cut}
+use Rattle.cyk_io.proofs.gathering.Gathered.add.Goals as goal
 
 pub returns-clause-ok : goal.returns-clause-ok
 returns-clause-ok g c =
