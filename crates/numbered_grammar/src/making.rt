@@ -58,7 +58,12 @@ fn have_own(categories: &[Name], kinds: &[KindDef], rules: &[Rule]) -> bool
         (grammar_of_parts rules.now categories.now (lexicon_of kinds.now)
         (entry_of_rules rules.now)) }
 {
-    rules.iter().all(|rule| has_own(categories, kinds, rule))
+    for rule in rules {
+        if !has_own(categories, kinds, rule) {
+            return false;
+        }
+    }
+    true
 }
 
 fn have_few_items(rules: &[Rule]) -> bool

@@ -22,10 +22,11 @@ fn one_if_non_nullable(flags: &[bool], symbol: Symbol) -> usize
 fn non_nullable_count(flags: &[bool], items: &[Symbol]) -> usize
     ensures { result ≡ non_nullable_count flags.now items.now }
 {
-    items
-        .iter()
-        .filter(|item| !is_nullable(flags, **item))
-        .count()
+    let mut count = 0;
+    for item in items {
+        count += one_if_non_nullable(flags, *item);
+    }
+    count
 }
 
 /// Links the category to the item, if the item is a category, and each of the `non_nullable` items
