@@ -35,9 +35,9 @@ pub(crate) struct Body<C: Cell> {
 
 /// The numbers in the room of those cells and rows of a matrix that were brought there.
 #[derive(Drop)]
-struct Known {
-    cells: Items<Option<u32>>,
-    rows: Items<Option<u32>>,
+pub(crate) struct Known {
+    pub(crate) cells: Items<Option<u32>>,
+    pub(crate) rows: Items<Option<u32>>,
 }
 
 /// Where the window moves the column, None where it does not have it.
@@ -68,6 +68,20 @@ pub(crate) fn unknown(alloc: Global, count: usize) -> Result<Items<Option<u32>>,
         known.push(None)?;
     }
     Ok(known)
+}
+
+/// That nothing is known of a matrix's cells and rows.
+pub(crate) fn unknown_in<C: Cell>(alloc: Global, body: &Body<C>) -> Result<Known, AllocError>
+    ensures cells { IfOk result (λ known. length known.cells ≡ length body.now.cells.items) }
+    ensures no_cell { IfOk result (λ known.
+        (n m : ℕ) → slice_get known.cells n ≡ Some (Some m) → ⊥) }
+    ensures rows { IfOk result (λ known. length known.rows ≡ length body.now.rows) }
+    ensures no_row { IfOk result (λ known.
+        (n m : ℕ) → slice_get known.rows n ≡ Some (Some m) → ⊥) }
+{
+    let cells = unknown(alloc, body.cells.len())?;
+    let rows = unknown(alloc, body.rows.len())?;
+    Ok(Known { cells, rows })
 }
 
 /// What is known of a number, None where nothing is.
@@ -163,7 +177,7 @@ fn moved_row<C: Cell>(
 
 /// The number in the room of what the window has of row n of a matrix. A row that is not known is
 /// brought there.
-fn loaded_row<C: Cell>(
+pub(crate) fn loaded_row<C: Cell>(
     alloc: Global,
     body: &Body<C>,
     known: &mut Known,
@@ -202,6 +216,14 @@ fn loaded_row<C: Cell>(
     Ok(number)
 }
 
+/// No numbers, with room for so many.
+pub(crate) fn numbers_for(alloc: Global, count: usize) -> Result<Items<u32>, AllocError>
+    ensures { IfOk result (λ numbers. numbers ≡ []) }
+{
+    let numbers = Vec::with_capacity(alloc, count)?;
+    Ok(Items::from_vec(numbers))
+}
+
 /// The numbers in the room of what the window has of so many rows of a matrix, from the first on.
 pub(crate) fn loaded_rows<C: Cell>(
     alloc: Global,
@@ -230,7 +252,7 @@ pub(crate) fn loaded_rows<C: Cell>(
     let cells = unknown(alloc, body.cells.len())?;
     let rows = unknown(alloc, body.rows.len())?;
     let mut known = Known { cells, rows };
-    let mut numbers = Items::new(alloc);
+    let mut numbers = numbers_for(alloc, count as usize)?;
     let named = body.numbers.as_slice();
     for i in 0..count as usize {
         let n = named[first as usize + i];
