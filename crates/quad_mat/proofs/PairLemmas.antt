@@ -14,35 +14,12 @@ use Rattle.quad_mat.specs.Rooms.{IsRowUnion, IsRoom, RoomGrows}
 use Rattle.quad_mat.specs.Loading.{IsKnown, IsMovedRow, AreNumbersOf, BothHave}
 use Rattle.quad_mat.specs.Products.{Keeps}
 use Rattle.quad_mat.specs.Pairs.{beside, IsPairRow, KnowsPair, PairHas}
-use Rattle.quad_mat.proofs.EntryLemmas.{grows_length}
-use Rattle.quad_mat.proofs.RoomLemmas.{number_grows, room_then}
-use Rattle.quad_mat.proofs.LoadingLemmas.{copied_grows, known_grows, numbers_grow, numbers_push}
+use Rattle.quad_mat.proofs.RoomLemmas.{room_then}
+use Rattle.quad_mat.proofs.LoadingLemmas.{known_kept, moved_kept, numbers_grow, numbers_push}
 use Rattle.quad_mat.proofs.MatLemmas.{numbers_change}
 
 module _ (columns : ℕ) (cells new_cells : List (List ℕ)) (rows new_rows : List (List Entry)) (unions after : List RowUnion)
     (room : IsRoom columns cells rows unions) (grows : RoomGrows columns cells rows new_cells new_rows after) where
-  -- what is known stays so, where the room alone grows
-  pub known_kept :
-      (w : Window) (source : List (List ℕ)) (source_rows : List (List Entry)) (known_cells known_rows : List (Option ℕ))
-      → IsKnown w source source_rows cells rows known_cells known_rows
-      → IsKnown w source source_rows new_cells new_rows known_cells known_rows
-  known_kept w source source_rows known_cells known_rows known =
-      known_grows w source source_rows columns cells new_cells rows new_rows unions known_cells known_cells known_rows room
-      grows.cells_grow grows.rows_grow
-      (copied_grows source cells new_cells known_cells grows.cells_grow known.copied) known
-
-  -- and the number of a row that was brought keeps what it has
-  pub moved_kept :
-      (w : Window) (source : List (List ℕ)) (row : List Entry) (m : ℕ)
-      → IsMovedRow w source row cells rows m → IsMovedRow w source row new_cells new_rows m
-  moved_kept w source row m is = (
-    omega (arith, grows_length rows new_rows grows.rows_grow, is.0),
-    (λ column s.
-        let same = number_grows columns cells rows unions room new_cells new_rows m column s grows.cells_grow grows.rows_grow is.0 in
-        let has = is.1 column s in
-        ((λ h. has.0 (same.1 h)), (λ h. same.0 (has.1 h)))),
-  )
-
   module _ {C : Type 0} (symbols : C → List ℕ) (left right : Body C) (w : Windows) where
     -- one pair of rows more
     pub pair_next :

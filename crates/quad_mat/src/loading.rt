@@ -262,6 +262,38 @@ pub(crate) fn loaded_rows<C: Cell>(
     Ok(numbers)
 }
 
+/// The numbers, each in the place of that of a row of the matrix, of what the window has of it.
+pub(crate) fn renumbered<C: Cell>(
+    alloc: Global,
+    body: &Body<C>,
+    room: &mut Room<C>,
+    window: Window,
+    named: Items<u32>,
+) -> Result<Items<u32>, AllocError>
+    requires body { IsSource (map C.symbols body.now.cells.items) body.now.rows }
+    requires numbers { AreBelow (length body.now.rows) named }
+    requires fits { window.to + window.width ≤ room.old.columns }
+    requires room { IsRoom room.old.columns
+        (map C.symbols room.old.cells.items) room.old.rows room.old.unions }
+    ensures columns { IfOk result (λ _. room.new.columns ≡ room.old.columns) }
+    ensures grows { IfOk result (λ _. RoomGrows room.old.columns
+        (map C.symbols room.old.cells.items) room.old.rows
+        (map C.symbols room.new.cells.items) room.new.rows room.new.unions) }
+    ensures count { IfOk result (λ numbers. length numbers ≡ length named) }
+    ensures rows { IfOk result (λ numbers. AreNumbersOf
+        (MovedNumberHas window (map C.symbols body.now.cells.items) body.now.rows named 0)
+        (map C.symbols room.new.cells.items) room.new.rows numbers) }
+{
+    let mut known = unknown_in(alloc, body)?;
+    let mut numbers = named;
+    for i in 0..numbers.len() {
+        let n = numbers.as_slice()[i];
+        let m = loaded_row(alloc, body, &mut known, room, window, n)?;
+        numbers.set(i, m);
+    }
+    Ok(numbers)
+}
+
 /// For each place the number of the union of the rows that two lists of numbers have there.
 pub(crate) fn united<C: Cell>(
     alloc: Global,

@@ -14,7 +14,7 @@ ghost use Rattle.quad_mat.specs.Products.{HasNothing, IsProductMat, Keeps};
 
 use crate::entries::{Entry, cell_at, row_at};
 use crate::images::{Factors, empty_making};
-use crate::loading::{Body, Window, empty_rows, loaded_rows, united};
+use crate::loading::{Body, Window, empty_rows, loaded_rows, renumbered, united};
 use crate::pairs::{paired_rows, side_by_side};
 use crate::products::product_rows;
 use crate::room::{Room, empty_room, number_of_single};
@@ -262,7 +262,7 @@ fn finished<C: Cell>(
     let body = Body {
         cells,
         rows,
-        numbers,
+        numbers: Items::new(alloc),
     };
     let mut used = empty_room(alloc, columns)?;
     let whole = Window {
@@ -270,7 +270,7 @@ fn finished<C: Cell>(
         width: columns,
         to: 0,
     };
-    let numbers: Items<u32> = loaded_rows(alloc, &body, &mut used, whole, 0, rows_count)?;
+    let numbers: Items<u32> = renumbered(alloc, &body, &mut used, whole, numbers)?;
     let mat: Mat<C> = Mat::packed(alloc, used, numbers, rows_count)?;
     Ok(mat)
 }

@@ -1,7 +1,8 @@
 -- By the rows that came into the room.
 use Rattle.std.proofs.Common.{map, ◌∙◌}
 use Rattle.quad_mat.proofs.RoomLemmas.{room_then}
-use Rattle.quad_mat.proofs.PairLemmas.{known_kept, pair_known, pair_row}
+use Rattle.quad_mat.proofs.LoadingLemmas.{known_kept}
+use Rattle.quad_mat.proofs.PairLemmas.{pair_known, pair_row}
 use Rattle.quad_mat.proofs.pairs.number_of_pair.Goals as goal
 
 pub loaded_row-requires-2-clause-known : goal.loaded_row-requires-2-clause-known
