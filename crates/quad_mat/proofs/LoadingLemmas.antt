@@ -9,7 +9,7 @@ use Rattle.quad_mat.specs.declared.room.RowUnion.{RowUnion}
 use Rattle.quad_mat.specs.Rows.{cell_of, blank, EntryHas, RowHas, HasRisingColumns, column_at, AreFull, Grows}
 use Rattle.quad_mat.specs.Rooms.{NumbersCell, NumberHas, IsRowUnion, IsRoom, RoomGrows}
 use Rattle.quad_mat.specs.Rows.{row_of}
-use Rattle.quad_mat.specs.Loading.{IsMovedTo, MovedHas, AreCopied, CopiesCell, IsMovedUpTo, PushesMoved, IsMovedRow, IsKnown, AreBelow, AreNumbersOf, MovedNumberHas, EitherHas, Renumbers}
+use Rattle.quad_mat.specs.Loading.{IsMovedTo, MovedHas, AreCopied, CopiesCell, IsMovedUpTo, PushesMoved, IsMovedRow, IsKnown, AreBelow, AreNumbersOf, MovedNumberHas, Renumbers}
 use Rattle.quad_mat.proofs.EntryLemmas.{has_none, first_more, push_has, push_row, row_none, row_grows, grows_length, grows_read, grows_self, grows_then, has_grows, cell_read}
 use Rattle.quad_mat.proofs.CellLemmas.{copy_same, same_some}
 use Rattle.quad_mat.proofs.RoomLemmas.{number_grows}
@@ -350,32 +350,6 @@ moved_next w source source_rows source_numbers first columns cells new_cells row
     numbers_push Gives new_cells new_rows numbers m
     (numbers_grow Gives columns cells new_cells rows new_rows unions numbers room grows.cells_grow grows.rows_grow are)
     moved.0 (λ column s. rw named (moved.1 column s))
-
--- one union more
-pub united_next :
-    (left right : List ℕ) (columns : ℕ) (old now new : List (List ℕ)) (old_rows now_rows new_rows : List (List Entry))
-    (unions before after : List RowUnion) (numbers : List ℕ) (i a b m : ℕ)
-    → IsRoom columns old old_rows unions
-    → RoomGrows columns old old_rows now now_rows before → RoomGrows columns now now_rows new new_rows after
-    → AreBelow (length old_rows) left → AreBelow (length old_rows) right
-    → i < length left → i < length right → a ≡ get_or left i 0 → b ≡ get_or right i 0 → length numbers ≡ i
-    → IsRowUnion new new_rows a b m
-    → AreNumbersOf (EitherHas old old_rows left right) now now_rows numbers
-    → AreNumbersOf (EitherHas old old_rows left right) new new_rows (numbers ++ m ∷ [])
-united_next left right columns old now new old_rows now_rows new_rows unions before after numbers i a b m room first second below_left below_right in_left in_right read_a read_b place union are =
-    let Gives = EitherHas old old_rows left right in
-    let more_cells = grows_then old now new first.cells_grow second.cells_grow in
-    let more_rows = grows_then old_rows now_rows new_rows first.rows_grow second.rows_grow in
-    numbers_push Gives new new_rows numbers m
-    (numbers_grow Gives columns now new now_rows new_rows before numbers first.room second.cells_grow second.rows_grow are)
-    union.2 (λ column s.
-    let ga = number_grows columns old old_rows unions room new new_rows a column s more_cells more_rows (rw read_a (below_left i in_left)) in
-    let gb = number_grows columns old old_rows unions room new new_rows b column s more_cells more_rows (rw read_b (below_right i in_right)) in
-    let is = union.3 column s in
-    rw (place, ← read_a, ← read_b) (
-      (λ h. elim (is.0 h) [ inl u ↦ inl (ga.1 u) | inr u ↦ inr (gb.1 u) ]),
-      (elim [ inl u ↦ is.1 (inl (ga.0 u)) | inr u ↦ is.1 (inr (gb.0 u)) ]),
-    ))
 
 -- the copy of a cell of the source has the same, and is not empty
 pub source_copy :

@@ -131,12 +131,6 @@ pub record Renumbers (w : Window) (source : List (List ℕ)) (source_rows : List
       → IsMovedRow w source (row_of source_rows (slice_index named j)) cells rows
       (slice_index numbers j)
 
--- what one of two numbers at a place has
-abbrev pub EitherHas : List (List ℕ) → List (List Entry) → List ℕ → List ℕ → ℕ → ℕ → ℕ → Type 0
-EitherHas cells rows left right i column s =
-    NumberHas cells rows (slice_index left i) column s
-    ⊎ NumberHas cells rows (slice_index right i) column s
-
 -- the matrix has for each row what its number's row has
 pub record IsMatOf (columns : ℕ) (cells : List (List ℕ)) (rows : List (List Entry))
     (numbers : List ℕ) (mat : Grid) : Type 0 where

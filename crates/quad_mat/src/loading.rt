@@ -5,13 +5,13 @@ ghost use Rattle.std.specs.Prelude.{slice_get, slice_index, Some};
 ghost use Rattle.quad_mat.specs.Rows.{AreCellsBelow, AreFull, HasRisingColumns};
 ghost use Rattle.quad_mat.specs.Rooms.{IsRoom, RoomGrows};
 ghost use Rattle.quad_mat.specs.Rows.{row_of};
-ghost use Rattle.quad_mat.specs.Loading.{AreBelow, AreCopied, AreNumbersOf, CopiesCell, EitherHas};
+ghost use Rattle.quad_mat.specs.Loading.{AreBelow, AreCopied, AreNumbersOf, CopiesCell};
 ghost use Rattle.quad_mat.specs.Loading.{IsKnown, IsMovedRow, IsMovedTo, IsMovedUpTo, IsSource};
 ghost use Rattle.quad_mat.specs.Loading.{MovedNumberHas, PushesMoved};
 
 use crate::cells::number_of_cell;
 use crate::entries::{Entry, Row, row_at};
-use crate::room::{Room, number_of_row, number_of_union};
+use crate::room::{Room, number_of_row};
 use cell_sets::Cell;
 use sqlite_items::Items;
 use std::alloc::{AllocError, Global};
@@ -175,6 +175,43 @@ fn moved_row<C: Cell>(
     Ok(made)
 }
 
+/// Brings what the window has of row n of a matrix into the room: its number there.
+fn brought_row<C: Cell>(
+    alloc: Global,
+    body: &Body<C>,
+    known: &mut Known,
+    room: &mut Room<C>,
+    window: Window,
+    n: u32,
+) -> Result<u32, AllocError>
+    requires body { IsSource (map C.symbols body.now.cells.items) body.now.rows }
+    requires within { n < length body.now.rows }
+    requires fits { window.to + window.width ≤ room.old.columns }
+    requires room { IsRoom room.old.columns
+        (map C.symbols room.old.cells.items) room.old.rows room.old.unions }
+    requires known { IsKnown window (map C.symbols body.now.cells.items) body.now.rows
+        (map C.symbols room.old.cells.items) room.old.rows known.old.cells known.old.rows }
+    ensures columns { IfOk result (λ _. room.new.columns ≡ room.old.columns) }
+    ensures grows { IfOk result (λ _. RoomGrows room.old.columns
+        (map C.symbols room.old.cells.items) room.old.rows
+        (map C.symbols room.new.cells.items) room.new.rows room.new.unions) }
+    ensures known { IfOk result (λ _.
+        IsKnown window (map C.symbols body.now.cells.items) body.now.rows
+        (map C.symbols room.new.cells.items) room.new.rows known.new.cells known.new.rows) }
+    ensures row { IfOk result (λ m. IsMovedRow window (map C.symbols body.now.cells.items)
+        (row_of body.now.rows n) (map C.symbols room.new.cells.items) room.new.rows m) }
+{
+    let source = body.cells.as_slice();
+    let rows = body.rows.as_slice();
+    let row = row_at(rows, n);
+    let columns = room.columns;
+    let cells = &mut room.cells;
+    let made = moved_row(alloc, source, &mut known.cells, cells, row, window, columns)?;
+    let number = number_of_row(room, made)?;
+    known.rows.set(n as usize, Some(number));
+    Ok(number)
+}
+
 /// The number in the room of what the window has of row n of a matrix. A row that is not known is
 /// brought there.
 pub(crate) fn loaded_row<C: Cell>(
@@ -205,14 +242,7 @@ pub(crate) fn loaded_row<C: Cell>(
     if let Some(number) = known_at(&known.rows, n) {
         return Ok(number);
     }
-    let source = body.cells.as_slice();
-    let rows = body.rows.as_slice();
-    let row = row_at(rows, n);
-    let columns = room.columns;
-    let cells = &mut room.cells;
-    let made = moved_row(alloc, source, &mut known.cells, cells, row, window, columns)?;
-    let number = number_of_row(room, made)?;
-    known.rows.set(n as usize, Some(number));
+    let number = brought_row(alloc, body, known, room, window, n)?;
     Ok(number)
 }
 
@@ -290,35 +320,6 @@ pub(crate) fn renumbered<C: Cell>(
         let n = numbers.as_slice()[i];
         let m = loaded_row(alloc, body, &mut known, room, window, n)?;
         numbers.set(i, m);
-    }
-    Ok(numbers)
-}
-
-/// For each place the number of the union of the rows that two lists of numbers have there.
-pub(crate) fn united<C: Cell>(
-    alloc: Global,
-    room: &mut Room<C>,
-    left: &[u32],
-    right: &[u32],
-) -> Result<Items<u32>, AllocError>
-    requires room { IsRoom room.old.columns
-        (map C.symbols room.old.cells.items) room.old.rows room.old.unions }
-    requires count { length left.now ≡ length right.now }
-    requires left { AreBelow (length room.old.rows) left.now }
-    requires right { AreBelow (length room.old.rows) right.now }
-    ensures columns { IfOk result (λ _. room.new.columns ≡ room.old.columns) }
-    ensures grows { IfOk result (λ _. RoomGrows room.old.columns
-        (map C.symbols room.old.cells.items) room.old.rows
-        (map C.symbols room.new.cells.items) room.new.rows room.new.unions) }
-    ensures count { IfOk result (λ numbers. length numbers ≡ length left.now) }
-    ensures rows { IfOk result (λ numbers. AreNumbersOf
-        (EitherHas (map C.symbols room.old.cells.items) room.old.rows left.now right.now)
-        (map C.symbols room.new.cells.items) room.new.rows numbers) }
-{
-    let mut numbers = Items::new(alloc);
-    for i in 0..left.len() {
-        let both = number_of_union(alloc, room, left[i], right[i])?;
-        numbers.push(both)?;
     }
     Ok(numbers)
 }

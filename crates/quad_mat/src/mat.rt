@@ -14,7 +14,7 @@ ghost use Rattle.quad_mat.specs.Products.{HasNothing, IsProductMat, Keeps};
 
 use crate::entries::{Entry, cell_at, row_at};
 use crate::images::{Factors, empty_making};
-use crate::loading::{Body, Window, empty_rows, loaded_rows, renumbered, united};
+use crate::loading::{Body, Window, empty_rows, loaded_rows, renumbered};
 use crate::pairs::{paired_rows, side_by_side};
 use crate::products::product_rows;
 use crate::room::{Room, empty_room, number_of_single};
@@ -276,44 +276,6 @@ fn finished<C: Cell>(
 }
 
 /// For each row the number in the room of the union of two matrices' rows, of which the second
-/// stands from this column on. Each matrix comes into the room alone.
-fn apart_loaded<C: Cell>(
-    alloc: Global,
-    room: &mut Room<C>,
-    left: &Mat<C>,
-    right: &Mat<C>,
-    to: u32,
-) -> Result<Items<u32>, AllocError>
-    requires rows { left.now.rows ≡ right.now.rows }
-    requires left { left.now.columns ≤ room.old.columns }
-    requires right { to + right.now.columns ≤ room.old.columns }
-    requires room { IsRoom room.old.columns
-        (map C.symbols room.old.cells.items) room.old.rows room.old.unions }
-    ensures columns { IfOk result (λ _. room.new.columns ≡ room.old.columns) }
-    ensures grows { IfOk result (λ _. RoomGrows room.old.columns
-        (map C.symbols room.old.cells.items) room.old.rows
-        (map C.symbols room.new.cells.items) room.new.rows room.new.unions) }
-    ensures count { IfOk result (λ numbers. length numbers ≡ left.now.rows) }
-    ensures rows { IfOk result (λ numbers. AreNumbersOf (BothHave left.now right.now to)
-        (map C.symbols room.new.cells.items) room.new.rows numbers) }
-{
-    let first = Window {
-        first: 0,
-        width: left.cols(),
-        to: 0,
-    };
-    let second = Window {
-        first: 0,
-        width: right.cols(),
-        to,
-    };
-    let one: Items<u32> = left.loaded(alloc, room, first, 0, left.rows())?;
-    let other: Items<u32> = right.loaded(alloc, room, second, 0, right.rows())?;
-    let numbers: Items<u32> = united(alloc, room, one.as_slice(), other.as_slice())?;
-    Ok(numbers)
-}
-
-/// For each row the number in the room of the union of two matrices' rows, of which the second
 /// stands from this column on.
 fn both_loaded<C: Cell>(
     alloc: Global,
@@ -335,15 +297,15 @@ fn both_loaded<C: Cell>(
     ensures rows { IfOk result (λ numbers. AreNumbersOf (BothHave left.now right.now to)
         (map C.symbols room.new.cells.items) room.new.rows numbers) }
 {
+    let windows = side_by_side(left.cols(), right.cols(), to);
     let one = match left.body() {
         Some(one) => one,
-        None => return apart_loaded(alloc, room, left, right, to),
+        None => return right.loaded(alloc, room, windows.right, 0, right.rows()),
     };
     let other = match right.body() {
         Some(other) => other,
-        None => return apart_loaded(alloc, room, left, right, to),
+        None => return left.loaded(alloc, room, windows.left, 0, left.rows()),
     };
-    let windows = side_by_side(left.cols(), right.cols(), to);
     let numbers: Items<u32> = paired_rows(alloc, one, other, windows, room)?;
     Ok(numbers)
 }

@@ -1,6 +1,8 @@
--- By what both matrices keep.
-use Rattle.std.proofs.Common.{map, arith, sym, ◌+◌, ◌≤◌, ◌∙◌}
-use Rattle.quad_mat.proofs.MatLemmas.{body_source}
+-- By what both matrices keep, or one alone.
+use Rattle.std.proofs.Common.{map, length, arith, sym, ◌≡◌, ◌+◌, ◌≤◌, ◌∙◌}
+use Rattle.quad_mat.specs.Loading.{AreNumbersOf, BothHave, PartHas}
+use Rattle.quad_mat.specs.Pairs.{beside}
+use Rattle.quad_mat.proofs.MatLemmas.{body_source, on_both, left_alone, right_alone}
 use Rattle.quad_mat.proofs.PairLemmas.{paired_both}
 use Rattle.quad_mat.proofs.mat.both_loaded.Goals as goal
 
@@ -37,3 +39,37 @@ returns-clause-rows g c =
     (map symbols new.cells.items) new.rows c.in_ok-numbers.numbers
     (rw (c.cols.ensures, c.cols-2.ensures) at c.side_by_side-windows.ensures) c.in-Some.ensures c.in-Some-body.ensures c.requires.rows
     (made.count ∙ sym c.in-Some.ensures.rows.size.0) made.rows
+
+pub returns-in-None-clause-rows : goal.returns-in-None-clause-rows
+returns-in-None-clause-rows g c =
+    let new = c.loaded.new.room in
+    let cells = map g.C.Cell.symbols new.cells.items in
+    let a = c.args.left.now in
+    let b = c.args.right.now in
+    let windows : c.side_by_side-windows.result ≡ beside a.columns b.columns c.args.to =
+    rw (c.cols.ensures, c.cols-2.ensures) at c.side_by_side-windows.ensures in
+    on_both c.loaded.result
+    (λ numbers. AreNumbersOf (λ i column s. PartHas (beside a.columns b.columns c.args.to).right b (0 + i) column s) cells
+    new.rows numbers)
+    (λ numbers. length numbers ≡ c.rows.result) (λ numbers. AreNumbersOf (BothHave a b c.args.to) cells new.rows numbers)
+    (λ numbers are count. right_alone a b c.args.to cells new.rows numbers c.requires.rows
+    (count ∙ c.rows.ensures ∙ sym c.requires.rows) c.in-None.ensures are)
+    (rw windows at c.loaded.ensures.rows) c.loaded.ensures.count
+
+pub returns-in-None-body-clause-rows : goal.returns-in-None-body-clause-rows
+returns-in-None-body-clause-rows g c =
+    let loaded = c.loaded-in-None-body in
+    let new = loaded.new.room in
+    let cells = map g.C.Cell.symbols new.cells.items in
+    let a = c.args.left.now in
+    let b = c.args.right.now in
+    let windows : c.side_by_side-windows.result ≡ beside a.columns b.columns c.args.to =
+    rw (c.cols.ensures, c.cols-2.ensures) at c.side_by_side-windows.ensures in
+    on_both loaded.result
+    (λ numbers. AreNumbersOf (λ i column s. PartHas (beside a.columns b.columns c.args.to).left a (0 + i) column s) cells
+    new.rows numbers)
+    (λ numbers. length numbers ≡ c.rows-in-None-body.result)
+    (λ numbers. AreNumbersOf (BothHave a b c.args.to) cells new.rows numbers)
+    (λ numbers are count. left_alone a b c.args.to cells new.rows numbers c.requires.rows
+    (count ∙ c.rows-in-None-body.ensures) c.in-None-body.ensures are)
+    (rw windows at loaded.ensures.rows) loaded.ensures.count
