@@ -7,7 +7,7 @@ use Rattle.quad_mat.specs.declared.entries.Entry.{Entry}
 use Rattle.quad_mat.specs.declared.loading.Window.{Window}
 use Rattle.quad_mat.specs.declared.room.RowUnion.{RowUnion}
 use Rattle.quad_mat.specs.Rows.{cell_of, blank, EntryHas, RowHas, HasRisingColumns, column_at, AreFull, Grows}
-use Rattle.quad_mat.specs.Rooms.{NumbersCell, NumberHas, IsRowUnion, IsRoom, RoomGrows}
+use Rattle.quad_mat.specs.Rooms.{NumbersCell, NumberHas, IsRoom, RoomGrows}
 use Rattle.quad_mat.specs.Rows.{row_of}
 use Rattle.quad_mat.specs.Loading.{IsMovedTo, MovedHas, AreCopied, CopiesCell, IsMovedUpTo, PushesMoved, IsMovedRow, IsKnown, AreBelow, AreNumbersOf, MovedNumberHas, Renumbers}
 use Rattle.quad_mat.proofs.EntryLemmas.{has_none, first_more, push_has, push_row, row_none, row_grows, grows_length, grows_read, grows_self, grows_then, has_grows, cell_read}

@@ -1,10 +1,9 @@
 -- Rows of two matrices that come into a room together.
-use Rattle.std.proofs.Common.{◌≡◌, ℕ, ◌+◌, ◌-◌, ◌<◌, ◌≤◌, List, [], ◌∷◌, ◌++◌, Option, length, get_or, map, refl, subst, inl, inr, arith, Contains}
+use Rattle.std.proofs.Common.{◌≡◌, ℕ, ◌-◌, ◌<◌, List, [], ◌∷◌, ◌++◌, Option, length, get_or, map, refl, subst, inl, inr, arith, Contains}
 use Rattle.std.specs.Prelude.{Some, IfSome}
 use Rattle.cell_sets.specs.Grids.{Grid, entry}
 use Rattle.quad_mat.specs.declared.entries.Entry.{Entry}
 use Rattle.quad_mat.specs.declared.loading.Body.{Body}
-use Rattle.quad_mat.specs.declared.loading.Window.{Window}
 use Rattle.quad_mat.specs.declared.pairs.Windows.{Windows}
 use Rattle.quad_mat.specs.declared.pairs.KnownPair.{KnownPair}
 use Rattle.quad_mat.specs.declared.pairs.PairRow.{PairRow}

@@ -1,6 +1,6 @@
 -- Serves the proofs alone. Pairs: a row of each of two matrices comes into a room, and of each the
 -- columns of a window; what is kept there is their union.
-use Rattle.std.specs.Prelude.{◌≡◌, ℕ, ◌+◌, ◌<◌, ◌≤◌, ◌↔◌, ◌⊎◌, List, length, map, slice_index}
+use Rattle.std.specs.Prelude.{ℕ, ◌+◌, ◌<◌, ◌≤◌, ◌↔◌, ◌⊎◌, List, length, map, slice_index}
 use Rattle.quad_mat.specs.declared.entries.Entry.{Entry}
 use Rattle.quad_mat.specs.declared.loading.Body.{Body}
 use Rattle.quad_mat.specs.declared.pairs.Windows.{Windows}

@@ -175,7 +175,9 @@ fn moved_row<C: Cell>(
     Ok(made)
 }
 
-/// Brings what the window has of row n of a matrix into the room: its number there.
+/// Brings what the window has of row n of a matrix into the room: its number there. It stands apart
+/// from the look-up, so that this is compiled into the loops.
+#[inline(never)]
 fn brought_row<C: Cell>(
     alloc: Global,
     body: &Body<C>,

@@ -67,6 +67,7 @@ fn if_same(last: Option<PairRow>, left: u32, right: u32) -> Option<PairRow>
 }
 
 /// The number in the room of the union of what the windows have of a row of each matrix.
+#[inline(never)]
 fn number_of_pair<C: Cell>(
     alloc: Global,
     left: &Body<C>,

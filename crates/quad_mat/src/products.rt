@@ -15,6 +15,7 @@ use std::alloc::{AllocError, Global};
 
 /// The number in the room of the product of a row of the left matrix and the right matrix: the
 /// union over its entries of the images of the rows that their columns name.
+#[inline(never)]
 fn row_product<C: Cell>(
     alloc: Global,
     factors: &Factors<C>,

@@ -1,5 +1,5 @@
 -- Nothing is known at first; one number more; all numbers.
-use Rattle.std.proofs.Common.{map, length, get_or, ◌<◌, ◌≤◌, ◌∙◌, ap, refl, sym, arith}
+use Rattle.std.proofs.Common.{map, get_or, ◌∙◌, ap, refl, sym, arith}
 use Rattle.std.proofs.lemmas.List.{length-map}
 use Rattle.quad_mat.proofs.RoomLemmas.{room_kept, room_then}
 use Rattle.quad_mat.proofs.LoadingLemmas.{known_none, renumber_start, renumber_next, renumber_all}

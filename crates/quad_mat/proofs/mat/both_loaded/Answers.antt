@@ -1,5 +1,5 @@
 -- By what both matrices keep, or one alone.
-use Rattle.std.proofs.Common.{map, length, arith, sym, ◌≡◌, ◌+◌, ◌≤◌, ◌∙◌}
+use Rattle.std.proofs.Common.{map, length, arith, sym, ◌≡◌, ◌+◌, ◌∙◌}
 use Rattle.quad_mat.specs.Loading.{AreNumbersOf, BothHave, PartHas}
 use Rattle.quad_mat.specs.Pairs.{beside}
 use Rattle.quad_mat.proofs.MatLemmas.{body_source, on_both, left_alone, right_alone}

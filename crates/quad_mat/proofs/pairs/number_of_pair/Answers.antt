@@ -1,6 +1,5 @@
 -- By the rows that came into the room.
 use Rattle.std.proofs.Common.{map, ◌∙◌}
-use Rattle.quad_mat.proofs.RoomLemmas.{room_then}
 use Rattle.quad_mat.proofs.LoadingLemmas.{known_kept}
 use Rattle.quad_mat.proofs.PairLemmas.{pair_known, pair_row}
 use Rattle.quad_mat.proofs.pairs.number_of_pair.Goals as goal

@@ -1,5 +1,5 @@
 -- Nothing is known at first; one pair of rows more.
-use Rattle.std.proofs.Common.{map, length, get_or, ◌≡◌, ◌+◌, ◌∙◌, ap, refl, sym}
+use Rattle.std.proofs.Common.{map, get_or, ◌+◌, ◌∙◌, ap, refl, sym}
 use Rattle.std.proofs.lemmas.List.{length-map, length_push}
 use Rattle.quad_mat.specs.Pairs.{PairHas}
 use Rattle.quad_mat.proofs.RoomLemmas.{room_kept, room_then}
