@@ -1,7 +1,8 @@
 //! Tries and measures matrices of cells. `matrix_bench random SEED ROUNDS` compares random matrices,
-//! their unions and products, parts and the matrices of these parts with dense ones, entry by entry, and writes
-//! in how many rounds all were equal. `matrix_bench time TIMES` reads a sample from standard input
-//! and writes, for each call, the least nanoseconds of so many and a sum over what it made.
+//! their unions and products, parts and the matrices of these parts with dense ones, entry by
+//! entry, and writes in how many rounds all were equal. `matrix_bench time TIMES` reads a sample
+//! from standard input and writes, for each call, the least nanoseconds of so many and a sum over
+//! what it made.
 //!
 //! The status is 1 where the words or the input are none of these, 3 where an entry differs, and 6
 //! where memory runs out.

@@ -5,5 +5,6 @@ pub mod SameRowLemmas
 pub mod RoomLemmas
 pub mod LoadingLemmas
 pub mod MatLemmas
+pub mod PairLemmas
 pub mod ImageLemmas
 pub mod ProductLemmas

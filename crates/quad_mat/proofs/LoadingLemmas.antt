@@ -1,15 +1,15 @@
 -- Loading rows of a matrix into a room.
 use Rattle.std.proofs.Common.{◌≡◌, ℕ, zero, suc, ◌+◌, ◌<◌, ◌≤◌, ◌≢◌, ◌↔◌, ◌⊎◌, List, [], ◌∷◌, ◌++◌, Option, Some, length, get_or, slice_get, map, set, refl, sym, ◌∙◌, ap, subst, inl, inr, arith, Contains}
 use Rattle.std.proofs.lemmas.Bool.{cases_lt, cases_eq}
-use Rattle.std.proofs.lemmas.List.{length_push, get_or_push, get_or_append_left, get_or_read, get_or_default, length-map, length-set}
+use Rattle.std.proofs.lemmas.List.{length_push, get_or_push, get_or_append_left, get_or_read, get_or_default, length-map, length-set, get_or-set_same, get_or-set_other}
 use Rattle.cell_sets.specs.Cells.{IsUnion, HaveSame}
 use Rattle.quad_mat.specs.declared.entries.Entry.{Entry}
 use Rattle.quad_mat.specs.declared.loading.Window.{Window}
 use Rattle.quad_mat.specs.declared.room.RowUnion.{RowUnion}
 use Rattle.quad_mat.specs.Rows.{cell_of, blank, EntryHas, RowHas, HasRisingColumns, column_at, AreFull, Grows}
-use Rattle.quad_mat.specs.Rooms.{NumbersCell, NumberHas, IsRowUnion, IsRoom, RoomGrows}
+use Rattle.quad_mat.specs.Rooms.{NumbersCell, NumberHas, IsRoom, RoomGrows}
 use Rattle.quad_mat.specs.Rows.{row_of}
-use Rattle.quad_mat.specs.Loading.{IsMovedTo, MovedHas, AreCopied, CopiesCell, IsMovedUpTo, PushesMoved, IsMovedRow, IsKnown, AreBelow, AreNumbersOf, MovedNumberHas, EitherHas}
+use Rattle.quad_mat.specs.Loading.{IsMovedTo, MovedHas, AreCopied, CopiesCell, IsMovedUpTo, PushesMoved, IsMovedRow, IsKnown, AreBelow, AreNumbersOf, MovedNumberHas, Renumbers}
 use Rattle.quad_mat.proofs.EntryLemmas.{has_none, first_more, push_has, push_row, row_none, row_grows, grows_length, grows_read, grows_self, grows_then, has_grows, cell_read}
 use Rattle.quad_mat.proofs.CellLemmas.{copy_same, same_some}
 use Rattle.quad_mat.proofs.RoomLemmas.{number_grows}
@@ -293,6 +293,30 @@ known_grows w source source_rows columns cells new_cells rows new_rows unions kn
   };
 }
 
+module _ (columns : ℕ) (cells new_cells : List (List ℕ)) (rows new_rows : List (List Entry)) (unions after : List RowUnion)
+    (room : IsRoom columns cells rows unions) (grows : RoomGrows columns cells rows new_cells new_rows after) where
+  -- what is known stays so, where the room alone grows
+  pub known_kept :
+      (w : Window) (source : List (List ℕ)) (source_rows : List (List Entry)) (known_cells known_rows : List (Option ℕ))
+      → IsKnown w source source_rows cells rows known_cells known_rows
+      → IsKnown w source source_rows new_cells new_rows known_cells known_rows
+  known_kept w source source_rows known_cells known_rows known =
+      known_grows w source source_rows columns cells new_cells rows new_rows unions known_cells known_cells known_rows room
+      grows.cells_grow grows.rows_grow
+      (copied_grows source cells new_cells known_cells grows.cells_grow known.copied) known
+
+  -- and the number of a row that was brought keeps what it has
+  pub moved_kept :
+      (w : Window) (source : List (List ℕ)) (row : List Entry) (m : ℕ)
+      → IsMovedRow w source row cells rows m → IsMovedRow w source row new_cells new_rows m
+  moved_kept w source row m is = (
+    omega (arith, grows_length rows new_rows grows.rows_grow, is.0),
+    (λ column s.
+        let same = number_grows columns cells rows unions room new_cells new_rows m column s grows.cells_grow grows.rows_grow is.0 in
+        let has = is.1 column s in
+        ((λ h. has.0 (same.1 h)), (λ h. same.0 (has.1 h)))),
+  )
+
 -- a row more is known
 pub known_row :
     (w : Window) (source : List (List ℕ)) (source_rows : List (List Entry))
@@ -326,32 +350,6 @@ moved_next w source source_rows source_numbers first columns cells new_cells row
     numbers_push Gives new_cells new_rows numbers m
     (numbers_grow Gives columns cells new_cells rows new_rows unions numbers room grows.cells_grow grows.rows_grow are)
     moved.0 (λ column s. rw named (moved.1 column s))
-
--- one union more
-pub united_next :
-    (left right : List ℕ) (columns : ℕ) (old now new : List (List ℕ)) (old_rows now_rows new_rows : List (List Entry))
-    (unions before after : List RowUnion) (numbers : List ℕ) (i a b m : ℕ)
-    → IsRoom columns old old_rows unions
-    → RoomGrows columns old old_rows now now_rows before → RoomGrows columns now now_rows new new_rows after
-    → AreBelow (length old_rows) left → AreBelow (length old_rows) right
-    → i < length left → i < length right → a ≡ get_or left i 0 → b ≡ get_or right i 0 → length numbers ≡ i
-    → IsRowUnion new new_rows a b m
-    → AreNumbersOf (EitherHas old old_rows left right) now now_rows numbers
-    → AreNumbersOf (EitherHas old old_rows left right) new new_rows (numbers ++ m ∷ [])
-united_next left right columns old now new old_rows now_rows new_rows unions before after numbers i a b m room first second below_left below_right in_left in_right read_a read_b place union are =
-    let Gives = EitherHas old old_rows left right in
-    let more_cells = grows_then old now new first.cells_grow second.cells_grow in
-    let more_rows = grows_then old_rows now_rows new_rows first.rows_grow second.rows_grow in
-    numbers_push Gives new new_rows numbers m
-    (numbers_grow Gives columns now new now_rows new_rows before numbers first.room second.cells_grow second.rows_grow are)
-    union.2 (λ column s.
-    let ga = number_grows columns old old_rows unions room new new_rows a column s more_cells more_rows (rw read_a (below_left i in_left)) in
-    let gb = number_grows columns old old_rows unions room new new_rows b column s more_cells more_rows (rw read_b (below_right i in_right)) in
-    let is = union.3 column s in
-    rw (place, ← read_a, ← read_b) (
-      (λ h. elim (is.0 h) [ inl u ↦ inl (ga.1 u) | inr u ↦ inr (gb.1 u) ]),
-      (elim [ inl u ↦ is.1 (inl (ga.0 u)) | inr u ↦ is.1 (inr (gb.0 u)) ]),
-    ))
 
 -- the copy of a cell of the source has the same, and is not empty
 pub source_copy :
@@ -406,3 +404,50 @@ known_none w source source_rows cells rows known_cells known_rows count none row
   copied = copied_none source cells known_cells count none;
   loaded = record { count = row_count; each = λ n m is. absurd (row_none n m is) };
 }
+
+-- nothing added
+zero_plus : (i : ℕ) → 0 + i ≡ i
+zero_plus i = omega arith
+
+module _ (w : Window) (source : List (List ℕ)) (source_rows : List (List Entry)) (named : List ℕ) where
+  -- no number is changed at first
+  pub renumber_start :
+      (cells : List (List ℕ)) (rows : List (List Entry)) → Renumbers w source source_rows named cells rows named 0
+  renumber_start cells rows = record {
+    same = refl;
+    rest = λ j from. refl;
+    changed = λ j low. absurd (omega (arith, low));
+  }
+
+  -- one number more is changed
+  pub renumber_next :
+      (columns : ℕ) (cells new_cells : List (List ℕ)) (rows new_rows : List (List Entry)) (unions after : List RowUnion)
+      (numbers : List ℕ) (i n m : ℕ)
+      → IsRoom columns cells rows unions → RoomGrows columns cells rows new_cells new_rows after
+      → i < length numbers → n ≡ get_or numbers i 0 → IsMovedRow w source (row_of source_rows n) new_cells new_rows m
+      → Renumbers w source source_rows named cells rows numbers i
+      → Renumbers w source source_rows named new_cells new_rows (set numbers i m) (i + 1)
+  renumber_next columns cells new_cells rows new_rows unions after numbers i n m room grows within read moved before = record {
+    same = length-set numbers i m ∙ before.same;
+    rest = λ j from. get_or-set_other numbers i j m 0 (λ e. omega (arith, e, from)) ∙ before.rest j (omega (arith, from));
+    changed = λ j low. elim (cases_lt j i) [
+      | inl first ↦
+          rw (get_or-set_other numbers i j m 0 (λ e. omega (arith, e, first)))
+          (moved_kept columns cells new_cells rows new_rows unions after room grows w source
+          (row_of source_rows (get_or named j 0)) (get_or numbers j 0) (before.changed j first))
+      | inr past ↦
+          let At : ℕ → Type 0 =
+          λ k. IsMovedRow w source (row_of source_rows (get_or named k 0)) new_cells new_rows (get_or (set numbers i m) k 0) in
+          let here : i ≡ j = omega (arith, low, past) in
+          let was : get_or named i 0 ≡ n = sym (before.rest i (omega arith)) ∙ sym read in
+          subst At here (rw (get_or-set_same numbers i m 0 within, was) moved)
+    ];
+  }
+
+  -- all numbers are changed
+  pub renumber_all :
+      (cells : List (List ℕ)) (rows : List (List Entry)) (numbers : List ℕ) (count : ℕ)
+      → length numbers ≤ count → Renumbers w source source_rows named cells rows numbers count
+      → AreNumbersOf (MovedNumberHas w source source_rows named 0) cells rows numbers
+  renumber_all cells rows numbers count all done i within =
+      rw (zero_plus i) (done.changed i (omega (arith, within, all)))

@@ -1,5 +1,6 @@
 -- Matrices as what they keep is seen.
 use Rattle.std.proofs.Common.{◌≡◌, ℕ, ◌+◌, ◌-◌, ◌<◌, ◌≤◌, ◌↔◌, List, [], ◌++◌, Some, None, length, get_or, map, set, refl, sym, ◌∙◌, ap, subst, inl, inr, arith, Contains}
+use Rattle.std.specs.Prelude.{Result, Ok, Err, IfOk}
 use Rattle.std.specs.declared.alloc.Global.{Global}
 use Rattle.std.specs.declared.sync.Arc.{Arc}
 use Rattle.std.proofs.lemmas.Bool.{cases_eq}
@@ -14,7 +15,8 @@ use Rattle.quad_mat.specs.Matrices.{HasSize, IsSingle, IsUnionOf, IsPart, IsCut}
 use Rattle.quad_mat.specs.Rows.{found, RowHas}
 use Rattle.quad_mat.specs.Rooms.{IsRoom, IsSingleRow}
 use Rattle.quad_mat.specs.Rows.{row_of}
-use Rattle.quad_mat.specs.Loading.{PartHas, AreBelow, IsSource, IsBody, AreNumbersOf, MovedNumberHas, EitherHas, IsMatOf, BothHave}
+use Rattle.quad_mat.specs.Loading.{PartHas, AreBelow, IsSource, IsBody, AreNumbersOf, MovedNumberHas, IsMatOf, BothHave}
+use Rattle.quad_mat.specs.Products.{HasNothing}
 use Rattle.quad_mat.specs.Views.{found_in, IsKept}
 use Rattle.quad_mat.proofs.EntryLemmas.{has_found}
 use Rattle.quad_mat.proofs.RoomLemmas.{first_none}
@@ -222,35 +224,52 @@ finished_rows columns cells used_cells rows used_rows numbers used mat count are
       );
 }
 
-module _ (a b : Grid) (to : ℕ) where
-  -- rows of two matrices, united
-  pub both_rows :
-      (columns : ℕ) (cells new_cells : List (List ℕ)) (rows new_rows : List (List Entry)) (left right numbers : List ℕ)
-      → length left ≡ a.rows → length right ≡ a.rows → length numbers ≡ length left
-      → AreNumbersOf (λ i column s. PartHas (whole a.columns) a (0 + i) column s) cells rows left
-      → AreNumbersOf (λ i column s. PartHas (record { first = 0; width = b.columns; to = to }) b (0 + i) column s) cells rows right
-      → AreNumbersOf (EitherHas cells rows left right) new_cells new_rows numbers
-      → AreNumbersOf (BothHave a b to) new_cells new_rows numbers
-  both_rows columns cells new_cells rows new_rows left right numbers count other same is_left is_right are =
-      numbers_change (EitherHas cells rows left right) (BothHave a b to) new_cells new_rows numbers
+-- of what succeeds two facts give a third
+pub on_both :
+    {A E : Type 0} (r : Result A E) (P Q R : A → Type 0)
+    → ((x : A) → P x → Q x → R x) → IfOk r P → IfOk r Q → IfOk r R
+on_both (Ok x) P Q R then p q = then x p q
+on_both (Err e) P Q R then p q = tt
+
+module _ (a b : Grid) (to : ℕ) (cells : List (List ℕ)) (rows : List (List Entry)) (numbers : List ℕ)
+    (same : a.rows ≡ b.rows) (count : length numbers ≡ a.rows) where
+  -- what one matrix has is what both have, where the other has nothing
+  pub left_alone :
+      HasNothing b → AreNumbersOf (λ i column s. PartHas (whole a.columns) a (0 + i) column s) cells rows numbers
+      → AreNumbersOf (BothHave a b to) cells rows numbers
+  left_alone empty are =
+      numbers_change (λ i column s. PartHas (whole a.columns) a (0 + i) column s) (BothHave a b to) cells rows numbers
       (λ i column s within.
-      let l = rw (zero_add i) at ((is_left i (omega (arith, same, within))).1 column s) in
-      let r = rw (zero_add i) at ((is_right i (omega (arith, same, within, count, other))).1 column s) in (
+      let inside : i < b.rows = omega (arith, within, count, same) in
+      rw (zero_add i) (
+        (λ h.
+            let At : ℕ → Type 0 = λ n. Contains (entry a i n) s in
+            let here : h.0 ≡ column = omega (arith, h.1.2) in
+            inl (omega (arith, here, h.1.1), subst At here h.2)),
         (elim [
-          | inl h ↦
-              let x = l.0 h in
-              let At : ℕ → Type 0 = λ n. Contains (entry a i n) s in
-              let here : x.0 ≡ column = omega (arith, x.1.2) in
-              inl (omega (arith, here, x.1.1), subst At here x.2)
-          | inr h ↦
-              let x = r.0 h in
-              let At : ℕ → Type 0 = λ n. Contains (entry b i n) s in
-              let here : x.0 ≡ column - to = omega (arith, x.1.2) in
-              inr (omega (arith, x.1.2), omega (arith, x.1.1, x.1.2), subst At here x.2)
+          | inl h ↦ (column, (omega arith, omega (arith, h.0), refl), h.1)
+          | inr h ↦ absurd (nothing s (rw (empty i (column - to) inside (omega (arith, h.0, h.1))) at h.2))
         ]),
+      ))
+      are
+
+  pub right_alone :
+      HasNothing a
+      → AreNumbersOf (λ i column s. PartHas (record { first = 0; width = b.columns; to = to }) b (0 + i) column s) cells rows numbers
+      → AreNumbersOf (BothHave a b to) cells rows numbers
+  right_alone empty are =
+      numbers_change (λ i column s. PartHas (record { first = 0; width = b.columns; to = to }) b (0 + i) column s)
+      (BothHave a b to) cells rows numbers
+      (λ i column s within.
+      let inside : i < a.rows = omega (arith, within, count) in
+      rw (zero_add i) (
+        (λ h.
+            let At : ℕ → Type 0 = λ n. Contains (entry b i n) s in
+            let here : h.0 ≡ column - to = omega (arith, h.1.2) in
+            inr (omega (arith, h.1.2), omega (arith, h.1.1, h.1.2), subst At here h.2)),
         (elim [
-          | inl h ↦ inl (l.1 (column, (omega arith, omega (arith, h.0), refl), h.1))
-          | inr h ↦ inr (r.1 (column - to, (omega arith, omega (arith, h.0, h.1), omega (arith, h.0)), h.2))
+          | inl h ↦ absurd (nothing s (rw (empty i column inside h.0) at h.1))
+          | inr h ↦ (column - to, (omega arith, omega (arith, h.0, h.1), omega (arith, h.0)), h.2)
         ]),
       ))
       are

@@ -119,11 +119,17 @@ MovedNumberHas w source source_rows numbers first i column s =
     MovedHas w source (row_of source_rows (slice_index numbers (first + i)))
     (length (row_of source_rows (slice_index numbers (first + i)))) column s
 
--- what one of two numbers at a place has
-abbrev pub EitherHas : List (List ℕ) → List (List Entry) → List ℕ → List ℕ → ℕ → ℕ → ℕ → Type 0
-EitherHas cells rows left right i column s =
-    NumberHas cells rows (slice_index left i) column s
-    ⊎ NumberHas cells rows (slice_index right i) column s
+-- the first numbers, so many of them, are those of rows with what the window has of the rows that
+-- were named there, and the others are as they were
+pub record Renumbers (w : Window) (source : List (List ℕ)) (source_rows : List (List Entry))
+    (named : List ℕ) (cells : List (List ℕ)) (rows : List (List Entry)) (numbers : List ℕ)
+    (count : ℕ) : Type 0 where
+  pub same : length numbers ≡ length named
+  pub rest : (j : ℕ) → count ≤ j → slice_index numbers j ≡ slice_index named j
+  pub changed :
+      (j : ℕ) → j < count
+      → IsMovedRow w source (row_of source_rows (slice_index named j)) cells rows
+      (slice_index numbers j)
 
 -- the matrix has for each row what its number's row has
 pub record IsMatOf (columns : ℕ) (cells : List (List ℕ)) (rows : List (List Entry))

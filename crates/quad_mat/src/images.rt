@@ -233,16 +233,9 @@ pub(crate) fn number_of_image<C: Cell>(
     }
     let row = row_at(factors.right.rows.as_slice(), n);
     let columns = making.room.columns;
+    let products = &mut making.products;
     let cells = &mut making.room.cells;
-    let made = image_of(
-        alloc,
-        factors,
-        &mut making.products,
-        cells,
-        left,
-        row,
-        columns,
-    )?;
+    let made = image_of(alloc, factors, products, cells, left, row, columns)?;
     let image = number_of_row(&mut making.room, made)?;
     let _ = making.images.push(RowImage {
         cell: left,

@@ -7,6 +7,7 @@ mod images;
 mod loading;
 mod mat;
 mod merging;
+mod pairs;
 mod products;
 mod room;
 

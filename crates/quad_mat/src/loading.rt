@@ -5,13 +5,13 @@ ghost use Rattle.std.specs.Prelude.{slice_get, slice_index, Some};
 ghost use Rattle.quad_mat.specs.Rows.{AreCellsBelow, AreFull, HasRisingColumns};
 ghost use Rattle.quad_mat.specs.Rooms.{IsRoom, RoomGrows};
 ghost use Rattle.quad_mat.specs.Rows.{row_of};
-ghost use Rattle.quad_mat.specs.Loading.{AreBelow, AreCopied, AreNumbersOf, CopiesCell, EitherHas};
+ghost use Rattle.quad_mat.specs.Loading.{AreBelow, AreCopied, AreNumbersOf, CopiesCell};
 ghost use Rattle.quad_mat.specs.Loading.{IsKnown, IsMovedRow, IsMovedTo, IsMovedUpTo, IsSource};
 ghost use Rattle.quad_mat.specs.Loading.{MovedNumberHas, PushesMoved};
 
 use crate::cells::number_of_cell;
 use crate::entries::{Entry, Row, row_at};
-use crate::room::{Room, number_of_row, number_of_union};
+use crate::room::{Room, number_of_row};
 use cell_sets::Cell;
 use sqlite_items::Items;
 use std::alloc::{AllocError, Global};
@@ -35,9 +35,9 @@ pub(crate) struct Body<C: Cell> {
 
 /// The numbers in the room of those cells and rows of a matrix that were brought there.
 #[derive(Drop)]
-struct Known {
-    cells: Items<Option<u32>>,
-    rows: Items<Option<u32>>,
+pub(crate) struct Known {
+    pub(crate) cells: Items<Option<u32>>,
+    pub(crate) rows: Items<Option<u32>>,
 }
 
 /// Where the window moves the column, None where it does not have it.
@@ -68,6 +68,20 @@ pub(crate) fn unknown(alloc: Global, count: usize) -> Result<Items<Option<u32>>,
         known.push(None)?;
     }
     Ok(known)
+}
+
+/// That nothing is known of a matrix's cells and rows.
+pub(crate) fn unknown_in<C: Cell>(alloc: Global, body: &Body<C>) -> Result<Known, AllocError>
+    ensures cells { IfOk result (λ known. length known.cells ≡ length body.now.cells.items) }
+    ensures no_cell { IfOk result (λ known.
+        (n m : ℕ) → slice_get known.cells n ≡ Some (Some m) → ⊥) }
+    ensures rows { IfOk result (λ known. length known.rows ≡ length body.now.rows) }
+    ensures no_row { IfOk result (λ known.
+        (n m : ℕ) → slice_get known.rows n ≡ Some (Some m) → ⊥) }
+{
+    let cells = unknown(alloc, body.cells.len())?;
+    let rows = unknown(alloc, body.rows.len())?;
+    Ok(Known { cells, rows })
 }
 
 /// What is known of a number, None where nothing is.
@@ -161,9 +175,48 @@ fn moved_row<C: Cell>(
     Ok(made)
 }
 
+/// Brings what the window has of row n of a matrix into the room: its number there. It stands apart
+/// from the look-up, so that this is compiled into the loops.
+#[inline(never)]
+fn brought_row<C: Cell>(
+    alloc: Global,
+    body: &Body<C>,
+    known: &mut Known,
+    room: &mut Room<C>,
+    window: Window,
+    n: u32,
+) -> Result<u32, AllocError>
+    requires body { IsSource (map C.symbols body.now.cells.items) body.now.rows }
+    requires within { n < length body.now.rows }
+    requires fits { window.to + window.width ≤ room.old.columns }
+    requires room { IsRoom room.old.columns
+        (map C.symbols room.old.cells.items) room.old.rows room.old.unions }
+    requires known { IsKnown window (map C.symbols body.now.cells.items) body.now.rows
+        (map C.symbols room.old.cells.items) room.old.rows known.old.cells known.old.rows }
+    ensures columns { IfOk result (λ _. room.new.columns ≡ room.old.columns) }
+    ensures grows { IfOk result (λ _. RoomGrows room.old.columns
+        (map C.symbols room.old.cells.items) room.old.rows
+        (map C.symbols room.new.cells.items) room.new.rows room.new.unions) }
+    ensures known { IfOk result (λ _.
+        IsKnown window (map C.symbols body.now.cells.items) body.now.rows
+        (map C.symbols room.new.cells.items) room.new.rows known.new.cells known.new.rows) }
+    ensures row { IfOk result (λ m. IsMovedRow window (map C.symbols body.now.cells.items)
+        (row_of body.now.rows n) (map C.symbols room.new.cells.items) room.new.rows m) }
+{
+    let source = body.cells.as_slice();
+    let rows = body.rows.as_slice();
+    let row = row_at(rows, n);
+    let columns = room.columns;
+    let cells = &mut room.cells;
+    let made = moved_row(alloc, source, &mut known.cells, cells, row, window, columns)?;
+    let number = number_of_row(room, made)?;
+    known.rows.set(n as usize, Some(number));
+    Ok(number)
+}
+
 /// The number in the room of what the window has of row n of a matrix. A row that is not known is
 /// brought there.
-fn loaded_row<C: Cell>(
+pub(crate) fn loaded_row<C: Cell>(
     alloc: Global,
     body: &Body<C>,
     known: &mut Known,
@@ -191,15 +244,16 @@ fn loaded_row<C: Cell>(
     if let Some(number) = known_at(&known.rows, n) {
         return Ok(number);
     }
-    let source = body.cells.as_slice();
-    let rows = body.rows.as_slice();
-    let row = row_at(rows, n);
-    let columns = room.columns;
-    let cells = &mut room.cells;
-    let made = moved_row(alloc, source, &mut known.cells, cells, row, window, columns)?;
-    let number = number_of_row(room, made)?;
-    known.rows.set(n as usize, Some(number));
+    let number = brought_row(alloc, body, known, room, window, n)?;
     Ok(number)
+}
+
+/// No numbers, with room for so many.
+pub(crate) fn numbers_for(alloc: Global, count: usize) -> Result<Items<u32>, AllocError>
+    ensures { IfOk result (λ numbers. numbers ≡ []) }
+{
+    let numbers = Vec::with_capacity(alloc, count)?;
+    Ok(Items::from_vec(numbers))
 }
 
 /// The numbers in the room of what the window has of so many rows of a matrix, from the first on.
@@ -230,7 +284,7 @@ pub(crate) fn loaded_rows<C: Cell>(
     let cells = unknown(alloc, body.cells.len())?;
     let rows = unknown(alloc, body.rows.len())?;
     let mut known = Known { cells, rows };
-    let mut numbers = Items::new(alloc);
+    let mut numbers = numbers_for(alloc, count as usize)?;
     let named = body.numbers.as_slice();
     for i in 0..count as usize {
         let n = named[first as usize + i];
@@ -240,31 +294,34 @@ pub(crate) fn loaded_rows<C: Cell>(
     Ok(numbers)
 }
 
-/// For each place the number of the union of the rows that two lists of numbers have there.
-pub(crate) fn united<C: Cell>(
+/// The numbers, each in the place of that of a row of the matrix, of what the window has of it.
+pub(crate) fn renumbered<C: Cell>(
     alloc: Global,
+    body: &Body<C>,
     room: &mut Room<C>,
-    left: &[u32],
-    right: &[u32],
+    window: Window,
+    named: Items<u32>,
 ) -> Result<Items<u32>, AllocError>
+    requires body { IsSource (map C.symbols body.now.cells.items) body.now.rows }
+    requires numbers { AreBelow (length body.now.rows) named }
+    requires fits { window.to + window.width ≤ room.old.columns }
     requires room { IsRoom room.old.columns
         (map C.symbols room.old.cells.items) room.old.rows room.old.unions }
-    requires count { length left.now ≡ length right.now }
-    requires left { AreBelow (length room.old.rows) left.now }
-    requires right { AreBelow (length room.old.rows) right.now }
     ensures columns { IfOk result (λ _. room.new.columns ≡ room.old.columns) }
     ensures grows { IfOk result (λ _. RoomGrows room.old.columns
         (map C.symbols room.old.cells.items) room.old.rows
         (map C.symbols room.new.cells.items) room.new.rows room.new.unions) }
-    ensures count { IfOk result (λ numbers. length numbers ≡ length left.now) }
+    ensures count { IfOk result (λ numbers. length numbers ≡ length named) }
     ensures rows { IfOk result (λ numbers. AreNumbersOf
-        (EitherHas (map C.symbols room.old.cells.items) room.old.rows left.now right.now)
+        (MovedNumberHas window (map C.symbols body.now.cells.items) body.now.rows named 0)
         (map C.symbols room.new.cells.items) room.new.rows numbers) }
 {
-    let mut numbers = Items::new(alloc);
-    for i in 0..left.len() {
-        let both = number_of_union(alloc, room, left[i], right[i])?;
-        numbers.push(both)?;
+    let mut known = unknown_in(alloc, body)?;
+    let mut numbers = named;
+    for i in 0..numbers.len() {
+        let n = numbers.as_slice()[i];
+        let m = loaded_row(alloc, body, &mut known, room, window, n)?;
+        numbers.set(i, m);
     }
     Ok(numbers)
 }

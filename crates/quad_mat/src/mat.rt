@@ -14,7 +14,8 @@ ghost use Rattle.quad_mat.specs.Products.{HasNothing, IsProductMat, Keeps};
 
 use crate::entries::{Entry, cell_at, row_at};
 use crate::images::{Factors, empty_making};
-use crate::loading::{Body, Window, empty_rows, loaded_rows, united};
+use crate::loading::{Body, Window, empty_rows, loaded_rows, renumbered};
+use crate::pairs::{paired_rows, side_by_side};
 use crate::products::product_rows;
 use crate::room::{Room, empty_room, number_of_single};
 use binary_form::Binary;
@@ -261,7 +262,7 @@ fn finished<C: Cell>(
     let body = Body {
         cells,
         rows,
-        numbers,
+        numbers: Items::new(alloc),
     };
     let mut used = empty_room(alloc, columns)?;
     let whole = Window {
@@ -269,7 +270,7 @@ fn finished<C: Cell>(
         width: columns,
         to: 0,
     };
-    let numbers: Items<u32> = loaded_rows(alloc, &body, &mut used, whole, 0, rows_count)?;
+    let numbers: Items<u32> = renumbered(alloc, &body, &mut used, whole, numbers)?;
     let mat: Mat<C> = Mat::packed(alloc, used, numbers, rows_count)?;
     Ok(mat)
 }
@@ -296,19 +297,16 @@ fn both_loaded<C: Cell>(
     ensures rows { IfOk result (λ numbers. AreNumbersOf (BothHave left.now right.now to)
         (map C.symbols room.new.cells.items) room.new.rows numbers) }
 {
-    let first = Window {
-        first: 0,
-        width: left.cols(),
-        to: 0,
+    let windows = side_by_side(left.cols(), right.cols(), to);
+    let one = match left.body() {
+        Some(one) => one,
+        None => return right.loaded(alloc, room, windows.right, 0, right.rows()),
     };
-    let second = Window {
-        first: 0,
-        width: right.cols(),
-        to,
+    let other = match right.body() {
+        Some(other) => other,
+        None => return left.loaded(alloc, room, windows.left, 0, left.rows()),
     };
-    let one: Items<u32> = left.loaded(alloc, room, first, 0, left.rows())?;
-    let other: Items<u32> = right.loaded(alloc, room, second, 0, right.rows())?;
-    let numbers: Items<u32> = united(alloc, room, one.as_slice(), other.as_slice())?;
+    let numbers: Items<u32> = paired_rows(alloc, one, other, windows, room)?;
     Ok(numbers)
 }
 

@@ -7,7 +7,7 @@ ghost use Rattle.quad_mat.specs.Products.{ProductHas};
 
 use crate::entries::{Entry, row_at};
 use crate::images::{Factors, Making, number_of_image};
-use crate::loading::{known_at, unknown};
+use crate::loading::{known_at, numbers_for, unknown};
 use crate::room::number_of_union;
 use cell_sets::Cell;
 use sqlite_items::Items;
@@ -15,6 +15,7 @@ use std::alloc::{AllocError, Global};
 
 /// The number in the room of the product of a row of the left matrix and the right matrix: the
 /// union over its entries of the images of the rows that their columns name.
+#[inline(never)]
 fn row_product<C: Cell>(
     alloc: Global,
     factors: &Factors<C>,
@@ -105,8 +106,8 @@ pub(crate) fn product_rows<C: Cell>(
         (map C.symbols making.new.room.cells.items) making.new.room.rows numbers) }
 {
     let mut known = unknown(alloc, factors.left.rows.len())?;
-    let mut numbers = Items::new(alloc);
     let named = factors.left.numbers.as_slice();
+    let mut numbers = numbers_for(alloc, named.len())?;
     for i in 0..named.len() {
         let number = number_of_row_product(alloc, factors, making, &mut known, named[i])?;
         numbers.push(number)?;

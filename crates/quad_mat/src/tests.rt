@@ -148,45 +148,47 @@ type Case = (
     &'static [Place],
 );
 
+/// Products by hand.
+const PRODUCTS: &[Case] = &[
+    (
+        (1, 2, 1),
+        &[(0, 1, &[0])],
+        &[(1, 0, &[3])],
+        &[(0, 0, &[0, 2, 4])],
+    ),
+    ((1, 2, 1), &[(0, 0, &[0])], &[(1, 0, &[3])], &[]),
+    ((2, 0, 3), &[], &[], &[]),
+    ((0, 1, 2), &[], &[(0, 1, &[3])], &[]),
+    ((2, 1, 0), &[(0, 0, &[0])], &[], &[]),
+    (
+        (3, 1, 2),
+        ALL_ROWS,
+        &[(0, 1, &[4])],
+        &[(0, 1, &[3]), (1, 1, &[3]), (2, 1, &[3])],
+    ),
+    (
+        (2, 2, 2),
+        &[(0, 0, &[0]), (1, 1, &[0])],
+        FACTOR,
+        &[(0, 0, &[3]), (1, 0, &[0, 2, 4])],
+    ),
+    (
+        (1, 2, 1),
+        &[(0, 0, &[0]), (0, 1, &[0])],
+        FACTOR,
+        &[(0, 0, &[0, 2, 3, 4])],
+    ),
+];
+
 #[test]
 fn products_by_hand(rt: HostRuntime) -> Result<(), Fail> {
-    let cases: [Case; 8] = [
-        (
-            (1, 2, 1),
-            &[(0, 1, &[0])],
-            &[(1, 0, &[3])],
-            &[(0, 0, &[0, 2, 4])],
-        ),
-        ((1, 2, 1), &[(0, 0, &[0])], &[(1, 0, &[3])], &[]),
-        ((2, 0, 3), &[], &[], &[]),
-        ((0, 1, 2), &[], &[(0, 1, &[3])], &[]),
-        ((2, 1, 0), &[(0, 0, &[0])], &[], &[]),
-        (
-            (3, 1, 2),
-            ALL_ROWS,
-            &[(0, 1, &[4])],
-            &[(0, 1, &[3]), (1, 1, &[3]), (2, 1, &[3])],
-        ),
-        (
-            (2, 2, 2),
-            &[(0, 0, &[0]), (1, 1, &[0])],
-            FACTOR,
-            &[(0, 0, &[3]), (1, 0, &[0, 2, 4])],
-        ),
-        (
-            (1, 2, 1),
-            &[(0, 0, &[0]), (0, 1, &[0])],
-            FACTOR,
-            &[(0, 0, &[0, 2, 3, 4])],
-        ),
-    ];
-    for ((rows, middle, columns), left, right, places) in cases {
-        let a: Mat<ListCell> = mat_of(rt.alloc(), rows, middle, left)?;
-        let b: Mat<ListCell> = mat_of(rt.alloc(), middle, columns, right)?;
+    for ((rows, middle, columns), left, right, places) in PRODUCTS {
+        let a: Mat<ListCell> = mat_of(rt.alloc(), *rows, *middle, left)?;
+        let b: Mat<ListCell> = mat_of(rt.alloc(), *middle, *columns, right)?;
         let made: Mat<ListCell> = product_of(rt.alloc(), &a, &b).ok_or("a product")?;
         assert_eq!(rt;
             (made.rows(), made.cols()),
-            (rows, columns),
+            (*rows, *columns),
             "at {left:?}, {right:?}"
         );
         assert_eq!(rt; differs_at(&made, places), None, "at {left:?}, {right:?}");

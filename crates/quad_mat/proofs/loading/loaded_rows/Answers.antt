@@ -13,7 +13,7 @@ loop-i-init g c =
     let source = map symbols c.args.body.now.cells.items in
     let count : length c.in_ok-cells.cells ≡ length source =
     omega (arith, c.in_ok-cells.ensures.count, c.len.ensures, c.args.body.now.cells.ok.0, length-map c.args.body.now.cells.items symbols) in
-    rw c.new-numbers.ensures (record {
+    rw c.in_ok-numbers.ensures (record {
       columns = refl;
       grows = room_kept room.columns (map symbols room.cells.items) room.rows room.unions c.requires.room;
       known =

@@ -1,10 +1,10 @@
 -- The rows that are used are the same rows.
-use Rattle.std.proofs.Common.{map, sym, ◌∙◌}
+use Rattle.std.proofs.Common.{map, ◌∙◌}
 use Rattle.quad_mat.proofs.MatLemmas.{room_source, finished_rows}
 use Rattle.quad_mat.proofs.mat.finished.Goals as goal
 
-pub loaded_rows-requires-clause-body : goal.loaded_rows-requires-clause-body
-loaded_rows-requires-clause-body g c κs within =
+pub renumbered-requires-clause-body : goal.renumbered-requires-clause-body
+renumbered-requires-clause-body g c κs within =
     let room = c.args.room in
     room_source room.columns (map g.C.Cell.symbols room.cells.items) room.rows room.unions c.requires.room
 
@@ -12,8 +12,8 @@ pub returns : goal.returns
 returns g c =
     let symbols = g.C.Cell.symbols in
     let room = c.args.room in
-    let used = c.loaded_rows.new.room in
+    let used = c.renumbered.new.room in
     let columns = c.in_ok-numbers.ensures.columns ∙ c.in_ok-used.ensures.columns in
     finished_rows room.columns (map symbols room.cells.items) (map symbols used.cells.items) room.rows used.rows
-    c.args.numbers c.in_ok-numbers.numbers c.in_ok-mat.mat (c.in_ok-numbers.ensures.count ∙ sym c.requires.count)
+    c.args.numbers c.in_ok-numbers.numbers c.in_ok-mat.mat c.in_ok-numbers.ensures.count
     c.in_ok-numbers.ensures.rows (rw columns at c.in_ok-mat.ensures)

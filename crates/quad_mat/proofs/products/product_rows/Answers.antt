@@ -14,7 +14,7 @@ loop-i-init g c =
     let left = factors.left.now in
     let right = factors.right.now in
     let making = c.args.making.now in
-    rw c.new-numbers.ensures (record {
+    rw c.in_ok-numbers.ensures (record {
       more = more_self symbols bin left right making c.requires.making;
       known =
           row_products_none symbols bin left right making c.in_ok-known.known
