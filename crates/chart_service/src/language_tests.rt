@@ -9,7 +9,8 @@ use std::alloc::{AllocError, Global};
 use std::test::Fail;
 
 /// JSON.
-const JSON: &str = "-- JSON, as RFC 8259 has it; in the first class of Text stand the control characters\n\
+const JSON: &str =
+    "-- JSON, as RFC 8259 has it; in the first class of Text stand the control characters\n\
 entrypoints Value ;\n\
 Object. Value ::= \"{\" [Member] \"}\" ;\n\
 EmptyObject. Value ::= \"{\" \"}\" ;\n\
