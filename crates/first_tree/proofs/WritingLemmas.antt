@@ -1,6 +1,8 @@
 -- Bytes are added, and then others.
-use Rattle.std.proofs.Common.{ℕ, List, [], ◌++◌, Option, Some, Result, Ok, Err, OnErr, sym, ◌∙◌, ap, append-nil}
-use Rattle.cyk_io.proofs.GatheringLemmas.{both_pass, passes_cut, cut_of_both}
+use Rattle.std.proofs.Common.{◌≡◌, ℕ, List, [], ◌++◌, Option, Some, Result, Ok, Err, OnOk, OnErr, sym, ◌∙◌, ap, subst, append-nil}
+use Rattle.cyk_io.specs.Streams.{Grows, GrowsByPrefix}
+use Rattle.cyk_io.specs.Gathering.{Passes}
+use Rattle.cyk_io.proofs.GatheringLemmas.{both_grow, prefix_behind, both_pass, passes_cut, cut_of_both}
 use Rattle.first_tree.specs.OpenNodes.{Adds, StopsIn}
 
 -- none are added
@@ -31,3 +33,21 @@ stops_later old mid new first second adds cut =
 pub on_error : {X E : Type 0} (P : Type 0) (r : Result X E) → P → OnErr r P
 on_error P (Ok x) is = tt
 on_error P (Err fault) is = is
+
+-- bytes pass behind none that were gathered, and what is left is written then, or a prefix of it
+module _ (old mid new : Option (List ℕ)) (gathered bytes left : List ℕ) (none : gathered ≡ [])
+    (passes : Passes old mid gathered bytes left) where
+  as_written : passes.0 ++ left ≡ bytes
+  as_written = sym passes.2 ∙ ap (λ these. these ++ bytes) none
+
+  pub all_written : {X E : Type 0} → (r : Result X E)
+      → OnOk r (Grows mid new left) → OnOk r (Grows old new bytes)
+  all_written (Ok x) more =
+      subst (Grows old new) as_written (both_grow old mid new passes.0 left passes.1 more)
+  all_written (Err fault) h = h
+
+  pub cut_written : {X E : Type 0} → (r : Result X E)
+      → OnErr r (GrowsByPrefix mid new left) → OnErr r (GrowsByPrefix old new bytes)
+  cut_written (Ok x) h = h
+  cut_written (Err fault) cut =
+      subst (GrowsByPrefix old new) as_written (prefix_behind old mid new passes.0 left passes.1 cut)

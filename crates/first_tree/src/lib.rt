@@ -15,6 +15,6 @@ mod wanted;
 mod writing;
 
 pub use answer::First;
-pub use printing::print;
+pub use printing::{print, print_gathered};
 pub use search::first;
 pub use tree_nodes::{Tree, TreeNode};

@@ -7,7 +7,7 @@ ghost use Rattle.spec_grammar.specs.Grammars.{Grammar as Parsed};
 ghost use Rattle.spec_grammar.specs.Trees.{leaf};
 ghost use Rattle.tree_nodes.specs.declared.node.TreeNode.{TreeNode};
 ghost use Rattle.cyk_io.specs.Causes.{HasCause};
-ghost use Rattle.cyk_io.specs.Streams.{GrowsByPrefix};
+ghost use Rattle.cyk_io.specs.Streams.{Grows, GrowsByPrefix};
 ghost use Rattle.cyk_io.specs.Gathering.{Passes};
 ghost use Rattle.first_tree.specs.OpenNodes.{IsLeft, Advances, node_past, opened};
 ghost use Rattle.first_tree.specs.Printing.{IsTreeIn, text_of};
@@ -178,7 +178,7 @@ fn close<K: Sink>(
 /// or in the sink. It goes over the nodes once, and adds at most four pieces for each. It keeps 8
 /// bytes or so of each rule above the current node, and copies the bytes of a token only where some
 /// of them are not printed as they are.
-pub fn print<K: Sink>(
+pub fn print_gathered<K: Sink>(
     alloc: Global,
     tree: &Tree,
     grammar: &Grammar,
@@ -207,4 +207,27 @@ pub fn print<K: Sink>(
         top = close(&mut stack, inner, gathered, sink)?;
     }
     Ok(())
+}
+
+/// Writes the printed text of the tree, as `print_gathered` does, 4,096 bytes at a time. After
+/// `Write` or `Memory` a prefix of it is written; `Memory` is want of memory, here or in the sink.
+pub fn print<K: Sink>(
+    alloc: Global,
+    tree: &Tree,
+    grammar: &Grammar,
+    text: &Text,
+    sink: &mut K,
+) -> Result<(), IoFault>
+    requires fits { IsTreeIn grammar.now text.now tree.now }
+    ensures ok { OnOk result (Grows (K.written sink.old) (K.written sink.new)
+        (text_of grammar.now text.now tree.now)) }
+    ensures err { OnErr result (GrowsByPrefix (K.written sink.old) (K.written sink.new)
+        (text_of grammar.now text.now tree.now)) }
+    ensures cause { HasCause (K.faults sink.old) (K.faults sink.new)
+        (IsErrOf result IoFault.Write) }
+    ensures read { IsErrOf result IoFault.Read → ⊥ }
+{
+    let mut gathered = Gathered::new();
+    print_gathered(alloc, tree, grammar, text, &mut gathered, sink)?;
+    gathered.flush(sink)
 }

@@ -7,7 +7,7 @@ ghost use Rattle.text_store.specs.TextStore.{Lexes};
 use super::answer_of;
 use super::samples::names;
 use crate::{First, print};
-use cyk_io::{ByteSink, CleanSink, Gathered, IoFault, Sink};
+use cyk_io::{ByteSink, CleanSink, IoFault, Sink};
 use lbnf_regex::{Automaton, automaton};
 use numbered_grammar::{Grammar, Items, KindDef, Label, LexiconParts, Name, Rule, Symbol};
 use spec_lexing::{Class, Expr};
@@ -136,8 +136,8 @@ fn grammar(alloc: Global) -> Option<Grammar> {
     Grammar::of_rules(alloc, rules, names, lexicon).ok()?
 }
 
-/// Prints the first tree of the symbol over the whole text, and writes all. `None` where there is
-/// none, or memory ran out before it was printed.
+/// Prints the first tree of the symbol over the whole text. `None` where there is none, or memory
+/// ran out before it was printed.
 fn print_first<K: Sink>(
     alloc: Global,
     symbol: Symbol,
@@ -156,12 +156,7 @@ fn print_first<K: Sink>(
         return None;
     };
     a_first_tree_is_a_parse_tree();
-    let mut gathered = Gathered::new();
-    let printed = print(alloc, &tree, &grammar, &text, &mut gathered, sink);
-    Some(match printed {
-        Ok(()) => gathered.flush(sink),
-        Err(fault) => Err(fault),
-    })
+    Some(print(alloc, &tree, &grammar, &text, sink))
 }
 
 const PRINTS: &[(Symbol, &str, &str)] = &[

@@ -3,7 +3,7 @@ use Rattle.std.proofs.Common.{◌≡◌, ◌≤◌, [], ◌∷◌, ◌++◌, dro
 use Rattle.tree_nodes.specs.TreeNodes.{preorder}
 use Rattle.spec_trees.specs.TreeText.{tree_text}
 use Rattle.first_tree.specs.OpenNodes.{Advances}
-use Rattle.first_tree.proofs.printing.print.Given as goal
+use Rattle.first_tree.proofs.printing.print_gathered.Given as goal
 
 abbrev pub invariant-loop-node : goal.invariant-loop-node
 invariant-loop-node g l = record {
