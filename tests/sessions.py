@@ -726,7 +726,7 @@ for name, grammar, counted, text, tokens, questions, answers in [
          counts(*counted) + version(tokens) + answers + b'end\n', 0)
 
 # ---- As many nodes as a tree may have, and one more: all are over the empty text. `N` of the level
-# n has two of the level below, so that the level 22 has 2^22 - 1 nodes, and `S` and `T` one more each.
+# n has two of the level below and `A0` none, so that `A21` has 2^22 - 1 nodes, and `S` and `T` one more each.
 
 LEVELS = 22
 DOUBLING = b''.join(b'N. A%d ::= A%d A%d ; ' % (n + 1, n, n) for n in range(LEVELS - 1))
