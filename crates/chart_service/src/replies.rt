@@ -8,7 +8,7 @@ ghost use Rattle.chart_service.specs.Replies.{line_in, Passes, Says, WritesOut, 
 
 use crate::status::Status;
 use cyk_io::{Gathered, IoFault, Sink};
-use first_tree::{Tree, print};
+use first_tree::{Tree, print_gathered};
 use lbnf_grammar::Grammar;
 use std::alloc::{AllocError, Global};
 use std::marker::Model;
@@ -115,7 +115,7 @@ impl Replies {
             (IsErrOf result IoFault.Write) }
         ensures read { IsErrOf result IoFault.Read → ⊥ }
     {
-        print(alloc, tree, grammar, text, &mut self.gathered, sink)?;
+        print_gathered(alloc, tree, grammar, text, &mut self.gathered, sink)?;
         self.gathered.add(sink, b"\n".as_slice())
     }
 
