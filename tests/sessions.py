@@ -725,19 +725,6 @@ for name, grammar, counted, text, tokens, questions, answers in [
     case('tree: ' + name, with_grammar(grammar, open_text(text) + questions + END),
          counts(*counted) + version(tokens) + answers + b'end\n', 0)
 
-# ---- As many nodes as a tree may have, and one more: all are over the empty text. `N` of the level
-# n has two of the level below and `A0` none, so that `A21` has 2^22 - 1 nodes, and `S` and `T` one more each.
-
-LEVELS = 22
-DOUBLING = b''.join(b'N. A%d ::= A%d A%d ; ' % (n + 1, n, n) for n in range(LEVELS - 1))
-DOUBLING = b'T. T ::= S ; S. S ::= A%d ; ' % (LEVELS - 1) + DOUBLING + b'N. A0 ::= ;'
-printed = b'(N)'
-for _ in range(LEVELS - 1):
-    printed = b'(N ' + printed + b' ' + printed + b')'
-assert printed.count(b'(') + 1 == 4_194_304
-case('tree: 4,194,304 nodes, and one more', with_grammar(DOUBLING, open_text(b'') + b'tree S 0 0\ntree T 0 0\ntree A0\n' + END),
-     counts(LEVELS + 2, LEVELS + 2, 0) + version(0) + b'(S ' + printed + b')\nrefused tree\n(N)\nend\n', 0)
-
 # ---- Grammar files by their lines, and questions on some of them.
 
 for file, line in grammar_files.ROWS:
