@@ -1,14 +1,14 @@
 #!/usr/bin/env bash
 # Measures how fast a text of JSON is cut into tokens by the program of crates/text_bench, beside
 # scanners of the same kinds that `flex` makes, with its default tables and with full ones (-Cf), in
-# turns in one run over the same bytes: (a) 1,048,576 bytes of records with long strings, (b) as many
-# short tokens as a text may have. It writes the least microseconds of all rounds and their ratios,
-# and for (a) the peak memory for each token, by the difference to a text of as many bytes that has
-# three tokens. A scanner of flex copies the bytes too, and keeps its tokens in an array that is there
-# before.
+# turns in one run over the same bytes: (a) 1,048,576 bytes of records with long strings, (b) as
+# many short tokens as a text may have. It writes the least microseconds of all rounds and their
+# ratios, and for (a) the most bytes that are allocated at a time for each token, as valgrind counts
+# them, by the difference to a text of as many bytes that has three tokens. A scanner of flex copies
+# the bytes too, and keeps its tokens in an array that is there before.
 # The status is 1 where the program takes more than 3 times as long as the scanner with default
 # tables, or more than 24 bytes a token, and 2 where a program fails or their tokens differ. It takes
-# a C compiler.
+# a C compiler and valgrind.
 set -eu
 
 root=$(cd -- "$(dirname -- "${BASH_SOURCE[0]}")/.." && pwd)
@@ -126,7 +126,8 @@ def few_tokens():
 
 def run(program, text):
     """What the program tells of the tokens, and its least nanoseconds."""
-    done = subprocess.run([program, str(TIMES)], input=text + b'\n', capture_output=True, check=False)
+    command = [program, str(TIMES)]
+    done = subprocess.run(command, input=text + b'\n', capture_output=True, check=False)
     lines = done.stdout.decode().splitlines()
     if done.returncode != 0 or len(lines) != 2:
         print(f'bench: {program} ended with status {done.returncode}', file=sys.stderr)
@@ -134,15 +135,14 @@ def run(program, text):
     return lines[0], int(lines[1].split()[1])
 
 
-def peak(text):
-    """The tokens of the text, and the peak bytes of the program that opens it."""
-    with subprocess.Popen([PROGRAM], stdin=subprocess.PIPE, stdout=subprocess.PIPE) as child:
-        child.stdin.write(text + b'\n')
-        child.stdin.flush()
-        line = child.stdout.readline().decode().split()
-        status = pathlib.Path(f'/proc/{child.pid}/status').read_text()
-        child.communicate()
-    return int(line[3]), int(status.partition('VmHWM:')[2].split()[0]) * 1024
+def peak(folder, text):
+    """The tokens of the text, and the most bytes that the program that opens it takes at a time."""
+    out = folder / 'massif'
+    flags = ['--tool=massif', f'--massif-out-file={out}', '--peak-inaccuracy=0.0']
+    done = subprocess.run(['valgrind', *flags, PROGRAM], input=text + b'\n', capture_output=True,
+                          check=True)
+    sizes = [line for line in out.read_text().splitlines() if line.startswith('mem_heap_B=')]
+    return int(done.stdout.split()[3]), max(int(line.partition('=')[2]) for line in sizes)
 
 
 def scanner(folder, name, *flags):
@@ -180,7 +180,8 @@ def main():
             print(f'{name:<18}{size:>9}{tokens:>8}{own:>8.0f}{default:>8.0f}{full:>8.0f}'
                   f'{own / default:>7.2f}{own / full:>8.2f}')
             good = good and own <= MOST_RATIO * default
-    many, few = peak(texts['(a) long strings']), peak(few_tokens().encode())
+        many = peak(folder, texts['(a) long strings'])
+        few = peak(folder, few_tokens().encode())
     each = (many[1] - few[1]) / (many[0] - few[0])
     print(f'(a) takes {each:.1f} bytes for each token beside the text')
     sys.exit(0 if good and each <= MOST_BYTES else 1)
