@@ -7,8 +7,6 @@ mod answering;
 mod ending;
 mod known_texts;
 mod language;
-#[cfg(test)]
-mod language_tests;
 mod options;
 mod refusals;
 mod replies;
