@@ -7,9 +7,9 @@ use Rattle.std.specs.declared.alloc.AllocError.{AllocError}
 use Rattle.cyk_io.specs.Streams.{GrowsByPrefix}
 use Rattle.cyk_io.specs.declared.fault.IoFault.TheVariants.{Read, Write, Memory}
 use Rattle.spec_grammar.specs.Grammars.{Grammar}
-use Rattle.spec_script.specs.Script.{Command, opens, ask, Part, header, grammar, of_command, Script}
+use Rattle.spec_script.specs.Script.{Command, opens, edits, ask, Part, header, grammar, of_command, Script}
 use Rattle.spec_script.specs.Script.{nothing, header_alone, with_grammar, parts_of, text_of}
-use Rattle.spec_script.specs.Script.{question_form, AreQuestions, AreInOrder, AreComplete, IsInOrder}
+use Rattle.spec_script.specs.Script.{any_order, IsInOrder, IsComplete}
 use Rattle.spec_script.specs.Script.{BeginsWithParts, BeginsWithScript, HasEndLine}
 use Rattle.spec_script.specs.Script.{ended, broken, IsScript}
 use Rattle.spec_script.proofs.BeginningLemmas.{begins_more, parts_more}
@@ -18,20 +18,19 @@ use Rattle.spec_session.specs.Steps.{State, no_texts, Step}
 use Rattle.spec_session.specs.Runs.{IsRun, commands_of, replies_of, state_after}
 use Rattle.spec_session.specs.Sessions.{serve_mode, AreAllReplies, refused, whole}
 use Rattle.spec_session.proofs.SessionsLemmas.{replies_come_first}
-use Rattle.spec_session.proofs.FrontLemmas.{questions_more}
 use Rattle.script_reader.specs.declared.command.Command.{Command as ReadCommand}
-use Rattle.script_reader.specs.declared.command.Command.TheVariants.{Open, Ask, End}
+use Rattle.script_reader.specs.declared.command.Command.TheVariants.{Open, Edit, Ask, End}
 use Rattle.script_reader.specs.declared.stop.Stop.{Stop}
 use Rattle.script_reader.specs.declared.stop.Stop.TheVariants.{Breaks, Fault}
 use Rattle.script_reader.specs.Forms.{query_of}
-use Rattle.script_reader.specs.Reading.{TakesPart, TakesEnd, TakesCommand, StopsBehind, TellsOpen}
+use Rattle.script_reader.specs.Reading.{TakesPart, TakesEnd, TakesCommand, StopsBehind}
 use Rattle.chart_service.specs.declared.accepting.LanguageFault.{LanguageFault}
 use Rattle.chart_service.specs.declared.ending.EarlyEnd.TheVariants.{Refused, Stopped}
 use Rattle.chart_service.specs.declared.session.Session.{Session}
 use Rattle.chart_service.specs.Serving.{IsPrefixOfSession}
 use Rattle.chart_service.specs.Replies.{line_in, bytes_in, Passes, SaysBy}
 use Rattle.chart_service.specs.Languages.{IsFaultOf, IsRefusal}
-use Rattle.chart_service.specs.Sessions.{IsIn, is_open, CanReply, IsCommand, RepliesTo}
+use Rattle.chart_service.specs.Sessions.{IsIn, IsCommand, RepliesTo}
 use Rattle.chart_service.specs.Progress.{IsToldBehind, Running, IsCutShort, HasEnded, EndsEarly}
 use Rattle.chart_service.specs.Progress.{HasAccepted}
 use Rattle.chart_service.proofs.ToldLemmas.{told_on, written_is_prefix, cut_is_prefix}
@@ -39,95 +38,18 @@ use Rattle.chart_service.proofs.ToldLemmas.{line_is_prefix, bytes_are_prefix}
 use Rattle.chart_service.proofs.LanguageLemmas.{refusal_is}
 use Rattle.chart_service.proofs.RunLemmas.{run_more, commands_more, lines_more, after_more}
 
--- the command of a script that was read
-pub command_read : (command : ReadCommand) → (command ≡ End → ⊥) → (meaning : Command) × IsCommand command meaning
-command_read (Open text) other = (opens text.items, refl)
-command_read (Ask query) other = (ask (query_of query), refl)
-command_read End other = absurd (other refl)
+-- the command of a script that was read, and its part
+pub command_read : (from to : ℕ) (old new : Option (List ℕ)) (command : ReadCommand)
+    → TakesCommand from to old new command → (command ≡ End → ⊥)
+    → (meaning : Command) × IsCommand command meaning × TakesPart from to old new (of_command meaning)
+command_read from to old new (Open known) t other = (opens t.0, (t.0, t.1, refl), t.2)
+command_read from to old new (Edit at deleted known) t other = (edits at deleted t.0, (t.0, t.1, refl), t.2)
+command_read from to old new (Ask query) t other = (ask (query_of query), refl, t)
+command_read from to old new End t other = absurd (other refl)
 
 -- a test that fails says that it is not the line `end`
 pub not_end : {P : Type 0} → (test : Bool) → (P → IsTrue test) → test ≡ false → P → ⊥
 not_end test h fails p = let yes : test ≡ true = h p in cc
-
--- it was taken as a part
-pub part_taken : (flag : Bool) (from to : ℕ) (old new : Option (List ℕ)) (command : ReadCommand)
-    → TakesCommand flag from to old new command → (meaning : Command) → IsCommand command meaning
-    → TakesPart from to old new (of_command meaning)
-part_taken false from to old new (Open text) t meaning e =
-    subst (λ (c : Command). TakesPart from to old new (of_command c)) (sym e) t
-part_taken false from to old new (Ask query) t meaning e = absurd t
-part_taken false from to old new End t meaning e = absurd t
-part_taken true from to old new (Open text) t meaning e = absurd t
-part_taken true from to old new (Ask query) t meaning e =
-    subst (λ (c : Command). TakesPart from to old new (of_command c)) (sym e) t
-part_taken true from to old new End t meaning e = absurd e
-
--- a session can reply to it
-pub can_reply : {C : Type 0} → (session : Session C) (flag : Bool) → is_open session ≡ flag
-    → (from to : ℕ) (old new : Option (List ℕ)) (command : ReadCommand)
-    → TakesCommand flag from to old new command → (command ≡ End → ⊥) → CanReply session command
-can_reply session false e from to old new (Open text) t other = (t.within_limits.1, t.within_limits.0)
-can_reply session false e from to old new (Ask query) t other = absurd t
-can_reply session false e from to old new End t other = absurd t
-can_reply session true e from to old new (Open text) t other = absurd t
-can_reply session true e from to old new (Ask query) t other = e
-can_reply session true e from to old new End t other = absurd (other refl)
-
--- the line `end` is taken only where a text is open
-pub end_taken : (flag : Bool) (from to : ℕ) (old new : Option (List ℕ))
-    → TakesCommand flag from to old new End → (flag ≡ true) × TakesEnd from to old new
-end_taken false from to old new t = absurd t
-end_taken true from to old new t = (refl, t)
-
--- commands behind which a text is open are in order
-complete_in_order : (commands : List Command) → AreComplete commands → AreInOrder commands
-complete_in_order [] h = absurd h
-complete_in_order (opens text ∷ questions) h = h
-complete_in_order (ask query ∷ commands) h = absurd h
-
--- with one command more, which is in order, a text is open
-order_completes : (commands : List Command) (command : Command) → AreInOrder (commands ++ command ∷ [])
-    → AreComplete (commands ++ command ∷ [])
-order_completes [] (opens text) h = h
-order_completes [] (ask query) h = absurd h
-order_completes (opens text ∷ questions) command h = h
-order_completes (ask query ∷ commands) command h = absurd h
-
--- a query may stand behind commands behind which a text is open
-query_in_order : (commands : List Command) (query_is : Command) → AreQuestions (query_is ∷ [])
-    → AreComplete commands → AreInOrder (commands ++ query_is ∷ [])
-query_in_order [] query_is q h = absurd h
-query_in_order (opens text ∷ questions) query_is q h = questions_more questions query_is h q
-query_in_order (ask query ∷ commands) query_is q h = absurd h
-
--- where no text is open, there are no commands
-none_open : (block : List ℕ) (commands : List Command)
-    → TellsOpen (with_grammar block commands) false → commands ≡ []
-none_open block commands (other, e) = cc
-
--- the script so far is in order
-script_in_order : (block : List ℕ) (commands : List Command) (flag : Bool)
-    → TellsOpen (with_grammar block commands) flag → AreInOrder commands
-script_in_order block commands true h = complete_in_order commands h
-script_in_order block commands false h = subst AreInOrder (sym (none_open block commands h)) tt
-
--- and the command that was read is in its place
-pub read_in_order : (block : List ℕ) (commands : List Command) (flag : Bool)
-    → TellsOpen (with_grammar block commands) flag → (from to : ℕ) (old new : Option (List ℕ))
-    → (command : ReadCommand) → TakesCommand flag from to old new command → (meaning : Command)
-    → IsCommand command meaning → AreInOrder (commands ++ meaning ∷ [])
-read_in_order block commands false h from to old new (Open text) t meaning e =
-    let none : [] ≡ commands = sym (none_open block commands h) in
-    let P : List Command → Type 0 = λ (these : List Command). AreInOrder (these ++ meaning ∷ []) in
-    let Q : Command → Type 0 = λ (c : Command). AreInOrder (c ∷ []) in
-    subst P none (subst Q (sym e) tt)
-read_in_order block commands false h from to old new (Ask query) t meaning e = absurd t
-read_in_order block commands false h from to old new End t meaning e = absurd t
-read_in_order block commands true h from to old new (Open text) t meaning e = absurd t
-read_in_order block commands true h from to old new (Ask query) t meaning e =
-    let Q : Command → Type 0 = λ (c : Command). AreQuestions (c ∷ []) in
-    query_in_order commands meaning (subst Q (sym e) tt) h
-read_in_order block commands true h from to old new End t meaning e = absurd e
 
 -- nothing was told yet
 pub nothing_told : (before : List ℕ) (now : Option (List ℕ)) → now ≡ Some before → IsToldBehind before now [] []
@@ -140,7 +62,7 @@ module _ (input before : List ℕ) (now : Option (List ℕ)) (is : now ≡ Some 
   none_is_prefix out status s = (out, refl)
 
   -- the script breaks, or there is a fault
-  pub stops_early : (front : Script) (at : ℕ) (rest : List ℕ) → IsInOrder question_form front
+  pub stops_early : (front : Script) (at : ℕ) (rest : List ℕ) → IsInOrder any_order front
       → AreAllReplies serve_mode front [] → BeginsWithScript input front at rest
       → (coming : Option (List ℕ)) → coming ≡ Some rest → (stop : Stop)
       → StopsBehind front at coming stop → EndsEarly input before now [] (Stopped stop)
@@ -151,7 +73,7 @@ module _ (input before : List ℕ) (now : Option (List ℕ)) (is : now ≡ Some 
     last = λ line e. whole front (broken place) [] script replies e refl;
   }
     where
-      script : IsScript question_form input front (broken place)
+      script : IsScript any_order input front (broken place)
       script = record {
         at = at;
         rest = rest;
@@ -246,16 +168,13 @@ module _ {C : Type 0} (input before : List ℕ) (coming : Option (List ℕ)) (at
   abbrev told : List ℕ
   told = grammar_reply g ++ replies_of r.steps
 
-  in_order : IsInOrder question_form front
-  in_order = script_in_order r.block (commands_of r.steps) (is_open session) r.tells_open
-
   all_replies : AreAllReplies serve_mode front told
   all_replies =
       (g, [], replies_of r.steps, r.accepted, refl, (r.steps, record { run = r.is_run; of_commands = refl }, refl), refl)
 
   -- what was told is a prefix
   told_is_prefix : IsPrefixOfSession input told
-  told_is_prefix = replies_come_first input front at r.rest told r.begins in_order all_replies
+  told_is_prefix = replies_come_first input front at r.rest told r.begins tt all_replies
 
   -- so is what is written of it
   pub cut_running : (new : Option (List ℕ)) → GrowsByPrefix now new gathered → IsCutShort input before new
@@ -276,7 +195,6 @@ module _ {C : Type 0} (input before : List ℕ) (coming : Option (List ℕ)) (at
     begins = r.begins;
     accepted = r.accepted;
     is_run = r.is_run;
-    tells_open = r.tells_open;
     is_in = r.is_in;
     is_told = subst (IsToldBehind before new left) (append-nil told)
         (told_on before now new gathered [] left told r.is_told passes);
@@ -292,18 +210,18 @@ module _ {C : Type 0} (input before : List ℕ) (coming : Option (List ℕ)) (at
     last = λ line e. whole front (broken place) told script all_replies (ap (λ bytes. told ++ bytes) e) refl;
   }
     where
-      script : IsScript question_form input front (broken place)
+      script : IsScript any_order input front (broken place)
       script = record {
         at = at;
         rest = r.rest;
-        in_order = in_order;
+        in_order = tt;
         begins = r.begins;
         ends = (h.0, (h.1 r.rest r.comes).0, (h.1 r.rest r.comes).1);
       }
   running_stops (Fault fault) h = written_is_prefix input before now gathered told r.is_told told_is_prefix
 
   -- the line `end` is read
-  pub running_ends : (to : ℕ) (next : Option (List ℕ)) → TakesCommand (is_open session) at to coming next End
+  pub running_ends : (to : ℕ) (next : Option (List ℕ)) → TakesEnd at to coming next
       → HasEnded input before now gathered
   running_ends to next t = record {
     told = told;
@@ -312,35 +230,25 @@ module _ {C : Type 0} (input before : List ℕ) (coming : Option (List ℕ)) (at
     last = λ line e. whole front ended told script all_replies (ap (λ bytes. told ++ bytes) e) refl;
   }
     where
-      taken : (is_open session ≡ true) × TakesEnd at to coming next
-      taken = end_taken (is_open session) at to coming next t
-
       behind : (more : List ℕ) × (next ≡ Some more) × (r.rest ≡ (codes "end" ++ 10 ∷ []) ++ more)
-      behind = (taken.1).taken r.rest r.comes
+      behind = t.taken r.rest r.comes
 
-      line_comes : HasEndLine question_form front at r.rest
+      line_comes : HasEndLine any_order front at r.rest
       line_comes = record {
         more = behind.0;
-        early = (taken.1).early;
-        complete = subst (TellsOpen front) taken.0 r.tells_open;
+        early = t.early;
+        complete = tt;
         spelled = behind.2 ∙ append_assoc (codes "end") (10 ∷ []) behind.0;
       }
 
-      script : IsScript question_form input front ended
-      script = record { at = at; rest = r.rest; in_order = in_order; begins = r.begins; ends = line_comes }
+      script : IsScript any_order input front ended
+      script = record { at = at; rest = r.rest; in_order = tt; begins = r.begins; ends = line_comes }
 
   -- a command is read
-  module _ (command : ReadCommand) (to : ℕ) (next : Option (List ℕ))
-      (t : TakesCommand (is_open session) at to coming next command)
-      (meaning : Command) (is : IsCommand command meaning) where
-    part : TakesPart at to coming next (of_command meaning)
-    part = part_taken (is_open session) at to coming next command t meaning is
-
+  module _ (to : ℕ) (next : Option (List ℕ)) (meaning : Command)
+      (part : TakesPart at to coming next (of_command meaning)) where
     behind : (more : List ℕ) × (next ≡ Some more) × (r.rest ≡ text_of (of_command meaning) ++ more)
     behind = part.taken r.rest r.comes
-
-    longer_in_order : AreInOrder (commands_of r.steps ++ meaning ∷ [])
-    longer_in_order = read_in_order r.block (commands_of r.steps) (is_open session) r.tells_open at to coming next command t meaning is
 
     -- and replied to, by a session under the same grammar
     module _ (later : Session C) (same : later.language ≡ g) (line : List ℕ)
@@ -355,7 +263,7 @@ module _ {C : Type 0} (input before : List ℕ) (coming : Option (List ℕ)) (at
       run =
           let P : Grammar → Type 0 = λ (x : Grammar). IsRun x no_texts r.steps in
           run_more later.language no_texts r.steps step (subst P (sym same) r.is_run)
-          (record { replies = replied.replies; leaves = replied.leaves }) refl
+          replied.replies refl
 
       accepted : IsAccepted r.block later.language
       accepted = subst (IsAccepted r.block) (sym same) r.accepted
@@ -386,7 +294,6 @@ module _ {C : Type 0} (input before : List ℕ) (coming : Option (List ℕ)) (at
       reply_is_prefix =
           let script : Script = with_grammar r.block (commands_of steps) in
           let out : List ℕ = grammar_reply later.language ++ replies_of steps in
-          let ordered : AreInOrder (commands_of steps) = of_commands AreInOrder longer_in_order in
           let replies : AreAllReplies serve_mode script out = (
             later.language,
             [],
@@ -397,7 +304,7 @@ module _ {C : Type 0} (input before : List ℕ) (coming : Option (List ℕ)) (at
             refl,
           ) in
           subst (IsPrefixOfSession input) (sym lines)
-          (replies_come_first input script to behind.0 out begins ordered replies)
+          (replies_come_first input script to behind.0 out begins tt replies)
 
       -- the session runs on
       pub running_replied : (new : Option (List ℕ)) (left : List ℕ) → Passes now new gathered line left
@@ -410,13 +317,9 @@ module _ {C : Type 0} (input before : List ℕ) (coming : Option (List ℕ)) (at
         begins = begins;
         accepted = accepted;
         is_run = run;
-        tells_open = subst (TellsOpen (with_grammar r.block (commands_of steps))) (sym replied.is_open) complete;
         is_in = subst (IsIn later) (sym (after_more no_texts r.steps step)) replied.is_in;
         is_told = subst (IsToldBehind before new left) lines (told_on before now new gathered line left told r.is_told passes);
       }
-        where
-          complete : AreComplete (commands_of steps)
-          complete = of_commands AreComplete (order_completes (commands_of r.steps) meaning longer_in_order)
 
     -- the reply was said
     pub running_said : {X : Type 0} → (bytes_of : X → List ℕ) (later : Session C) → later.language ≡ g
@@ -450,9 +353,9 @@ module _ {C : Type 0} (input before : List ℕ) (coming : Option (List ℕ)) (at
   abbrev reply : List ℕ
   reply = grammar_reply session.language
 
-  pub first_running : IsIn session no_texts → is_open session ≡ false → (gathered left : List ℕ)
+  pub first_running : IsIn session no_texts → (gathered left : List ℕ)
       → gathered ≡ [] → Passes old new gathered reply left → Running input before coming at new left session
-  first_running is_in closed gathered left none passes = record {
+  first_running is_in gathered left none passes = record {
     block = a.block;
     steps = [];
     rest = a.rest;
@@ -460,7 +363,6 @@ module _ {C : Type 0} (input before : List ℕ) (coming : Option (List ℕ)) (at
     begins = a.begins;
     accepted = a.accepted;
     is_run = tt;
-    tells_open = subst (TellsOpen (with_grammar a.block [])) (sym closed) (a.block, refl);
     is_in = is_in;
     is_told = subst (IsToldBehind before new left) (sym (append-nil reply))
         (told_on before old new gathered reply left []
@@ -501,7 +403,6 @@ reads_only script at coming (Fault Read) h e = cc
 reads_only script at coming (Fault Write) h e = h
 reads_only script at coming (Fault Memory) h e = cc
 
--- a script behind which a text is open, or none
-pub some_script : (flag : Bool) → (script : Script) × TellsOpen script flag
-some_script true = (with_grammar [] (opens [] ∷ []), tt)
-some_script false = (with_grammar [] [], ([], refl))
+-- a script that may end
+pub some_script : (script : Script) × IsComplete any_order script
+some_script = (with_grammar [] [], tt)

@@ -5,5 +5,6 @@ pub mod Languages
 pub mod KnownTexts
 pub mod Replying
 pub mod Answering
+pub mod Texts
 pub mod Sessions
 pub mod Progress

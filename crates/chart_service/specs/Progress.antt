@@ -1,6 +1,5 @@
 -- Serves the proofs alone: how far a session has come, and how it ended.
 use Rattle.std.specs.Prelude.{◌≡◌, ℕ, ◌⊎◌, List, [], ◌++◌, Option, Some, Bool, true, false}
-use Rattle.std.specs.Prelude.{IsFalse}
 use Rattle.spec_grammar.specs.Grammars.{Grammar}
 use Rattle.spec_script.specs.Script.{with_grammar, BeginsWithScript, ended, broken}
 use Rattle.spec_session.specs.GrammarReplies.{IsAccepted, grammar_reply}
@@ -8,7 +7,6 @@ use Rattle.spec_session.specs.Steps.{no_texts, Step}
 use Rattle.spec_session.specs.Runs.{IsRun, commands_of, replies_of, state_after}
 use Rattle.spec_session.specs.Sessions.{serve_mode, IsSession, last_line}
 use Rattle.script_reader.specs.declared.stop.Stop.TheVariants.{Breaks, Fault}
-use Rattle.script_reader.specs.Reading.{TellsOpen}
 use Rattle.chart_service.specs.declared.ending.EarlyEnd.{EarlyEnd}
 use Rattle.chart_service.specs.declared.ending.EarlyEnd.TheVariants.{Refused, Stopped}
 use Rattle.chart_service.specs.declared.session.Session.{Session}
@@ -16,7 +14,7 @@ use Rattle.chart_service.specs.declared.status.Status.{Status}
 use Rattle.chart_service.specs.Statuses.{number_of, EndsAtFault}
 use Rattle.chart_service.specs.Serving.{IsPrefixOfSession}
 use Rattle.chart_service.specs.Languages.{CanOpen, IsRefusal}
-use Rattle.chart_service.specs.Sessions.{IsIn, is_open}
+use Rattle.chart_service.specs.Sessions.{IsIn}
 
 -- what was told is what was written behind `before`, and then what is gathered
 abbrev pub IsToldBehind : List ℕ → Option (List ℕ) → List ℕ → List ℕ → Type 0
@@ -34,7 +32,6 @@ pub record Running {C : Type 0} (input before : List ℕ) (coming : Option (List
   pub begins : BeginsWithScript input (with_grammar block (commands_of steps)) at rest
   pub accepted : IsAccepted block session.language
   pub is_run : IsRun session.language no_texts steps
-  pub tells_open : TellsOpen (with_grammar block (commands_of steps)) (is_open session)
   pub is_in : IsIn session (state_after no_texts steps)
   pub is_told : IsToldBehind before now gathered
       (grammar_reply session.language ++ replies_of steps)
@@ -93,4 +90,3 @@ pub record HasAccepted (input : List ℕ) (coming : Option (List ℕ)) (at : ℕ
 pub record IsFresh {C : Type 0} (room : ℕ) (session : Session C) : Type 0 where
   pub can : CanOpen room session.language
   pub is_in : IsIn session no_texts
-  pub closed : IsFalse (is_open session)

@@ -1,15 +1,16 @@
 -- Serves the proofs alone: what a session keeps, in the state that its commands left, and what its
 -- reply to the next one is.
-use Rattle.std.specs.Prelude.{◌≡◌, ℕ, ◌≤◌, List, length, Bool, IsTrue, is_some}
-use Rattle.std.specs.Prelude.{MatchOption, IsAscii}
+use Rattle.std.specs.Prelude.{◌≡◌, ℕ, List, length, Bool, is_some, MatchOption}
 use Rattle.spec_lexing.specs.declared.token.Token.{Token}
 use Rattle.spec_lexing.specs.Tokens.{AreTokensOf, kinds_of}
 use Rattle.spec_grammar.specs.Grammars.{Grammar, HasDistinctNames}
-use Rattle.spec_script.specs.Script.{Command, opens, ask}
-use Rattle.spec_session.specs.Steps.{State, IsCurrent, IsReply, Leaves}
+use Rattle.spec_script.specs.declared.limits.TheConstants.{MAX_BLOCK}
+use Rattle.spec_script.specs.Script.{Command, opens, edits, ask}
+use Rattle.spec_session.specs.Steps.{State, IsCurrent, IsClosed, IsReply}
 use Rattle.script_reader.specs.declared.command.Command.{Command as ReadCommand}
-use Rattle.script_reader.specs.declared.command.Command.TheVariants.{Open, Ask, End}
+use Rattle.script_reader.specs.declared.command.Command.TheVariants.{Open, Edit, Ask, End}
 use Rattle.script_reader.specs.Forms.{query_of}
+use Rattle.script_reader.specs.Reading.{IsBlock}
 use Rattle.valiant.specs.Charts.{ChartValue, IsChartOf}
 use Rattle.chart_service.specs.declared.session.Session.{Session}
 use Rattle.chart_service.specs.declared.session.Version.{Version}
@@ -27,9 +28,9 @@ pub record IsVersionOf {C : Type 0} (g : Grammar) (text : List ℕ) (version : V
   pub bytes : version.text.bytes ≡ text
   pub is_opened : IsOpened g version.chart text version.text.tokens
 
--- the version, if there is one, is of the current text
+-- the version is of the current text, and where there is none no text is open
 abbrev pub KeepsCurrent : {C : Type 0} → Session C → State → Type 0
-KeepsCurrent session state = MatchOption session.current (Unit {0})
+KeepsCurrent session state = MatchOption session.current (IsClosed state)
     (λ version. (text : List ℕ) × IsCurrent state text
     × IsVersionOf session.language text version)
 
@@ -42,24 +43,23 @@ pub record IsIn {C : Type 0} (session : Session C) (state : State) : Type 0 wher
 abbrev pub is_open : {C : Type 0} → Session C → Bool
 is_open session = is_some session.current
 
--- a session can reply to the command: it opens a text, or asks of one that is open
-abbrev pub CanReply : {C : Type 0} → Session C → ReadCommand → Type 0
-CanReply session (Open text) = IsAscii text.items × (length text.items ≤ 4096)
-CanReply session (Ask query) = IsTrue (is_open session)
-CanReply session End = ⊥
-
 -- the command is this one of a script; the line `end` is none
 abbrev pub IsCommand : ReadCommand → Command → Type 0
-IsCommand (Open text) command = command ≡ opens text.items
+IsCommand (Open known) command =
+    (text : List ℕ) × IsBlock MAX_BLOCK known text × (command ≡ opens text)
+IsCommand (Edit at deleted known) command =
+    (inserted : List ℕ) × IsBlock MAX_BLOCK known inserted
+    × (command ≡ edits at deleted inserted)
 IsCommand (Ask query) command = command ≡ ask (query_of query)
 IsCommand End command = ⊥
 
--- the line replies to the command, and the session is then in the state that the command leaves,
--- with a text that is open
+-- the command is some command of a script
+abbrev pub CanReply : ReadCommand → Type 0
+CanReply command = (meaning : Command) × IsCommand command meaning
+
+-- the line replies to the command, and the session is then in the state that the command leaves
 pub record RepliesTo {C : Type 0} (state : State) (command : Command) (line : List ℕ)
     (session : Session C) : Type 0 where
   pub after : State
-  pub replies : IsReply session.language state command line
-  pub leaves : Leaves command state after
+  pub replies : IsReply session.language state command line after
   pub is_in : IsIn session after
-  pub is_open : IsTrue (is_open session)

@@ -1,6 +1,6 @@
 //! The grammar that bytes spell, accepted with its automaton and its binary form, or refused.
 ghost use Rattle.std.specs.Prelude.{◌≤◌, ℕ, List, IfOk, MatchResult};
-ghost use Rattle.spec_text.specs.declared.limits.TheConstants.{MAX_SYMBOLS};
+ghost use Rattle.spec_text.specs.declared.limits.TheConstants.{MAX_FILE, MAX_SYMBOLS};
 ghost use Rattle.spec_session.specs.GrammarReplies.{IsAccepted};
 ghost use Rattle.script_reader.specs.Reading.{IsBlock};
 ghost use Rattle.chart_service.specs.Languages.{CanOpen, IsFaultOf, MakesLexer};
@@ -133,7 +133,7 @@ pub(crate) fn language_in<C: Cell>(
     block: &Block,
 ) -> Result<Language<C>, LanguageFault>
     requires room { MAX_SYMBOLS ≤ C.ROOM }
-    ensures ok { (bytes : List ℕ) → IsBlock block.now bytes
+    ensures ok { (bytes : List ℕ) → IsBlock MAX_FILE block.now bytes
         → MatchResult result (IsAccepted bytes) (IsFaultOf bytes) }
     ensures can { IfOk result (CanOpen C.ROOM) }
 {

@@ -25,7 +25,7 @@ use crate::session::Session;
 use crate::status::Status;
 use cell_sets::{Cell, ListCell};
 use cyk_io::{Ahead, IoFault, Line, Sink, Source};
-use script_reader::{Command, Stop, read_command, read_grammar, read_header};
+use script_reader::{Command, Stop, read_command, read_grammar, read_head, read_header};
 use spec_text::MAX_LINE;
 use std::alloc::{AllocError, Global};
 use std::sync::ledger::Ledger;
@@ -99,7 +99,7 @@ fn is_end(command: &Command<'_>) -> bool
 
 /// Reads the next command and replies to it. Answers false behind the line `end`. A reply waits
 /// with others while the next line is held, and is written before the source is read again; the
-/// line of a text may be held and its block not, so no reply waits for a text.
+/// line of a text or an edit may be held and its block not, so no reply waits for a block.
 fn turn<S: Source, K: Sink, C: Cell>(
     alloc: Global,
     source: &mut S,
@@ -132,8 +132,11 @@ fn turn<S: Source, K: Sink, C: Cell>(
     ensures can { CanOpen C.ROOM session.new.language }
     ensures is_in { OnOk result ((state : State) × IsIn session.new state) }
 {
-    replies.flush_unless(sink, session.is_open() && ahead.has_line())?;
-    let command = read_command(alloc, source, ahead, line, session.is_open())?;
+    replies.flush_unless(sink, ahead.has_line())?;
+    let at = ahead.offset();
+    let head = read_head(source, ahead, line)?;
+    replies.flush_unless(sink, !head.has_block())?;
+    let command = read_command(alloc, source, ahead, head, at)?;
     if is_end(&command) {
         return Ok(false);
     }

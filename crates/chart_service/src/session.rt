@@ -1,16 +1,20 @@
 //! A session behind its grammar: the texts that were opened, and the replies to commands.
-ghost use Rattle.std.specs.Prelude.{◌≡◌, ℕ, ◌+◌, ◌<◌, ◌≤◌, ◌^◌, List, length, IfOk, IsErr, IsTrue};
-ghost use Rattle.std.specs.Prelude.{IsFalse, IsAscii, string_bytes, IsErrOf, OnOk, OnErr, ◌++◌};
+ghost use Rattle.std.specs.Prelude.{◌≡◌, ℕ, ◌+◌, ◌<◌, ◌≤◌, ◌^◌, List, length, IfOk, IsErr, Some};
+ghost use Rattle.std.specs.Prelude.{string_bytes, IsErrOf, OnOk, OnErr, ◌++◌};
 ghost use Rattle.cyk_io.specs.Causes.{HasCause};
 ghost use Rattle.cyk_io.specs.Streams.{GrowsByPrefix};
 ghost use Rattle.spec_text.specs.declared.limits.TheConstants.{MAX_TOKENS};
-ghost use Rattle.spec_lexing.specs.Tokens.{AreTokensOf};
-ghost use Rattle.spec_script.specs.Script.{Command as ScriptCommand, opens, ask};
+ghost use Rattle.spec_script.specs.declared.limits.TheConstants.{MAX_BLOCK};
+ghost use Rattle.spec_script.specs.Script.{Command as ScriptCommand, opens, edits, ask};
 ghost use Rattle.spec_session.specs.GrammarReplies.{grammar_reply};
 ghost use Rattle.spec_session.specs.Steps.{State, no_texts, IsReply, version_reply};
 ghost use Rattle.script_reader.specs.Forms.{query_of};
+ghost use Rattle.script_reader.specs.Reading.{IsBlock};
+ghost use Rattle.text_store.specs.TextEdits.{IsSizeFault};
 ghost use Rattle.chart_service.specs.Languages.{CanOpen};
-ghost use Rattle.chart_service.specs.Sessions.{CanReply, IsCommand, IsIn, IsVersionOf, RepliesTo};
+ghost use Rattle.chart_service.specs.Sessions.{CanReply, IsCommand, IsIn, RepliesTo};
+ghost use Rattle.chart_service.specs.Texts.{IsFaultLine, MakesOpened, MakesEdited, IsVersionWith};
+ghost use Rattle.chart_service.specs.Texts.{HasPut, HasTaken};
 ghost use Rattle.chart_service.specs.Sessions.{is_open};
 ghost use Rattle.chart_service.specs.Replying.{bytes_of, CanSay};
 ghost use Rattle.chart_service.specs.Replies.{bytes_in, Passes, SaysBy};
@@ -22,7 +26,7 @@ use crate::reply::Reply;
 use cell_sets::Cell;
 use cyk_io::{IoFault, Sink};
 use first_tree::Tree;
-use script_reader::{Command, Query};
+use script_reader::{Block, Command, Query};
 use std::alloc::{AllocError, Global};
 use text_store::{EditFault, Text};
 use valiant::Chart;
@@ -34,23 +38,70 @@ pub(crate) struct Version<C: Cell> {
     pub(crate) chart: Chart<C>,
 }
 
-/// The text of these bytes under the language's grammar. They fit a text, and so do their tokens,
-/// which are no more.
-fn text_of<C: Cell>(alloc: Global, language: &Language<C>, bytes: &[u8]) -> Result<Text, AllocError>
-    requires ascii { IsAscii bytes.now }
-    requires short { length bytes.now ≤ 4096 }
-    ensures bytes { IfOk result (λ text. text.bytes ≡ bytes.now) }
-    ensures tokens { IfOk result
-        (λ text. AreTokensOf (language.now).lexicon bytes.now text.tokens) }
-    ensures most { IfOk result (λ text. length text.tokens ≤ MAX_TOKENS) }
+/// The line that refuses a text. There is none for want of memory.
+fn fault_line(alloc: Global, fault: &EditFault) -> Result<String, AllocError>
+    ensures { IfOk result (λ text. IsFaultLine fault.now (string_bytes text)) }
 {
-    match Text::open(alloc, language.automaton(), bytes) {
-        Ok(text) => Ok(text),
-        Err(EditFault::Memory) => Err(AllocError),
-        Err(EditFault::Range { .. }) => unreachable!(),
-        Err(EditFault::FullText { .. }) => unreachable!(),
-        Err(EditFault::NotUtf8 { .. }) => unreachable!(),
-        Err(EditFault::FullTokens) => unreachable!(),
+    match fault {
+        EditFault::Memory => Err(AllocError),
+        EditFault::Range { len } => format!(in alloc; "refused range {len}\n"),
+        EditFault::FullText { .. } => format!(in alloc; "refused full\n"),
+        EditFault::NotUtf8 { at } => format!(in alloc; "refused utf8 {at}\n"),
+        EditFault::FullTokens => format!(in alloc; "refused full\n"),
+    }
+}
+
+/// The text of the block under the language's grammar.
+fn opened_text<C: Cell>(
+    alloc: Global,
+    language: &Language<C>,
+    block: &Block,
+) -> Result<Text, EditFault>
+    ensures { (bytes : List ℕ) → IsBlock MAX_BLOCK block.now bytes
+        → MakesOpened (language.now).lexicon bytes result }
+{
+    match block {
+        Block::Kept(bytes) => Text::open(alloc, language.automaton(), bytes.as_slice()),
+        Block::TooLong(count) => {
+            let count = u64::from(*count);
+            Err(EditFault::FullText { count })
+        }
+    }
+}
+
+/// What keeps so many bytes of the text from being replaced by a block of so many, which is longer
+/// than any text.
+fn long_fault(text: &Text, at: u64, deleted: u64, count: u32) -> EditFault
+    requires { MAX_BLOCK < count }
+    ensures { IsSizeFault (length text.now.bytes) at deleted count (Some result) }
+{
+    match text.fits(at, deleted, u64::from(count)) {
+        Some(fault) => fault,
+        None => unreachable!(),
+    }
+}
+
+/// The text in which so many bytes from the place on are replaced by the block.
+fn edited_text<C: Cell>(
+    alloc: Global,
+    language: &Language<C>,
+    text: &Text,
+    at: u32,
+    deleted: u32,
+    block: &Block,
+) -> Result<Text, EditFault>
+    requires known { (inserted : List ℕ) × IsBlock MAX_BLOCK block.now inserted }
+    ensures { (inserted : List ℕ) → IsBlock MAX_BLOCK block.now inserted
+        → MakesEdited (language.now).lexicon text.now.bytes at deleted inserted result }
+{
+    let place = u64::from(at);
+    let gone = u64::from(deleted);
+    match block {
+        Block::Kept(bytes) => {
+            let changed = text.edit(alloc, language.automaton(), place, gone, bytes.as_slice())?;
+            Ok(changed.0)
+        }
+        Block::TooLong(count) => Err(long_fault(text, place, gone, *count)),
     }
 }
 
@@ -58,20 +109,15 @@ fn text_of<C: Cell>(alloc: Global, language: &Language<C>, bytes: &[u8]) -> Resu
 fn version_of<C: Cell>(
     alloc: Global,
     language: &Language<C>,
-    text: &[u8],
+    text: Text,
 ) -> Result<Version<C>, AllocError>
     requires can { CanOpen C.ROOM language.now }
-    requires ascii { IsAscii text.now }
-    requires short { length text.now ≤ 4096 }
-    ensures { IfOk result (IsVersionOf language.now text.now) }
+    requires few { length text.tokens ≤ MAX_TOKENS }
+    ensures { IfOk result (IsVersionWith language.now text) }
 {
-    let opened = text_of(alloc, language, text)?;
-    let kinds = opened.kinds(alloc)?;
+    let kinds = text.kinds(alloc)?;
     let chart = Chart::of_kinds(alloc, language.binary(), kinds.as_slice())?;
-    Ok(Version {
-        text: opened,
-        chart,
-    })
+    Ok(Version { text, chart })
 }
 
 /// The line that replies to a text that is opened.
@@ -94,7 +140,6 @@ impl<C: Cell> Session<C> {
     pub(crate) fn of(language: Language<C>) -> Session<C>
         ensures language { result.language ≡ language }
         ensures is_in { IsIn result no_texts }
-        ensures closed { IsFalse (is_open result) }
         ensures texts { result.texts ≡ 0 }
     {
         Session {
@@ -105,7 +150,7 @@ impl<C: Cell> Session<C> {
     }
 
     /// Whether a text is open.
-    pub(crate) fn is_open(&self) -> bool
+    fn is_open(&self) -> bool
         ensures { result ≡ is_open self.now }
     {
         self.current.is_some()
@@ -121,41 +166,105 @@ impl<C: Cell> Session<C> {
         format!(in alloc; "grammar rules {rules} categories {categories} kinds {kinds}\n")
     }
 
-    /// Opens the text, which is then the current one, and makes the reply. Where memory runs out
-    /// the current text stays what it was.
-    fn open_text(&mut self, alloc: Global, text: &[u8]) -> Result<String, AllocError>
+    /// Makes the text the next version, and the line that tells it. Where memory runs out the session
+    /// keeps the version that it had.
+    fn put(&mut self, alloc: Global, text: Text) -> Result<String, AllocError>
         requires can { CanOpen C.ROOM self.old.language }
         requires few { self.old.texts < 2 ^ 61 }
-        requires ascii { IsAscii text.now }
-        requires short { length text.now ≤ 4096 }
-        ensures ok { (state : State) → IsIn self.old state
-            → IfOk result (λ line. RepliesTo state (opens text.now) (string_bytes line) self.new) }
+        requires few_tokens { length text.tokens ≤ MAX_TOKENS }
+        ensures ok { IfOk result (λ line. HasPut self.old text (string_bytes line) self.new) }
         ensures err { IsErr result → self.new ≡ self.old }
         ensures language { self.new.language ≡ self.old.language }
         ensures texts { self.new.texts ≤ self.old.texts + 1 }
     {
+        let tokens = text.token_count();
         let version = version_of(alloc, &self.language, text)?;
-        let line = version_line(alloc, self.texts, version.text.token_count())?;
+        let line = version_line(alloc, self.texts, tokens)?;
         self.texts += 1;
         self.current = Some(version);
         Ok(line)
     }
 
+    /// Makes the text that was made the next version, and the line that tells it or the fault. At a
+    /// fault, or where memory runs out, the session keeps the version that it had.
+    fn take(&mut self, alloc: Global, made: Result<Text, EditFault>) -> Result<String, AllocError>
+        requires can { CanOpen C.ROOM self.old.language }
+        requires few { self.old.texts < 2 ^ 61 }
+        requires few_tokens { IfOk made (λ text. length text.tokens ≤ MAX_TOKENS) }
+        ensures ok { IfOk result (λ line. HasTaken self.old made (string_bytes line) self.new) }
+        ensures err { IsErr result → self.new ≡ self.old }
+        ensures language { self.new.language ≡ self.old.language }
+        ensures texts { self.new.texts ≤ self.old.texts + 1 }
+    {
+        match made {
+            Ok(text) => self.put(alloc, text),
+            Err(fault) => fault_line(alloc, &fault),
+        }
+    }
+
+    /// Opens the block as a text, which is then the current one, and makes the reply; or makes the
+    /// refusal, and then the session keeps the version that it had.
+    fn open_text(&mut self, alloc: Global, block: &Block) -> Result<String, AllocError>
+        requires can { CanOpen C.ROOM self.old.language }
+        requires few { self.old.texts < 2 ^ 61 }
+        requires known { (text : List ℕ) × IsBlock MAX_BLOCK block.now text }
+        ensures ok { (state : State) (text : List ℕ) → IsIn self.old state
+            → IsBlock MAX_BLOCK block.now text
+            → IfOk result (λ line. RepliesTo state (opens text) (string_bytes line) self.new) }
+        ensures err { IsErr result → self.new ≡ self.old }
+        ensures language { self.new.language ≡ self.old.language }
+        ensures texts { self.new.texts ≤ self.old.texts + 1 }
+    {
+        if self.is_open() {
+            return format!(in alloc; "refused open\n");
+        }
+        let made = opened_text(alloc, &self.language, block);
+        self.take(alloc, made)
+    }
+
+    /// Replaces so many bytes of the current text by the block, and makes the reply; or makes the
+    /// refusal, and then the session keeps the version that it had.
+    fn edit_text(
+        &mut self,
+        alloc: Global,
+        at: u32,
+        deleted: u32,
+        block: &Block,
+    ) -> Result<String, AllocError>
+        requires can { CanOpen C.ROOM self.old.language }
+        requires few { self.old.texts < 2 ^ 61 }
+        requires known { (inserted : List ℕ) × IsBlock MAX_BLOCK block.now inserted }
+        ensures ok { (state : State) (inserted : List ℕ) → IsIn self.old state
+            → IsBlock MAX_BLOCK block.now inserted
+            → IfOk result (λ line. RepliesTo state (edits at deleted inserted)
+            (string_bytes line) self.new) }
+        ensures err { IsErr result → self.new ≡ self.old }
+        ensures language { self.new.language ≡ self.old.language }
+        ensures texts { self.new.texts ≤ self.old.texts + 1 }
+    {
+        let made = match &self.current {
+            Some(version) => {
+                edited_text(alloc, &self.language, &version.text, at, deleted, block)
+            }
+            None => return format!(in alloc; "refused closed\n"),
+        };
+        self.take(alloc, made)
+    }
+
     /// The reply to the query, asked of the current text.
     fn answer(&self, alloc: Global, query: &Query<'_>) -> Result<Reply, AllocError>
         requires can { CanOpen C.ROOM self.now.language }
-        requires is_open { IsTrue (is_open self.now) }
         requires is_in { (state : State) × IsIn self.now state }
         ensures says { IfOk result (CanSay self.now) }
         ensures ok { (state : State) → IsIn self.now state
             → IfOk result (λ reply. IsReply self.now.language state
-            (ask (query_of query.now)) (bytes_of self.now reply)) }
+            (ask (query_of query.now)) (bytes_of self.now reply) state) }
     {
         match &self.current {
             Some(version) => {
                 answer_to(alloc, &self.language, &version.text, &version.chart, query)
             }
-            None => unreachable!(),
+            None => Ok(Reply::Line(format!(in alloc; "refused closed\n")?)),
         }
     }
 
@@ -163,7 +272,7 @@ impl<C: Cell> Session<C> {
     /// memory runs out it is in the state that it was in.
     pub(crate) fn reply(&mut self, alloc: Global, command: Command<'_>) -> Result<Reply, AllocError>
         requires can_open { CanOpen C.ROOM self.old.language }
-        requires can_reply { CanReply self.old command }
+        requires can_reply { CanReply command }
         requires few { self.old.texts < 2 ^ 61 }
         requires is_in { (state : State) × IsIn self.old state }
         ensures says { IfOk result (CanSay self.new) }
@@ -175,8 +284,12 @@ impl<C: Cell> Session<C> {
         ensures texts { self.new.texts ≤ self.old.texts + 1 }
     {
         match command {
-            Command::Open(text) => {
-                let line = self.open_text(alloc, text.as_slice())?;
+            Command::Open(block) => {
+                let line = self.open_text(alloc, &block)?;
+                Ok(Reply::Line(line))
+            }
+            Command::Edit { at, deleted, block } => {
+                let line = self.edit_text(alloc, at, deleted, &block)?;
                 Ok(Reply::Line(line))
             }
             Command::Ask(query) => self.answer(alloc, &query),

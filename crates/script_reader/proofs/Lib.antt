@@ -1,4 +1,4 @@
 mod FormsLemmas
 mod QuestionLemmas
 mod LinesAndBlocksLemmas
-mod ReadingLemmas
+pub mod ReadingLemmas

@@ -9,7 +9,6 @@ use Rattle.cyk_io.specs.Lines.{HasNoLf, LineReads}
 use Rattle.cyk_io.specs.Blocks.{BlockReads}
 use Rattle.cyk_io.specs.declared.block.ReadBlock.TheVariants.{Kept, Skipped}
 use Rattle.cyk_io.specs.declared.line.ReadLine.TheVariants.{LongLine, Ended}
-use Rattle.spec_text.specs.declared.limits.TheConstants.{MAX_FILE}
 use Rattle.spec_script.proofs.ScriptLemmas.{lacks_if_each_differs, cut_same, same_front, same_back}
 use Rattle.script_reader.specs.Forms.{ReadsCount}
 use Rattle.script_reader.specs.declared.command.Block.TheVariants.{TooLong}
@@ -143,6 +142,6 @@ module _ (count from mid_at : ℕ) (old mid : Option (List ℕ)) (into : List �
       h t.0 t.1 [] more refl behind
 
 -- a block that was passed over is known by its length
-pub finds_passed : (count from to : ℕ) (old new : Option (List ℕ)) → MAX_FILE < count
-    → PassesBlock count from to old new → FindsBlock count from to old new (TooLong count)
-finds_passed count from to old new less h = (h.0, (sym h.1.1, less), h.1)
+pub finds_passed : (most count from to : ℕ) (old new : Option (List ℕ)) → most < count
+    → PassesBlock count from to old new → FindsBlock most count from to old new (TooLong count)
+finds_passed most count from to old new less h = (h.0, (sym h.1.1, less), h.1)

@@ -14,6 +14,8 @@ use Rattle.cyk_io.specs.Lines.{HasNoLf}
 use Rattle.spec_script.specs.declared.question.Constituent.{Constituent as NamedBy}
 use Rattle.script_reader.specs.Forms.{AreEnds, meant, IsNameOf, ReadsConstituent, IsSpanText, ReadsTokenSpan, IsQuestion}
 use Rattle.script_reader.specs.Forms.{ReadsHas, ReadsTree, ReadsTokens}
+use Rattle.script_reader.specs.Forms.{splice_text, IsSpliceText, ReadsSplice, IsEditLine, ReadsEdit}
+use Rattle.script_reader.specs.declared.command.Splice.{Splice}
 
 -- what holds of all bytes holds of those behind some, and of those before some
 behind_some : (front back : List ℕ) → HasNoLf (front ++ back) → HasNoLf back
@@ -57,6 +59,41 @@ module _ (span left right : List ℕ) (cut : span ≡ left ++ (32 ∷ right)) (n
 
   pub no_end_number : ((n : ℕ) → n < 10 ^ 9 → right ≡ decimal n → ⊥) → NoEnds span
   no_end_number other first end h = other end h.short.1 (sides first end h).1
+
+-- the bytes tell no splice
+abbrev NoSplice : List ℕ → Type 0
+NoSplice bytes = (splice : Splice) → IsSpliceText bytes splice → ⊥
+
+-- without a space there is one number at most
+pub no_place : (bytes : List ℕ) → (Contains bytes 32 → ⊥) → NoSplice bytes
+no_place bytes other splice h =
+    other (subst (λ word. Contains word 32) (sym h.spelled)
+    (has_space (decimal splice.at) (ends_text splice.deleted splice.count)))
+
+-- where a space stands between two parts
+module _ (bytes left right : List ℕ) (cut : bytes ≡ left ++ (32 ∷ right)) (no_left : Lacks left 32) where
+  -- the place is on its left, and the two counts on its right
+  place_and_counts : (splice : Splice) → IsSpliceText bytes splice
+      → (left ≡ decimal splice.at) × (right ≡ ends_text splice.deleted splice.count)
+  place_and_counts splice h =
+      cut_same 32 left right (decimal splice.at) (ends_text splice.deleted splice.count) no_left
+      (digits_lack splice.at 32 h.short.0 (omega arith)) (sym cut ∙ h.spelled)
+
+  pub no_place_number : ((n : ℕ) → n < 10 ^ 9 → left ≡ decimal n → ⊥) → NoSplice bytes
+  no_place_number other splice h = other splice.at h.short.0 (place_and_counts splice h).0
+
+  pub no_counts : NoEnds right → NoSplice bytes
+  no_counts other splice h =
+      other splice.deleted splice.count
+      (record { short = (h.short.1, h.short.2); spelled = (place_and_counts splice h).1 })
+
+  pub splice_is : (splice : Splice) → splice.at < 10 ^ 9 → left ≡ decimal splice.at
+      → AreEnds right splice.deleted splice.count → IsSpliceText bytes splice
+  splice_is splice small place counts = record {
+    short = (small, counts.short.0, counts.short.1);
+    spelled = cut ∙ ap (λ word. word ++ (32 ∷ right)) place
+        ∙ ap (λ behind. decimal splice.at ++ (32 ∷ behind)) counts.spelled;
+  }
 
 -- the bytes name no constituent
 abbrev NamesNone : List ℕ → Type 0
@@ -199,6 +236,23 @@ module _ (line beginning : List ℕ) where
       (r : Option TokenSpan) → ReadsTokenSpan rest r → ReadsTokens line r
   tokens_read same rest e None h = tokens_none same rest e h
   tokens_read same rest e (Some span) h = tokens_are same rest e span h
+
+-- where a line begins with `edit` and a space, or not
+module _ (line beginning : List ℕ) (same : beginning ≡ codes "edit ") where
+  pub no_edit : ((rest : List ℕ) → line ≡ beginning ++ rest → ⊥) → (splice : Splice) → IsEditLine line splice → ⊥
+  no_edit other splice h = other (splice_text splice) (rw same h.spelled)
+
+  pub edit_read : (rest : List ℕ) → line ≡ beginning ++ rest → (r : Option Splice) → ReadsSplice rest r
+      → ReadsEdit line r
+  edit_read rest e None h = λ splice k.
+      h splice (record {
+        short = k.short;
+        spelled = same_rest (codes "edit ") rest (splice_text splice) (sym (begins line beginning same rest e) ∙ k.spelled);
+      })
+  edit_read rest e (Some splice) h = record {
+    short = h.short;
+    spelled = begins line beginning same rest e ∙ ap (λ behind. codes "edit " ++ behind) h.spelled;
+  }
 
 -- a line that asks none of the three asks nothing
 pub no_query : (line : List ℕ) → ((constituent : Constituent) → IsQuestion line (has constituent) → ⊥) →

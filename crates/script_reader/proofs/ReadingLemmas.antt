@@ -1,26 +1,32 @@
 -- Parts of a script in the bytes that come: a line tells the part that it begins, and what follows it is its block.
 use Rattle.std.proofs.Common.{◌≡◌, ℕ, ◌+◌, ◌^◌, ◌<◌, ◌≤◌, List, [], ◌∷◌, ◌++◌, length, decimal, codes}
-use Rattle.std.proofs.Common.{IsAscii, Option, Some, None, IfOk, IfErr, true, false, refl, sym}
+use Rattle.std.proofs.Common.{Option, Some, None, IfOk, IfErr, refl, sym, get_or}
 use Rattle.std.proofs.Common.{◌∙◌, ap, subst, arith, append_assoc, length-append}
 use Rattle.std.specs.Option.{ok_or}
 use Rattle.std.proofs.lemmas.Fmt.{decimal_injective}
 use Rattle.cyk_io.specs.Streams.{Takes}
 use Rattle.cyk_io.specs.Lines.{IsLine}
-use Rattle.spec_script.specs.Script.{Query, Command, opens, ask, Part, header, grammar, of_command, Script, nothing}
-use Rattle.spec_script.specs.Script.{header_alone, with_grammar, question_form, line_of, block_of, text_of, IsWithinLimits}
-use Rattle.spec_script.specs.Script.{AreQuestions, IsComplete, MayFollow}
-use Rattle.spec_script.proofs.ScriptLemmas.{tested, each_differs, lacks_if_each_differs, cut_same, same_rest, same_front}
+use Rattle.spec_script.specs.Script.{has, tree, tokens_in, Command, opens, edits, ask, Part, header, grammar, of_command, Script, nothing}
+use Rattle.spec_script.specs.Script.{header_alone, with_grammar, any_order, line_of, block_of, text_of, IsWithinLimits}
+use Rattle.spec_script.specs.Script.{query_line, ends_text, edit_text, IsComplete, MayFollow}
+use Rattle.spec_script.specs.declared.limits.TheConstants.{MAX_BLOCK}
+use Rattle.spec_text.specs.declared.limits.TheConstants.{MAX_FILE}
+use Rattle.spec_script.proofs.ScriptLemmas.{tested, each_differs, lacks_if_each_differs, cut_same, same_rest, digits_lack}
 use Rattle.spec_script.proofs.ScriptLemmas.{line_lacks_lf, line_is_short, part_line}
 use Rattle.script_reader.specs.declared.command.Block.{Block}
+use Rattle.script_reader.specs.declared.command.Query.{Query as Asked}
+use Rattle.script_reader.specs.declared.command.Splice.{Splice}
+use Rattle.script_reader.specs.declared.command.Head.{Head}
+use Rattle.script_reader.specs.declared.command.Head.TheVariants as head
 use Rattle.script_reader.specs.declared.command.Command.{Command as Found}
-use Rattle.script_reader.specs.declared.command.Command.TheVariants.{Open, Ask, End}
+use Rattle.script_reader.specs.declared.command.Command.TheVariants.{Open, Edit, Ask, End}
 use Rattle.script_reader.specs.declared.stop.Stop.{Stop}
 use Rattle.script_reader.specs.declared.stop.Stop.TheVariants.{Breaks}
-use Rattle.script_reader.specs.Forms.{query_of, ReadsQuestion}
-use Rattle.script_reader.specs.Reading.{TakesPart, TakesGrammar, TakesCommand, NothingFollows}
-use Rattle.script_reader.specs.Reading.{StopsBehind, TellsOpen}
+use Rattle.script_reader.specs.Forms.{query_of, splice_text, head_line, IsNoHead, ReadsHead}
+use Rattle.script_reader.specs.Reading.{TakesPart, TakesGrammar, TakesHead, TakesCommand, NothingFollows}
+use Rattle.script_reader.specs.Reading.{StopsBehind}
 use Rattle.script_reader.specs.LinesAndBlocks.{TakesLine, NoLineComes, TakesCount, NoCountComes}
-use Rattle.script_reader.specs.LinesAndBlocks.{TakesBlock, NoBlockComes, FindsBlock}
+use Rattle.script_reader.specs.LinesAndBlocks.{NoBlockComes, FindsBlock}
 use Rattle.script_reader.proofs.LinesAndBlocksLemmas.{takes_both}
 
 -- the line of a part within its limits is a line, and so is `end`
@@ -57,7 +63,9 @@ part_taken from mid_at to old mid new part w line block offset =
 block_is_short : (part : Part) → IsWithinLimits part → length (block_of part) ≤ 10 ^ 9
 block_is_short header w = omega arith
 block_is_short (grammar block) w = omega (arith, w, length-append block (10 ∷ []))
-block_is_short (of_command (opens text)) w = omega (arith, w.0, length-append text (10 ∷ []))
+block_is_short (of_command (opens text)) w = omega (arith, w, length-append text (10 ∷ []))
+block_is_short (of_command (edits at deleted inserted)) w =
+    omega (arith, w.2, length-append inserted (10 ∷ []))
 block_is_short (of_command (ask query)) w = omega arith
 
 pub part_range : (from to : ℕ) (old new : Option (List ℕ)) (part : Part)
@@ -66,31 +74,22 @@ part_range from to old new part t =
     let size = length-append (line_of part) (10 ∷ block_of part) in
     (omega (arith, t.offset, size), omega (arith, t.early, t.offset, size, line_is_short part t.within_limits, block_is_short part t.within_limits))
 
-pub question_range : (from to : ℕ) (old new : Option (List ℕ)) (found : Found)
-    → TakesCommand true from to old new found → (from < to) × (to < 2 ^ 50)
-question_range from to old new (Open text) t = absurd t
-question_range from to old new (Ask query) t = part_range from to old new (of_command (ask (query_of query))) t
-question_range from to old new End t = (omega (arith, t.offset), omega (arith, t.early, t.offset))
+pub command_range : (from to : ℕ) (old new : Option (List ℕ)) (found : Found)
+    → TakesCommand from to old new found → (from < to) × (to < 2 ^ 50)
+command_range from to old new (Open known) t = part_range from to old new (of_command (opens t.0)) t.2
+command_range from to old new (Edit at deleted known) t =
+    part_range from to old new (of_command (edits at deleted t.0)) t.2
+command_range from to old new (Ask query) t = part_range from to old new (of_command (ask (query_of query))) t
+command_range from to old new End t = (omega (arith, t.offset), omega (arith, t.early, t.offset))
 
--- behind a text a question follows
-asks_behind : (questions : List Command) (command : Command) → AreQuestions (questions ++ command ∷ [])
-    → (query : Query) × (command ≡ ask query)
-asks_behind [] (ask query) h = (query, refl)
-asks_behind [] (opens text) h = absurd h
-asks_behind (ask query ∷ questions) command h = asks_behind questions command h
-asks_behind (opens text ∷ questions) command h = absurd h
-
-question_follows : (front : Script) → IsComplete question_form front → (part : Part)
-    → MayFollow question_form front part → (query : Query) × (part ≡ of_command (ask query))
-question_follows nothing whole part place = absurd whole
-question_follows header_alone whole part place = absurd whole
-question_follows (with_grammar block []) whole part place = absurd whole
-question_follows (with_grammar block (ask query ∷ commands)) whole part place = absurd whole
-question_follows (with_grammar block (opens text ∷ questions)) whole header place = absurd place
-question_follows (with_grammar block (opens text ∷ questions)) whole (grammar other) place = absurd place
-question_follows (with_grammar block (opens text ∷ questions)) whole (of_command command) place =
-    let asked = asks_behind questions command place in
-    (asked.0, ap of_command asked.1)
+-- behind a grammar a command follows
+command_follows : (front : Script) → IsComplete any_order front → (part : Part)
+    → MayFollow any_order front part → (command : Command) × (part ≡ of_command command)
+command_follows nothing whole part place = absurd whole
+command_follows header_alone whole part place = absurd whole
+command_follows (with_grammar block commands) whole header place = absurd place
+command_follows (with_grammar block commands) whole (grammar other) place = absurd place
+command_follows (with_grammar block commands) whole (of_command command) place = (command, refl)
 
 -- a line that was taken
 module _ (from to : ℕ) (old new : Option (List ℕ)) (line : List ℕ) (taken : TakesLine from to old new line) where
@@ -133,45 +132,53 @@ module _ (from to : ℕ) (old new : Option (List ℕ)) (line : List ℕ) (taken 
     (λ end. end.complete),
   )
     where
-      none : (part : Part) (more : List ℕ) → MayFollow question_form nothing part → IsWithinLimits part
+      none : (part : Part) (more : List ℕ) → MayFollow any_order nothing part → IsWithinLimits part
           → told ≡ text_of part ++ more → ⊥
       none header more place w e = other (part_comes told is header more w e).2
       none (grammar block) more place w e = absurd place
       none (of_command command) more place w e = absurd place
 
-  -- a question or the line `end`, or another line
-  pub question_taken : (r : Option Found) → ReadsQuestion line r → (stop : Stop)
-      → IfOk (ok_or r stop) (TakesCommand true from to old new)
-  question_taken None h stop = tt
-  question_taken (Some (Open text)) h stop = absurd h
-  question_taken (Some (Ask query)) h stop =
-      let size : length line ≤ 256 = taken.2.1 in
-      line_taken (of_command (ask (query_of query))) (h.askable, omega (arith, size, ap length h.spelled)) h.spelled refl
-  question_taken (Some End) h stop =
-      let IsTaken : List ℕ → Type 0 = λ bytes. Takes old new (bytes ++ 10 ∷ []) in
-      record { early = taken.0; taken = subst IsTaken h taken.1; offset = omega (arith, taken.3, ap length h) }
+  -- the line of a command or the line `end`, or another line
+  pub head_taken : (r : Option Head) → ReadsHead line r → (stop : Stop)
+      → IfOk (ok_or r stop) (TakesHead from to old new)
+  head_taken None h stop = tt
+  head_taken (Some told) h stop =
+      let IsTaken : List ℕ → Type 0 = λ bytes. Takes old new (bytes ++ 10 ∷ []) in record {
+        early = taken.0;
+        is_line = subst (IsLine 256) h.spelled taken.2;
+        is_short = h.short;
+        taken = subst IsTaken h.spelled taken.1;
+        offset = omega (arith, taken.3, ap length h.spelled);
+      }
 
-  module _ (script : Script) (complete : IsComplete question_form script) where
-    no_question : ReadsQuestion line None → NothingFollows script from old
-    no_question other told is = (
-      (λ go. let asked = question_follows script complete go.part go.in_place in
+  -- where it is neither, nothing follows
+  module _ (script : Script) (complete : IsComplete any_order script) where
+    no_head : IsNoHead line → NothingFollows script from old
+    no_head other told is = (
+      (λ go. let asked = command_follows script complete go.part go.in_place in
           none asked.0 go.more (subst IsWithinLimits asked.1 go.within_limits)
           (go.spelled ∙ ap (λ part. text_of part ++ go.more) asked.1)),
-      (λ end. other.0 (end_comes told is end.more end.spelled)),
+      (λ end. other.no_end (end_comes told is end.more end.spelled)),
     )
       where
-        none : (query : Query) (more : List ℕ) → IsWithinLimits (of_command (ask query))
-            → told ≡ text_of (of_command (ask query)) ++ more → ⊥
-        none query more w e =
-            other.1 query (record {
+        none : (command : Command) (more : List ℕ) → IsWithinLimits (of_command command)
+            → told ≡ text_of (of_command command) ++ more → ⊥
+        none (opens text) more w e =
+            other.no_change.no_text (length text) w (omega (arith, w))
+            (part_comes told is (of_command (opens text)) more w e).2
+        none (edits at deleted inserted) more w e =
+            other.no_change.no_edit (record { at = at; deleted = deleted; count = length inserted })
+            (record { short = w; spelled = (part_comes told is (of_command (edits at deleted inserted)) more w e).2 })
+        none (ask query) more w e =
+            other.no_query query (record {
               askable = w.0;
               spelled = (part_comes told is (of_command (ask query)) more w e).2;
             })
 
-    pub question_stops : (at : ℕ) → at ≡ from → (r : Option Found) → ReadsQuestion line r
+    pub head_stops : (at : ℕ) → at ≡ from → (r : Option Head) → ReadsHead line r
         → IfErr (ok_or r (Breaks at)) (StopsBehind script from old)
-    question_stops at same None h = (same, no_question h)
-    question_stops at same (Some command) h = tt
+    head_stops at same None h = (same, no_head h)
+    head_stops at same (Some told) h = tt
 
 -- a grammar, by its line and its block
 module _ (from : ℕ) (old : Option (List ℕ)) where
@@ -182,7 +189,7 @@ module _ (from : ℕ) (old : Option (List ℕ)) where
     (λ end. end.complete),
   )
     where
-      none : (part : Part) (more : List ℕ) → from < 2 ^ 48 → MayFollow question_form header_alone part
+      none : (part : Part) (more : List ℕ) → from < 2 ^ 48 → MayFollow any_order header_alone part
           → IsWithinLimits part → told ≡ text_of part ++ more → ⊥
       none header more early place w e = absurd place
       none (grammar block) more early place w e =
@@ -199,7 +206,7 @@ module _ (from : ℕ) (old : Option (List ℕ)) where
       (λ end. end.complete),
     )
       where
-        none : (part : Part) (more : List ℕ) → MayFollow question_form header_alone part
+        none : (part : Part) (more : List ℕ) → MayFollow any_order header_alone part
             → IsWithinLimits part → told ≡ text_of part ++ more → ⊥
         none header more place w e = absurd place
         none (grammar block) more place w e =
@@ -212,7 +219,7 @@ module _ (from : ℕ) (old : Option (List ℕ)) where
             other p.0 p.1 block more (sym size) (p.3 ∙ append_assoc block (10 ∷ []) more)
         none (of_command command) more place w e = absurd place
 
-    pub grammar_taken : (to : ℕ) (new : Option (List ℕ)) (known : Block) → FindsBlock count mid_at to mid new known
+    pub grammar_taken : (to : ℕ) (new : Option (List ℕ)) (known : Block) → FindsBlock MAX_FILE count mid_at to mid new known
         → TakesGrammar from to old new known
     grammar_taken to new known h =
         let block : List ℕ = h.0 in
@@ -224,71 +231,119 @@ module _ (from : ℕ) (old : Option (List ℕ)) where
               (subst IsTaken (sym size) taken.1) h.2.0 (omega (arith, size, h.2.2, length-append block (10 ∷ []))),
         )
 
--- a text, by its line and its block, behind a grammar
-module _ (from : ℕ) (old : Option (List ℕ)) (front : List ℕ) where
-  -- where no text comes, nothing follows
-  no_text : ((told : List ℕ) → old ≡ Some told → (text more : List ℕ) → from < 2 ^ 48
-      → IsWithinLimits (of_command (opens text)) → told ≡ text_of (of_command (opens text)) ++ more → ⊥)
-      → NothingFollows (with_grammar front []) from old
-  no_text other told is = (
-    (λ go. none go.part go.more go.early go.in_place go.within_limits go.spelled),
-    (λ end. end.complete),
-  )
-    where
-      none : (part : Part) (more : List ℕ) → from < 2 ^ 48 → MayFollow question_form (with_grammar front []) part
-          → IsWithinLimits part → told ≡ text_of part ++ more → ⊥
-      none header more early place w e = absurd place
-      none (grammar block) more early place w e = absurd place
-      none (of_command (opens text)) more early place w e = other told is text more early w e
-      none (of_command (ask query)) more early place w e = absurd place
+-- edits with one line insert as many bytes
+same_edit_count : (at deleted count place gone come : ℕ) → (at < 10 ^ 9) × (deleted < 10 ^ 9) × (count < 10 ^ 9)
+    → (place < 10 ^ 9) × (gone < 10 ^ 9) × (come < 10 ^ 9)
+    → codes "edit " ++ edit_text at deleted count ≡ codes "edit " ++ edit_text place gone come → count ≡ come
+same_edit_count at deleted count place gone come v w e =
+    let numbers = cut_same 32 (decimal at) (ends_text deleted count) (decimal place) (ends_text gone come)
+    (digits_lack at 32 v.0 (omega arith)) (digits_lack place 32 w.0 (omega arith))
+    (same_rest (codes "edit ") (edit_text at deleted count) (edit_text place gone come) e) in
+    let counts = cut_same 32 (decimal deleted) (decimal count) (decimal gone) (decimal come)
+    (digits_lack deleted 32 v.1 (omega arith)) (digits_lack gone 32 w.1 (omega arith)) numbers.1 in
+    decimal_injective count come (omega (arith, v.2)) (omega (arith, w.2)) counts.1
 
-  -- its line comes first
-  pub no_text_line : NoCountComes (codes "open ") 4096 from old → NothingFollows (with_grammar front []) from old
-  no_text_line other = no_text (λ told is text more early w e.
-      other told is early (length text) ((text ++ 10 ∷ []) ++ more) w.0 (line_within (of_command (opens text)) w)
-      (e ∙ append_assoc (line_of (of_command (opens text))) (10 ∷ (text ++ 10 ∷ [])) more))
+-- the first byte of a line, which tells the commands apart, and the second, which tells `edit` and `end` apart
+abbrev byte_at : ℕ → List ℕ → ℕ
+byte_at place line = get_or line place 0
 
-  module _ (mid_at : ℕ) (mid : Option (List ℕ)) (count : ℕ)
-      (taken : TakesCount (codes "open ") 4096 from mid_at old mid count) where
-    -- and tells how long its block is, which comes next
-    text_block : (told : List ℕ) → old ≡ Some told → (text more : List ℕ) → IsWithinLimits (of_command (opens text))
-        → told ≡ text_of (of_command (opens text)) ++ more
-        → (rest : List ℕ) × (mid ≡ Some rest) × (length text ≡ count) × (rest ≡ text ++ (10 ∷ more))
-    text_block told is text more w e =
-        let p = part_comes from mid_at old mid (codes "open " ++ decimal count) taken.1 told is (of_command (opens text)) more w e in
-        let size : count ≡ length text =
-        decimal_injective count (length text) (omega (arith, taken.0)) (omega (arith, w.0))
-        (same_rest (codes "open ") (decimal count) (decimal (length text)) p.2) in
-        (p.0, p.1, sym size, p.3 ∙ append_assoc text (10 ∷ []) more)
+-- the line of a command was taken
+module _ (from mid_at : ℕ) (old mid : Option (List ℕ)) where
+  -- as a line
+  as_taken : (told : Head) → TakesHead from mid_at old mid told → TakesLine from mid_at old mid (head_line told)
+  as_taken told h = (h.early, h.taken, h.is_line, h.offset)
 
-    -- without this block no text comes
-    pub no_text_block : NoBlockComes count mid → NothingFollows (with_grammar front []) from old
-    no_text_block other = no_text (λ told is text more early w e.
-        let b = text_block told is text more w e in
-        other b.0 b.1 text more b.2 b.3)
+  -- which is a whole command
+  pub query_taken : (query : Asked) → TakesHead from mid_at old mid (head.Ask query)
+      → TakesCommand from mid_at old mid (Ask query)
+  query_taken query h =
+      line_taken from mid_at old mid (query_line (query_of query)) (as_taken (head.Ask query) h)
+      (of_command (ask (query_of query))) (h.is_short, h.is_line.1) refl refl
 
-    module _ (to : ℕ) (new : Option (List ℕ)) (text : List ℕ) (block : TakesBlock count mid_at to mid new text) where
-      -- nor where a byte of it is none of ASCII
-      pub no_ascii_text : (IsAscii text → ⊥) → NothingFollows (with_grammar front []) from old
-      no_ascii_text other = no_text (λ told is wanted more early w e.
-          let b = text_block told is wanted more w e in
-          let t = block.0 b.0 b.1 in
-          let whole : text ++ (10 ∷ t.0) ≡ wanted ++ (10 ∷ more) =
-          sym (append_assoc text (10 ∷ []) t.0) ∙ sym t.2 ∙ b.3 in
-          let same : text ≡ wanted =
-          same_front text (10 ∷ t.0) wanted (10 ∷ more) (block.1 ∙ sym b.2) whole in
-          other (subst IsAscii (sym same) w.1))
+  pub end_taken : TakesHead from mid_at old mid head.End → TakesCommand from mid_at old mid End
+  end_taken h = record { early = h.early; taken = h.taken; offset = omega (arith, h.offset) }
 
-      pub text_taken : IsAscii text → TakesPart from to old new (of_command (opens text))
-      text_taken ascii =
-          let size : length text ≡ count = block.1 in
-          let IsTaken : ℕ → Type 0 = λ n. TakesLine from mid_at old mid (codes "open " ++ decimal n) in
-          part_taken from mid_at to old mid new (of_command (opens text)) (omega (arith, taken.0, size), ascii)
-          (subst IsTaken (sym size) taken.1) block.0 (omega (arith, size, block.2, length-append text (10 ∷ [])))
+  -- or the block comes behind it
+  module _ (to : ℕ) (new : Option (List ℕ)) (known : Block) where
+    pub open_taken : (count : ℕ) → TakesHead from mid_at old mid (head.Open count)
+        → FindsBlock MAX_BLOCK count mid_at to mid new known → TakesCommand from to old new (Open known)
+    open_taken count t h =
+        let text : List ℕ = h.0 in
+        let size : length text ≡ count = h.2.1 in
+        let IsTaken : ℕ → Type 0 = λ n. TakesLine from mid_at old mid (codes "open " ++ decimal n) in (
+          text,
+          h.1,
+          part_taken from mid_at to old mid new (of_command (opens text)) (omega (arith, t.is_short, size))
+              (subst IsTaken (sym size) (as_taken (head.Open count) t)) h.2.0
+              (omega (arith, size, h.2.2, length-append text (10 ∷ []))),
+        )
 
--- what stops behind each grammar that is the last part stops behind this script
-pub stops_without_text : (script : Script) (from : ℕ) (old : Option (List ℕ)) → TellsOpen script false → (stop : Stop)
-    → ((front : List ℕ) → StopsBehind (with_grammar front []) from old stop) → StopsBehind script from old stop
-stops_without_text script from old tells stop h =
-    let IsStop : Script → Type 0 = λ (behind : Script). StopsBehind behind from old stop in
-    subst IsStop (sym tells.1) (h tells.0)
+    pub edit_taken : (splice : Splice) → TakesHead from mid_at old mid (head.Edit splice)
+        → FindsBlock MAX_BLOCK splice.count mid_at to mid new known
+        → TakesCommand from to old new (Edit splice.at splice.deleted known)
+    edit_taken splice t h =
+        let inserted : List ℕ = h.0 in
+        let size : length inserted ≡ splice.count = h.2.1 in
+        let IsTaken : ℕ → Type 0 = λ n.
+        TakesLine from mid_at old mid (codes "edit " ++ edit_text splice.at splice.deleted n) in (
+          inserted,
+          h.1,
+          part_taken from mid_at to old mid new (of_command (edits splice.at splice.deleted inserted))
+              (t.is_short.0, t.is_short.1, omega (arith, t.is_short.2, size))
+              (subst IsTaken (sym size) (as_taken (head.Edit splice) t)) h.2.0
+              (omega (arith, size, h.2.2, length-append inserted (10 ∷ []))),
+        )
+
+  -- without its block nothing follows
+  module _ (script : Script) (complete : IsComplete any_order script) where
+    -- as each command that begins with the line has the block, and the line is not `end`
+    no_block_follows : (line : List ℕ) → TakesLine from mid_at old mid line → (line ≡ codes "end" → ⊥)
+        → ((command : Command) (rest more : List ℕ) → mid ≡ Some rest → IsWithinLimits (of_command command)
+        → line ≡ line_of (of_command command) → rest ≡ block_of (of_command command) ++ more → ⊥)
+        → NothingFollows script from old
+    no_block_follows line taken not_end other told is = (
+      (λ go. let asked = command_follows script complete go.part go.in_place in
+          let w : IsWithinLimits (of_command asked.0) = subst IsWithinLimits asked.1 go.within_limits in
+          let e : told ≡ text_of (of_command asked.0) ++ go.more
+          = go.spelled ∙ ap (λ part. text_of part ++ go.more) asked.1 in
+          let p = part_comes from mid_at old mid line taken told is (of_command asked.0) go.more w e in
+          other asked.0 p.0 go.more p.1 w p.2 p.3),
+      (λ end. not_end (end_comes from mid_at old mid line taken told is end.more end.spelled)),
+    )
+
+    pub no_open_block : (count : ℕ) → TakesHead from mid_at old mid (head.Open count) → NoBlockComes count mid
+        → NothingFollows script from old
+    no_open_block count t other =
+        no_block_follows (codes "open " ++ decimal count) (as_taken (head.Open count) t)
+        (λ e. omega (arith, ap (byte_at 0) e)) none
+      where
+        none : (command : Command) (rest more : List ℕ) → mid ≡ Some rest → IsWithinLimits (of_command command)
+            → codes "open " ++ decimal count ≡ line_of (of_command command)
+            → rest ≡ block_of (of_command command) ++ more → ⊥
+        none (opens text) rest more comes w e f =
+            let size : count ≡ length text =
+            decimal_injective count (length text) (omega (arith, t.is_short)) (omega (arith, w))
+            (same_rest (codes "open ") (decimal count) (decimal (length text)) e) in
+            other rest comes text more (sym size) (f ∙ append_assoc text (10 ∷ []) more)
+        none (edits at deleted inserted) rest more comes w e f = omega (arith, ap (byte_at 0) e)
+        none (ask (has constituent)) rest more comes w e f = omega (arith, ap (byte_at 0) e)
+        none (ask (tree constituent)) rest more comes w e f = omega (arith, ap (byte_at 0) e)
+        none (ask (tokens_in span)) rest more comes w e f = omega (arith, ap (byte_at 0) e)
+
+    pub no_edit_block : (splice : Splice) → TakesHead from mid_at old mid (head.Edit splice)
+        → NoBlockComes splice.count mid → NothingFollows script from old
+    no_edit_block splice t other =
+        no_block_follows (codes "edit " ++ splice_text splice) (as_taken (head.Edit splice) t)
+        (λ e. omega (arith, ap (byte_at 1) e)) none
+      where
+        none : (command : Command) (rest more : List ℕ) → mid ≡ Some rest → IsWithinLimits (of_command command)
+            → codes "edit " ++ splice_text splice ≡ line_of (of_command command)
+            → rest ≡ block_of (of_command command) ++ more → ⊥
+        none (opens text) rest more comes w e f = omega (arith, ap (byte_at 0) e)
+        none (edits at deleted inserted) rest more comes w e f =
+            let size : splice.count ≡ length inserted =
+            same_edit_count splice.at splice.deleted splice.count at deleted (length inserted) t.is_short w e in
+            other rest comes inserted more (sym size) (f ∙ append_assoc inserted (10 ∷ []) more)
+        none (ask (has constituent)) rest more comes w e f = omega (arith, ap (byte_at 0) e)
+        none (ask (tree constituent)) rest more comes w e f = omega (arith, ap (byte_at 0) e)
+        none (ask (tokens_in span)) rest more comes w e f = omega (arith, ap (byte_at 0) e)

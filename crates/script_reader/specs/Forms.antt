@@ -7,13 +7,14 @@ use Rattle.spec_script.specs.declared.question.Constituent.{Constituent as Named
 use Rattle.spec_script.specs.declared.question.Constituent.TheVariants.{EntryWhole, NamedWhole}
 use Rattle.spec_script.specs.declared.question.Constituent.TheVariants.{NamedSpan}
 use Rattle.spec_script.specs.declared.question.TokenSpan.{TokenSpan}
-use Rattle.spec_script.specs.Script.{Constituent, constituent_text, IsNameable, ends_text}
+use Rattle.spec_script.specs.Script.{Constituent, constituent_text, IsNameable, ends_text, edit_text}
 use Rattle.spec_script.specs.Script.{span_text, HasShortEnds, Query, has, tree, tokens_in}
 use Rattle.spec_script.specs.Script.{query_line, IsAskable}
 use Rattle.script_reader.specs.declared.command.Query.{Query as Asked}
 use Rattle.script_reader.specs.declared.command.Query.TheVariants.{Has, Tree, Tokens}
-use Rattle.script_reader.specs.declared.command.Command.{Command}
-use Rattle.script_reader.specs.declared.command.Command.TheVariants.{Open, Ask, End}
+use Rattle.script_reader.specs.declared.command.Splice.{Splice}
+use Rattle.script_reader.specs.declared.command.Head.{Head}
+use Rattle.script_reader.specs.declared.command.Head.TheVariants as head
 
 -- the word is the number of at most nine digits, or spells none
 abbrev pub ReadsNumber : List ℕ → Option ℕ → Type 0
@@ -105,9 +106,70 @@ abbrev pub ReadsQuery : List ℕ → Option Asked → Type 0
 ReadsQuery line None = (query : Query) → IsQuestion line query → ⊥
 ReadsQuery line (Some query) = IsQuestion line (query_of query)
 
--- the line asks this or is the line `end`, or is neither a question nor this line
-abbrev pub ReadsQuestion : List ℕ → Option Command → Type 0
-ReadsQuestion line None = (line ≡ codes "end" → ⊥) × ReadsQuery line None
-ReadsQuestion line (Some (Open text)) = ⊥
-ReadsQuestion line (Some (Ask query)) = ReadsQuery line (Some query)
-ReadsQuestion line (Some End) = line ≡ codes "end"
+-- the numbers of the splice have nine digits at most
+abbrev pub IsShort : Splice → Type 0
+IsShort splice = (splice.at < 10 ^ 9) × (splice.deleted < 10 ^ 9) × (splice.count < 10 ^ 9)
+
+-- how an edit's line tells the splice
+abbrev pub splice_text : Splice → List ℕ
+splice_text splice = edit_text splice.at splice.deleted splice.count
+
+-- the bytes tell the splice
+pub record IsSpliceText (bytes : List ℕ) (splice : Splice) : Type 0 where
+  pub short : IsShort splice
+  pub spelled : bytes ≡ splice_text splice
+
+-- the bytes tell this splice, or none
+abbrev pub ReadsSplice : List ℕ → Option Splice → Type 0
+ReadsSplice bytes None = (splice : Splice) → IsSpliceText bytes splice → ⊥
+ReadsSplice bytes (Some splice) = IsSpliceText bytes splice
+
+-- the line is that of an edit which is the splice
+pub record IsEditLine (line : List ℕ) (splice : Splice) : Type 0 where
+  pub short : IsShort splice
+  pub spelled : line ≡ codes "edit " ++ splice_text splice
+
+-- the line is that of this edit, or of none
+abbrev pub ReadsEdit : List ℕ → Option Splice → Type 0
+ReadsEdit line None = (splice : Splice) → IsEditLine line splice → ⊥
+ReadsEdit line (Some splice) = IsEditLine line splice
+
+-- the line of a command, by what it tells
+abbrev pub head_line : Head → List ℕ
+head_line (head.Open count) = codes "open " ++ decimal count
+head_line (head.Edit splice) = codes "edit " ++ splice_text splice
+head_line (head.Ask query) = query_line (query_of query)
+head_line head.End = codes "end"
+
+-- what it tells keeps the limits
+abbrev pub IsShortHead : Head → Type 0
+IsShortHead (head.Open count) = count < 10 ^ 9
+IsShortHead (head.Edit splice) = IsShort splice
+IsShortHead (head.Ask query) = IsAskable (query_of query)
+IsShortHead head.End = Unit {0}
+
+-- the line tells this
+pub record IsHead (line : List ℕ) (told : Head) : Type 0 where
+  pub short : IsShortHead told
+  pub spelled : line ≡ head_line told
+
+-- the line is that of no text and of no edit
+pub record IsNoChange (line : List ℕ) : Type 0 where
+  pub no_text : ReadsCount line (codes "open ") 999999999 None
+  pub no_edit : ReadsEdit line None
+
+-- the line is that of this text or edit, or of none
+abbrev pub ReadsChange : List ℕ → Option Head → Type 0
+ReadsChange line None = IsNoChange line
+ReadsChange line (Some told) = IsHead line told
+
+-- the line is that of no command, and not the line `end`
+pub record IsNoHead (line : List ℕ) : Type 0 where
+  pub no_end : line ≡ codes "end" → ⊥
+  pub no_query : ReadsQuery line None
+  pub no_change : IsNoChange line
+
+-- the line is that of this command or the line `end`, or is neither
+abbrev pub ReadsHead : List ℕ → Option Head → Type 0
+ReadsHead line None = IsNoHead line
+ReadsHead line (Some told) = IsHead line told

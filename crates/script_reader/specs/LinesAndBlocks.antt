@@ -46,6 +46,6 @@ abbrev pub PassesBlock : ℕ → ℕ → ℕ → Option (List ℕ) → Option (L
 PassesBlock count from to old new = (block : List ℕ) × TakesBlock count from to old new block
 
 -- a block of so many bytes was taken with its LF, and this is known of it
-abbrev pub FindsBlock : ℕ → ℕ → ℕ → Option (List ℕ) → Option (List ℕ) → Block → Type 0
-FindsBlock count from to old new known =
-    (block : List ℕ) × IsBlock known block × TakesBlock count from to old new block
+abbrev pub FindsBlock : ℕ → ℕ → ℕ → ℕ → Option (List ℕ) → Option (List ℕ) → Block → Type 0
+FindsBlock most count from to old new known =
+    (block : List ℕ) × IsBlock most known block × TakesBlock count from to old new block

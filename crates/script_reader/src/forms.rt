@@ -5,9 +5,9 @@ ghost use Rattle.spec_script.specs.Script.{AreOfWord};
 ghost use Rattle.script_reader.specs.Forms.{ReadsNumber, ReadsBehind, ReadsCount, CutsAtSpace};
 ghost use Rattle.script_reader.specs.Forms.{ReadsEnds, ReadsConstituent, ReadsTokenSpan};
 ghost use Rattle.script_reader.specs.Forms.{ReadsHas, ReadsTree, ReadsTokens, ReadsQuery};
-ghost use Rattle.script_reader.specs.Forms.{ReadsQuestion};
+ghost use Rattle.script_reader.specs.Forms.{ReadsSplice, ReadsEdit, ReadsChange, ReadsHead};
 
-use crate::command::{Command, Query};
+use crate::command::{Head, Query, Splice};
 use itoa::Buffer;
 use memchr::memchr;
 use spec_script::{Constituent, TokenSpan};
@@ -155,13 +155,43 @@ fn query_in(line: &[u8]) -> Option<Query<'_>>
     }
 }
 
-/// The query that the line asks, or the script's end.
-pub(crate) fn question_of(line: &[u8]) -> Option<Command<'_>>
+/// Which bytes are replaced, and by how many others: three numbers, a space between each two.
+fn splice_of(bytes: &[u8]) -> Option<Splice>
+    ensures { ReadsSplice bytes.now result }
+{
+    let (place, rest) = cut_at_space(bytes)?;
+    let at = number(place)?;
+    let (deleted, count) = ends_of(rest)?;
+    Some(Splice { at, deleted, count })
+}
+
+/// Which bytes the line edits, where it begins with `edit`.
+fn edit_splice(line: &[u8]) -> Option<Splice>
+    ensures { ReadsEdit line.now result }
+{
+    splice_of(behind(line, b"edit ".as_slice())?)
+}
+
+/// The text or the edit whose block follows the line.
+fn change_of(line: &[u8]) -> Option<Head<'_>>
+    ensures { ReadsChange line.now result }
+{
+    match count_behind(line, b"open ".as_slice(), MAX_NUMBER) {
+        Some(count) => Some(Head::Open(count)),
+        None => edit_splice(line).map(|splice| Head::Edit(splice)),
+    }
+}
+
+/// What the line of a command tells, or the line `end`.
+pub(crate) fn head_of(line: &[u8]) -> Option<Head<'_>>
     requires { HasNoLf line.now }
-    ensures { ReadsQuestion line.now result }
+    ensures { ReadsHead line.now result }
 {
     if line == b"end".as_slice() {
-        return Some(Command::End);
+        return Some(Head::End);
     }
-    query_in(line).map(|query| Command::Ask(query))
+    match query_in(line) {
+        Some(query) => Some(Head::Ask(query)),
+        None => change_of(line),
+    }
 }

@@ -9,6 +9,6 @@ mod stop;
 #[cfg(test)]
 mod tests;
 
-pub use command::{Block, Command, Query};
-pub use reading::{read_command, read_grammar, read_header};
+pub use command::{Block, Command, Head, Query, Splice};
+pub use reading::{read_command, read_grammar, read_head, read_header};
 pub use stop::Stop;

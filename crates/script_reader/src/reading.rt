@@ -1,24 +1,26 @@
 //! Reading a script from a source, one part at a time: its line, and the block that the line tells.
 ghost use Rattle.std.specs.Prelude.{◌≡◌, ◌+◌, ◌^◌, ◌<◌, ◌≤◌, ◌++◌, ◌∷◌, ◌↔◌, [], ℕ, List};
-ghost use Rattle.std.specs.Prelude.{IsTrue, IfOk, IfErr, OnOk, IsErrOf, MatchOption, true, false};
+ghost use Rattle.std.specs.Prelude.{Option};
+ghost use Rattle.std.specs.Prelude.{IsTrue, IfOk, IfErr, OnOk, IsErrOf, MatchOption};
 ghost use Rattle.std.specs.Prelude.{codes};
 ghost use Rattle.cyk_io.specs.Causes.{HasCause};
 ghost use Rattle.cyk_io.specs.Streams.{coming};
 ghost use Rattle.cyk_io.specs.declared.fault.IoFault.TheVariants.{Read};
-ghost use Rattle.spec_script.specs.Script.{Script, nothing, header_alone, header, of_command};
-ghost use Rattle.spec_script.specs.Script.{opens};
+ghost use Rattle.spec_script.specs.Script.{Script, nothing, header_alone, header, any_order};
+ghost use Rattle.spec_script.specs.Script.{IsComplete};
 ghost use Rattle.script_reader.specs.declared.stop.Stop.TheVariants.{Fault};
-ghost use Rattle.script_reader.specs.Reading.{TakesPart, TakesGrammar, TakesCommand, Stops};
-ghost use Rattle.script_reader.specs.Reading.{StopsBehind, TellsOpen};
+ghost use Rattle.script_reader.specs.Reading.{TakesPart, TakesGrammar, TakesHead, TakesCommand};
+ghost use Rattle.script_reader.specs.Reading.{Stops, StopsBehind};
 ghost use Rattle.script_reader.specs.LinesAndBlocks.{TakesLine, NoLineComes, TakesCount};
 ghost use Rattle.script_reader.specs.LinesAndBlocks.{NoCountComes, TakesBlock, NoBlockComes};
 ghost use Rattle.script_reader.specs.LinesAndBlocks.{PassesBlock, FindsBlock};
 
-use crate::command::{Block, Command};
-use crate::forms::{MAX_NUMBER, count_behind, question_of};
+use crate::command::{Block, Command, Head};
+use crate::forms::{MAX_NUMBER, count_behind, head_of};
 use crate::stop::Stop;
 use cyk_io::{Ahead, Line, ReadBlock, ReadLine, Source, read_exact_n, read_line};
-use spec_text::{MAX_FILE, MAX_LINE, MAX_OFFSET, MAX_TEXT};
+use spec_script::MAX_BLOCK;
+use spec_text::{MAX_FILE, MAX_LINE, MAX_OFFSET};
 use std::alloc::Global;
 
 /// Reads the next line.
@@ -164,24 +166,25 @@ fn pass_block<S: Source>(
     Ok(())
 }
 
-/// Reads a block of so many bytes and its LF. One of more than 65,536 bytes is passed over. Its
+/// Reads a block of so many bytes and its LF. One of more than `most` bytes is passed over. Its
 /// part begins at the offset `at`.
 fn read_block<S: Source>(
     alloc: Global,
     source: &mut S,
     ahead: &mut Ahead,
+    most: usize,
     count: u32,
     at: u64,
 ) -> Result<Block, Stop>
     requires early { ahead.old.offset < 2 ^ 61 }
-    ensures ok { IfOk result (FindsBlock count ahead.old.offset ahead.new.offset
+    ensures ok { IfOk result (FindsBlock most count ahead.old.offset ahead.new.offset
         (coming ahead.old (S.left source.old)) (coming ahead.new (S.left source.new))) }
     ensures err { IfErr result (Stops at
         (NoBlockComes count (coming ahead.old (S.left source.old)))) }
     ensures cause { HasCause (S.faults source.old) (S.faults source.new)
         (IsErrOf result (Fault Read)) }
 {
-    if count as usize > MAX_FILE {
+    if count as usize > most {
         pass_block(alloc, source, ahead, count, at)?;
         return Ok(Block::TooLong(count));
     }
@@ -209,79 +212,67 @@ pub fn read_grammar<S: Source>(
 {
     let at = ahead.offset();
     let count = read_count(source, ahead, line, b"grammar ".as_slice(), MAX_NUMBER)?;
-    read_block(alloc, source, ahead, count, at)
+    read_block(alloc, source, ahead, MAX_FILE, count, at)
 }
 
-/// Reads the command `open` with its block.
-fn read_text<S: Source>(
-    alloc: Global,
-    source: &mut S,
-    ahead: &mut Ahead,
-    line: &mut Line<MAX_LINE>,
-) -> Result<Vec<u8>, Stop>
-    requires early { ahead.old.offset < 2 ^ 60 }
-    ensures ok { IfOk result (λ text. TakesPart ahead.old.offset ahead.new.offset
-        (coming ahead.old (S.left source.old)) (coming ahead.new (S.left source.new))
-        (of_command (opens text.items))) }
-    ensures err { (script : Script) → TellsOpen script false
-        → IfErr result (StopsBehind script ahead.old.offset
-        (coming ahead.old (S.left source.old))) }
-    ensures cause { HasCause (S.faults source.old) (S.faults source.new)
-        (IsErrOf result (Fault Read)) }
-{
-    let at = ahead.offset();
-    let count = read_count(source, ahead, line, b"open ".as_slice(), MAX_TEXT as u32)?;
-    let text = keep_block(alloc, source, ahead, count, at)?;
-    if !text.as_slice().is_ascii() {
-        return Err(Stop::Breaks(at));
-    }
-    Ok(text)
-}
-
-/// Reads a question, or the line `end`.
-fn read_question<'a, S: Source>(
+/// Reads the line of the next command behind a grammar, or the line `end`. It takes no memory. The
+/// names of a question are slices of `line`.
+pub fn read_head<'a, S: Source>(
     source: &mut S,
     ahead: &mut Ahead,
     line: &'a mut Line<MAX_LINE>,
-) -> Result<Command<'a>, Stop>
+) -> Result<Head<'a>, Stop>
     requires early { ahead.old.offset < 2 ^ 60 }
-    ensures ok { IfOk result (TakesCommand true ahead.old.offset ahead.new.offset
+    ensures ok { IfOk result (TakesHead ahead.old.offset ahead.new.offset
         (coming ahead.old (S.left source.old)) (coming ahead.new (S.left source.new))) }
-    ensures err { (script : Script) → TellsOpen script true
+    ensures err { (script : Script) → IsComplete any_order script
         → IfErr result (StopsBehind script ahead.old.offset
         (coming ahead.old (S.left source.old))) }
     ensures cause { HasCause (S.faults source.old) (S.faults source.new)
         (IsErrOf result (Fault Read)) }
+    ensures range { ahead.new.offset ≤ ahead.old.offset + 257 }
 {
     let at = ahead.offset();
     next_line(source, ahead, line)?;
-    question_of(line.as_bytes()).ok_or(Stop::Breaks(at))
+    head_of(line.as_bytes()).ok_or(Stop::Breaks(at))
 }
 
-/// Reads the next command behind a grammar: where a text is open (`is_open`) a question or the line
-/// `end`, and else a text, which is kept and takes as much memory as it has bytes. The names of a
-/// question are slices of `line`.
+/// Reads what stands behind the line of a command, which began at the offset `at`: its block, where
+/// it has one, with the LF. A block of more than 1,048,576 bytes is passed over, which takes a byte
+/// of memory, for its LF; any other takes as much as it has bytes.
 pub fn read_command<'a, S: Source>(
     alloc: Global,
     source: &mut S,
     ahead: &mut Ahead,
-    line: &'a mut Line<MAX_LINE>,
-    is_open: bool,
+    head: Head<'a>,
+    at: u64,
 ) -> Result<Command<'a>, Stop>
-    requires early { ahead.old.offset < 2 ^ 60 }
-    ensures ok { IfOk result (TakesCommand is_open ahead.old.offset ahead.new.offset
-        (coming ahead.old (S.left source.old)) (coming ahead.new (S.left source.new))) }
-    ensures err { (script : Script) → TellsOpen script is_open
-        → IfErr result (StopsBehind script ahead.old.offset
-        (coming ahead.old (S.left source.old))) }
+    requires early { ahead.old.offset < 2 ^ 61 }
+    ensures ok { (before : Option (List ℕ))
+        → TakesHead at ahead.old.offset before (coming ahead.old (S.left source.old)) head.entry
+        → IfOk result (TakesCommand at ahead.new.offset before
+        (coming ahead.new (S.left source.new))) }
+    ensures err { (before : Option (List ℕ))
+        → TakesHead at ahead.old.offset before (coming ahead.old (S.left source.old)) head.entry
+        → (script : Script) → IsComplete any_order script
+        → IfErr result (StopsBehind script at before) }
     ensures cause { HasCause (S.faults source.old) (S.faults source.new)
         (IsErrOf result (Fault Read)) }
-    ensures range { OnOk result
-        ((ahead.old.offset < ahead.new.offset) × (ahead.new.offset < 2 ^ 50)) }
 {
-    if is_open {
-        return read_question(source, ahead, line);
+    match head {
+        Head::Open(count) => {
+            let block = read_block(alloc, source, ahead, MAX_BLOCK, count, at)?;
+            Ok(Command::Open(block))
+        }
+        Head::Edit(splice) => {
+            let block = read_block(alloc, source, ahead, MAX_BLOCK, splice.count, at)?;
+            Ok(Command::Edit {
+                at: splice.at,
+                deleted: splice.deleted,
+                block,
+            })
+        }
+        Head::Ask(query) => Ok(Command::Ask(query)),
+        Head::End => Ok(Command::End),
     }
-    let text = read_text(alloc, source, ahead, line)?;
-    Ok(Command::Open(text))
 }

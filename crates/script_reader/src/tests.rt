@@ -1,6 +1,6 @@
 //! Parts are read where there is memory, and a break has the offset of its part.
 
-use crate::{Block, Command, Query, Stop, read_command, read_grammar, read_header};
+use crate::{Block, Command, Query, Stop, read_command, read_grammar, read_head, read_header};
 use cyk_io::{Ahead, CleanSource, Line};
 use spec_script::Constituent;
 use spec_text::MAX_LINE;
@@ -15,12 +15,11 @@ fn read_all(alloc: Global, source: &mut CleanSource) -> Result<(), Stop> {
     let mut line: Line<MAX_LINE> = Line::new();
     read_header(source, &mut ahead, &mut line)?;
     read_grammar(alloc, source, &mut ahead, &mut line)?;
-    let mut is_open = false;
     loop {
-        match read_command(alloc, source, &mut ahead, &mut line, is_open)? {
-            Command::Open(_) => is_open = true,
-            Command::Ask(_) => {}
-            Command::End => return Ok(()),
+        let at = ahead.offset();
+        let head = read_head(source, &mut ahead, &mut line)?;
+        if let Command::End = read_command(alloc, source, &mut ahead, head, at)? {
+            return Ok(());
         }
     }
 }
@@ -29,16 +28,15 @@ fn read_all(alloc: Global, source: &mut CleanSource) -> Result<(), Stop> {
 fn a_break_has_the_offset_of_its_part(rt: HostRuntime) -> Result<(), Fail> {
     let cases = [
         (b"open 2\nab\nhas\nhas E 0 2\nend\n".as_slice(), Ok(())),
+        (b"has\nedit 0 1 2\nab\nopen 1\n\xff\nend\n".as_slice(), Ok(())),
+        (b"end\n".as_slice(), Ok(())),
         (b"open 2\nab\n".as_slice(), Err(Stop::Breaks(33))),
-        (b"has\n".as_slice(), Err(Stop::Breaks(23))),
-        (b"end\n".as_slice(), Err(Stop::Breaks(23))),
         (b"open 02\nab\n".as_slice(), Err(Stop::Breaks(23))),
         (b"open 2\nabc\n".as_slice(), Err(Stop::Breaks(23))),
-        (b"open 2\na\xff\n".as_slice(), Err(Stop::Breaks(23))),
-        (
-            b"open 2\nab\nopen 2\nab\n".as_slice(),
-            Err(Stop::Breaks(33)),
-        ),
+        (b"edit 0 2\nab\n".as_slice(), Err(Stop::Breaks(23))),
+        (b"edit 0 0 2 \nab\n".as_slice(), Err(Stop::Breaks(23))),
+        (b"edit 1000000000 0 0\n\n".as_slice(), Err(Stop::Breaks(23))),
+        (b"edit 999999999 999999999 0\n\nend\n".as_slice(), Ok(())),
         (b"open 2\nab\nhas E 0\n".as_slice(), Err(Stop::Breaks(33))),
         (b"open 2\nab\nhas E\nend".as_slice(), Err(Stop::Breaks(39))),
     ];

@@ -1,6 +1,6 @@
 -- Of two beginnings of an input one is the front of the other. So an input is one script.
 use Rattle.std.proofs.Common.{arith, drop, get_or, ◌<◌, ◌^◌, ◌≡◌, ℕ, ◌+◌, ◌⊎◌, inl, inr, List, [], ◌∷◌, ◌++◌, length, refl, sym, ◌∙◌, ap, subst, append_assoc, append-nil}
-use Rattle.spec_script.specs.Script.{Command, opens, ask, Part, header, grammar, of_command, Script, nothing, header_alone, with_grammar, as_parts, parts_of, Form, question_form, text_of, IsWithinLimits, AreQuestions, AreInOrder, IsInOrder, MayFollow, BeginsWithParts, BeginsWithScript, Ending, ended, broken, EndsAs, IsScript}
+use Rattle.spec_script.specs.Script.{Command, opens, Part, header, grammar, of_command, Script, nothing, header_alone, with_grammar, as_parts, parts_of, Form, any_order, text_of, IsWithinLimits, IsInOrder, MayFollow, BeginsWithParts, BeginsWithScript, Ending, ended, broken, EndsAs, IsScript}
 use Rattle.spec_script.specs.Laws.{OneScript}
 use Rattle.spec_script.proofs.ScriptLemmas.{same_part, end_is_no_part}
 
@@ -41,18 +41,6 @@ pub parts_more : (commands : List Command) (command : Command) →
 parts_more [] command = refl
 parts_more (other ∷ commands) command =
     ap (λ (parts : List Part). of_command other ∷ parts) (parts_more commands command)
-
--- the first of some questions are questions
-questions_front : (front back : List Command) → AreQuestions (front ++ back) → AreQuestions front
-questions_front [] back h = tt
-questions_front (ask query ∷ front) back h = questions_front front back h
-questions_front (opens text ∷ front) back h = h
-
--- the first of commands in order are in order
-pub in_order_front : (front back : List Command) → AreInOrder (front ++ back) → AreInOrder front
-in_order_front [] back h = tt
-in_order_front (opens text ∷ questions) back h = questions_front questions back h
-in_order_front (ask query ∷ commands) back h = h
 
 -- the command of the first part
 abbrev first_command : List Part → Command
@@ -113,6 +101,10 @@ same_parts (with_grammar block commands) (with_grammar other others) e =
 -- commands that may stand behind a grammar may stand there without the last of them
 abbrev pub HasFronts : Form → Type 0
 HasFronts form = (front back : List Command) → form.MayStand (front ++ back) → form.MayStand front
+
+-- where commands stand in any order they may stand without the last of them
+pub any_fronts : HasFronts any_order
+any_fronts front back h = tt
 
 -- where the form has fronts
 module _ (form : Form) (fronts : HasFronts form) where
@@ -220,5 +212,5 @@ module _ (form : Form) (fronts : HasFronts form) where
   one_script_of input script other ending final s t = same_script input script ending s other final t
 
 -- so it is where texts and questions stand behind a grammar
-pub one_script : OneScript question_form
-one_script = one_script_of question_form in_order_front
+pub one_script : OneScript any_order
+one_script = one_script_of any_order any_fronts

@@ -10,8 +10,8 @@ use Rattle.std.proofs.Math.Seq.{take-append_seam}
 use Rattle.spec_script.specs.declared.question.Constituent.TheVariants.{EntryWhole, NamedWhole, NamedSpan}
 use Rattle.spec_script.specs.declared.question.TokenSpan.{TokenSpan}
 use Rattle.spec_script.specs.declared.question.TokenSpan.TheVariants.{Whole, Span}
-use Rattle.spec_script.specs.Script.{Constituent, constituent_text, IsNameable, ends_text, span_text, HasShortEnds}
-use Rattle.spec_script.specs.Script.{Query, has, tree, tokens_in, query_line, IsAskable, opens, ask, Part, header, grammar, of_command, line_of, block_of, text_of, IsWord, IsWithinLimits}
+use Rattle.spec_script.specs.Script.{Constituent, constituent_text, IsNameable, ends_text, edit_text, span_text, HasShortEnds}
+use Rattle.spec_script.specs.Script.{Query, has, tree, tokens_in, query_line, IsAskable, opens, edits, ask, Part, header, grammar, of_command, line_of, block_of, text_of, IsWord, IsWithinLimits}
 
 -- the list does not have the byte
 abbrev pub Lacks : List ℕ → ℕ → Type 0
@@ -142,6 +142,13 @@ constituent_lacks_lf (NamedSpan name first end) nameable =
     (spaced_lacks_lf (ends_text first end) (ends_lack_lf first end nameable.1 nameable.2)) in
     spaced_lacks_lf (question_text name first end) behind_lacks
 
+-- nor have the numbers of an edit
+edit_lacks_lf : (at deleted count : ℕ) → at < 10 ^ 9 → deleted < 10 ^ 9 → count < 10 ^ 9 →
+    Lacks (edit_text at deleted count) 10
+edit_lacks_lf at deleted count at_small deleted_small count_small =
+    lacks_joined 10 (decimal at) (32 ∷ ends_text deleted count) (digits_lack at 10 at_small (omega arith))
+    (spaced_lacks_lf (ends_text deleted count) (ends_lack_lf deleted count deleted_small count_small))
+
 -- nor has what names a span of tokens
 span_lacks_lf : (span : TokenSpan) → HasShortEnds span → Lacks (span_text span) 10
 span_lacks_lf Whole short = tested 10 [] refl
@@ -166,7 +173,10 @@ line_lacks_lf header within = tested 10 (codes "script 1") refl
 line_lacks_lf (grammar block) within =
     counted_lacks_lf (codes "grammar ") (length block) refl (omega (arith, within))
 line_lacks_lf (of_command (opens text)) within =
-    counted_lacks_lf (codes "open ") (length text) refl (omega (arith, within.0))
+    counted_lacks_lf (codes "open ") (length text) refl (omega (arith, within))
+line_lacks_lf (of_command (edits at deleted inserted)) within =
+    lacks_joined 10 (codes "edit ") (edit_text at deleted (length inserted)) (tested 10 (codes "edit ") refl)
+    (edit_lacks_lf at deleted (length inserted) within.0 within.1 within.2)
 line_lacks_lf (of_command (ask query)) within = query_lacks_lf query within.0
 
 -- a beginning and a number are short
@@ -176,13 +186,32 @@ counted_is_short beginning n short small =
     let digits : length (decimal n) ≤ 9 = length-decimal-le 9 n (omega arith) small (omega arith) in
     omega (arith, length-append beginning (decimal n))
 
+-- so are the numbers of an edit
+edit_is_short : (at deleted count : ℕ) → at < 10 ^ 9 → deleted < 10 ^ 9 → count < 10 ^ 9 →
+    length (edit_text at deleted count) ≤ 29
+edit_is_short at deleted count at_small deleted_small count_small =
+    let first : length (decimal at) ≤ 9 = length-decimal-le 9 at (omega arith) at_small (omega arith) in
+    let second : length (decimal deleted) ≤ 9 = length-decimal-le 9 deleted (omega arith) deleted_small (omega arith) in
+    let third : length (decimal count) ≤ 9 = length-decimal-le 9 count (omega arith) count_small (omega arith) in
+    omega (
+      arith,
+      first,
+      second,
+      third,
+      length-append (decimal at) (32 ∷ ends_text deleted count),
+      length-append (decimal deleted) (32 ∷ decimal count),
+    )
+
 -- the line of a part within its limits has at most 256 bytes
 pub line_is_short : (part : Part) → IsWithinLimits part → length (line_of part) ≤ 256
 line_is_short header within = omega arith
 line_is_short (grammar block) within =
     counted_is_short (codes "grammar ") (length block) (omega arith) (omega (arith, within))
 line_is_short (of_command (opens text)) within =
-    counted_is_short (codes "open ") (length text) (omega arith) (omega (arith, within.0))
+    counted_is_short (codes "open ") (length text) (omega arith) (omega (arith, within))
+line_is_short (of_command (edits at deleted inserted)) within =
+    let numbers = edit_is_short at deleted (length inserted) within.0 within.1 within.2 in
+    omega (arith, numbers, length-append (codes "edit ") (edit_text at deleted (length inserted)))
 line_is_short (of_command (ask query)) within = within.1
 
 -- a line before an LF is that of the part that the bytes begin with, and the block comes next
@@ -265,11 +294,31 @@ same_token_span (Span first end) (Span start stop) v w e =
     let ends : end ≡ stop = numbers.1 in
     cc
 
+-- edits with one line, before what stands behind it, are the same
+same_edit : (at deleted : ℕ) (inserted : List ℕ) (place gone : ℕ) (others rest more : List ℕ) →
+    IsWithinLimits (of_command (edits at deleted inserted)) →
+    IsWithinLimits (of_command (edits place gone others)) →
+    codes "edit " ++ edit_text at deleted (length inserted) ≡ codes "edit " ++ edit_text place gone (length others) →
+    (inserted ++ 10 ∷ []) ++ rest ≡ (others ++ 10 ∷ []) ++ more →
+    (of_command (edits at deleted inserted) ≡ of_command (edits place gone others)) × (rest ≡ more)
+same_edit at deleted inserted place gone others rest more v w e f =
+    let numbers = cut_same 32 (decimal at) (ends_text deleted (length inserted)) (decimal place)
+    (ends_text gone (length others)) (digits_lack at 32 v.0 (omega arith)) (digits_lack place 32 w.0 (omega arith))
+    (same_rest (codes "edit ") (edit_text at deleted (length inserted)) (edit_text place gone (length others)) e) in
+    let places : at ≡ place = same_number at place v.0 w.0 numbers.0 in
+    let counts = cut_same 32 (decimal deleted) (decimal (length inserted)) (decimal gone)
+    (decimal (length others)) (digits_lack deleted 32 v.1 (omega arith)) (digits_lack gone 32 w.1 (omega arith))
+    numbers.1 in
+    let gones : deleted ≡ gone = same_number deleted gone v.1 w.1 counts.0 in
+    let blocks = same_block [] inserted others rest more v.2 w.2 counts.1 f in
+    let bytes : inserted ≡ others = blocks.0 in
+    (cc, blocks.1)
+
 -- the first byte of a line, which tells the parts apart
 abbrev first_byte : List ℕ → ℕ
 first_byte line = get_or line 0 0
 
--- and the second, which tells `tree` and `tokens` apart
+-- and the second, which tells `tree` and `tokens` apart, and `edit` and `end`
 abbrev second_byte : List ℕ → ℕ
 second_byte line = get_or line 1 0
 
@@ -301,10 +350,12 @@ same_by_line (grammar block) (grammar other) rest more v w e f =
     let same = same_block (codes "grammar ") block other rest more small small_too e f in
     (ap grammar same.0, same.1)
 same_by_line (of_command (opens text)) (of_command (opens other)) rest more v w e f =
-    let small : length text < 10 ^ 9 = omega (arith, v.0) in
-    let small_too : length other < 10 ^ 9 = omega (arith, w.0) in
+    let small : length text < 10 ^ 9 = omega (arith, v) in
+    let small_too : length other < 10 ^ 9 = omega (arith, w) in
     let same = same_block (codes "open ") text other rest more small small_too e f in
     (ap (λ bytes. of_command (opens bytes)) same.0, same.1)
+same_by_line (of_command (edits at deleted inserted)) (of_command (edits place gone others)) rest more v w e f =
+    same_edit at deleted inserted place gone others rest more v w e f
 same_by_line (of_command (ask query)) (of_command (ask other)) rest more v w e f = (ap (λ (asked : Query). of_command (ask asked)) (same_query query other v.0 w.0 e), f)
 same_by_line a (of_command (ask (has other))) rest more v w e f = absurd (omega (arith, ap first_byte e))
 same_by_line a (of_command (ask (tree other))) rest more v w e f = absurd (omega (arith, ap first_byte e))
@@ -328,6 +379,7 @@ end_is_no_line : (part : Part) → codes "end" ≡ line_of part → ⊥
 end_is_no_line header e = omega (arith, ap first_byte e)
 end_is_no_line (grammar block) e = omega (arith, ap first_byte e)
 end_is_no_line (of_command (opens text)) e = omega (arith, ap first_byte e)
+end_is_no_line (of_command (edits at deleted inserted)) e = omega (arith, ap second_byte e)
 end_is_no_line (of_command (ask (has constituent))) e = omega (arith, ap first_byte e)
 end_is_no_line (of_command (ask (tree constituent))) e = omega (arith, ap first_byte e)
 end_is_no_line (of_command (ask (tokens_in span))) e = omega (arith, ap first_byte e)

@@ -1,7 +1,7 @@
 -- The parts of a script, and how an input spells them: a script is a header, a grammar, and then
 -- commands; each part is one line and, where it has one, a block.
 use Rattle.std.specs.Prelude.{◌≡◌, ℕ, ◌+◌, ◌^◌, ◌<◌, ◌≤◌, List, [], ◌∷◌, ◌++◌, length, codes}
-use Rattle.std.specs.Prelude.{decimal, All, IsAscii}
+use Rattle.std.specs.Prelude.{decimal, All}
 use Rattle.spec_script.specs.declared.question.Constituent.{Constituent as Named}
 use Rattle.spec_script.specs.declared.question.Constituent.TheVariants.{EntryWhole, NamedWhole}
 use Rattle.spec_script.specs.declared.question.Constituent.TheVariants.{NamedSpan}
@@ -20,9 +20,11 @@ pub data Query : Type 0 where
   tree : (constituent : Constituent) → Query
   tokens_in : (span : TokenSpan) → Query
 
--- the commands behind a grammar that are built so far
+-- the commands behind a grammar: a text is opened, so many bytes of it from a place on are replaced
+-- by others, or a query is asked of it
 pub data Command : Type 0 where
   opens : (text : List ℕ) → Command
+  edits : (at deleted : ℕ) (inserted : List ℕ) → Command
   ask : (query : Query) → Command
 
 -- a part of a script: the header, a grammar, or a command
@@ -64,6 +66,10 @@ abbrev pub span_text : TokenSpan → List ℕ
 span_text Whole = []
 span_text (Span first end) = 32 ∷ ends_text first end
 
+-- how an edit's line tells its place and how many bytes go and come, with a space between each two
+abbrev pub edit_text : ℕ → ℕ → ℕ → List ℕ
+edit_text at deleted count = decimal at ++ (32 ∷ (decimal deleted ++ (32 ∷ decimal count)))
+
 -- the line that asks the query, without its LF
 abbrev pub query_line : Query → List ℕ
 query_line (has constituent) = codes "has" ++ constituent_text constituent
@@ -75,6 +81,8 @@ abbrev pub line_of : Part → List ℕ
 line_of header = codes "script 1"
 line_of (grammar block) = codes "grammar " ++ decimal (length block)
 line_of (of_command (opens text)) = codes "open " ++ decimal (length text)
+line_of (of_command (edits at deleted inserted)) =
+    codes "edit " ++ edit_text at deleted (length inserted)
 line_of (of_command (ask query)) = query_line query
 
 -- what stands behind the line's LF: a block and its LF, or nothing
@@ -82,6 +90,7 @@ abbrev pub block_of : Part → List ℕ
 block_of header = []
 block_of (grammar block) = block ++ 10 ∷ []
 block_of (of_command (opens text)) = text ++ 10 ∷ []
+block_of (of_command (edits at deleted inserted)) = inserted ++ 10 ∷ []
 block_of (of_command (ask query)) = []
 
 -- the whole part
@@ -114,31 +123,15 @@ IsAskable (has constituent) = IsNameable constituent
 IsAskable (tree constituent) = IsNameable constituent
 IsAskable (tokens_in span) = HasShortEnds span
 
--- the part keeps the limits: a grammar's block of as many bytes as nine digits can write, a text
--- of 4,096 bytes below 80 (hexadecimal), a query that can be asked, and a line of 256 bytes
+-- the part keeps the limits: its numbers have nine digits at most, among them the one that tells how
+-- many bytes its block has; a query can be asked; and the line has 256 bytes at most
 abbrev pub IsWithinLimits : Part → Type 0
 IsWithinLimits header = Unit {0}
 IsWithinLimits (grammar block) = length block < 10 ^ 9
-IsWithinLimits (of_command (opens text)) = (length text ≤ 4096) × IsAscii text
+IsWithinLimits (of_command (opens text)) = length text < 10 ^ 9
+IsWithinLimits (of_command (edits at deleted inserted)) =
+    (at < 10 ^ 9) × (deleted < 10 ^ 9) × (length inserted < 10 ^ 9)
 IsWithinLimits (of_command (ask query)) = IsAskable query × (length (query_line query) ≤ 256)
-
--- the commands are questions
-abbrev pub AreQuestions : List Command → Type 0
-AreQuestions [] = Unit {0}
-AreQuestions (ask query ∷ commands) = AreQuestions commands
-AreQuestions (opens text ∷ commands) = ⊥
-
--- the commands may stand behind a grammar: a text, and questions on it
-abbrev pub AreInOrder : List Command → Type 0
-AreInOrder [] = Unit {0}
-AreInOrder (opens text ∷ questions) = AreQuestions questions
-AreInOrder (ask query ∷ commands) = ⊥
-
--- a text is open, and questions may stand behind it
-abbrev pub AreComplete : List Command → Type 0
-AreComplete [] = ⊥
-AreComplete (opens text ∷ questions) = AreQuestions questions
-AreComplete (ask query ∷ commands) = ⊥
 
 -- a form of scripts: which commands may stand behind a grammar, and behind which of them the line
 -- `end` may follow
@@ -146,9 +139,9 @@ pub record Form : Type 1 where
   pub MayStand : List Command → Type 0
   pub MayEnd : List Command → Type 0
 
--- the form of the scripts that open a text and ask questions of it
-abbrev pub question_form : Form
-question_form = record { MayStand = AreInOrder; MayEnd = AreComplete }
+-- the form of the scripts in which commands stand in any order, and which may end behind each
+abbrev pub any_order : Form
+any_order = record { MayStand = λ commands. Unit {0}; MayEnd = λ commands. Unit {0} }
 
 -- the script is of this form: its commands, if it has any, may stand behind a grammar
 abbrev pub IsInOrder : Form → Script → Type 0

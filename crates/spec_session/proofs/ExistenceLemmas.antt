@@ -12,15 +12,19 @@ use Rattle.spec_trees.specs.TreeText.{tree_text}
 use Rattle.spec_lbnf.proofs.SymbolNameLemmas.{one_symbol_each}
 use Rattle.spec_lexing.specs.declared.kind_def.KindDef.{KindDef}
 use Rattle.spec_script.specs.declared.question.TokenSpan.{TokenSpan}
-use Rattle.spec_script.specs.Script.{Constituent, Query, has, tree, tokens_in, Command, opens, ask, Part, header, grammar}
+use Rattle.spec_script.specs.Script.{Constituent, Query, has, tree, tokens_in, Command, opens, edits, ask, Part, header, grammar}
 use Rattle.spec_script.specs.Script.{of_command, Script, nothing, header_alone, with_grammar, parts_of}
-use Rattle.spec_script.specs.Script.{as_parts, line_of, block_of, text_of, AreQuestions, AreInOrder}
-use Rattle.spec_script.specs.Script.{IsInOrder, MayFollow, question_form, BeginsWithParts, BeginsWithScript, GoesOn}
+use Rattle.spec_script.specs.Script.{as_parts, line_of, block_of, text_of}
+use Rattle.spec_script.specs.Script.{IsInOrder, MayFollow, any_order, BeginsWithParts, BeginsWithScript, GoesOn}
 use Rattle.spec_script.specs.Script.{HasEndLine, Ending, ended, broken, IsScript}
 use Rattle.spec_script.proofs.BeginningLemmas.{begins_more, parts_more}
 use Rattle.spec_session.specs.Lines.{as_line}
 use Rattle.spec_session.specs.GrammarReplies.{IsAccepted, grammar_reply}
-use Rattle.spec_session.specs.Steps.{version_reply, State, no_texts, with_text, IsCurrent}
+use Rattle.spec_session.specs.Steps.{version_reply, State, no_texts, with_text, IsClosed, IsOpen, IsReply}
+use Rattle.spec_session.specs.Steps.{open_already, not_opened, opened, none_to_edit, not_edited, is_edited}
+use Rattle.spec_session.specs.Steps.{none_to_ask, answered}
+use Rattle.spec_session.specs.TextRefusals.{closed_line, open_line, edited}
+use Rattle.spec_session.proofs.TextLemmas.{IsOpenedOrRefused, opened_or_refused, IsEditedOrRefused, edited_or_refused}
 use Rattle.spec_session.specs.Questions.{HasSymbol, first_of, end_of, IsSpan, IsNoSpan, IsWithin}
 use Rattle.spec_session.specs.Questions.{IsDerived, unknown_category_line, outside_line, of_no_symbol, of_no_span}
 use Rattle.spec_session.specs.TokenAnswers.{tokens_line, span_first, span_end, IsTokensAnswer, refused_tokens, tokens_told}
@@ -46,8 +50,8 @@ fewer_behind part rest more e =
     )
 
 -- a script and a part in its place are a longer script
-longer_script : (script : Script) (part : Part) → MayFollow question_form script part →
-    (longer : Script) × IsInOrder question_form longer × (parts_of longer ≡ parts_of script ++ part ∷ [])
+longer_script : (script : Script) (part : Part) → MayFollow any_order script part →
+    (longer : Script) × IsInOrder any_order longer × (parts_of longer ≡ parts_of script ++ part ∷ [])
 longer_script nothing header h = (header_alone, tt, refl)
 longer_script header_alone (grammar block) h = (with_grammar block [], tt, refl)
 longer_script (with_grammar block commands) (of_command command) h =
@@ -59,7 +63,7 @@ longer_script script part h = absurd h
 module _ (input : List ℕ) where
   -- the input is a script
   abbrev HasScript : Type 0
-  HasScript = (script : Script) × (ending : Ending) × IsScript question_form input script ending
+  HasScript = (script : Script) × (ending : Ending) × IsScript any_order input script ending
 
   -- the input has a session
   abbrev HasSession : Type 0
@@ -68,10 +72,10 @@ module _ (input : List ℕ) where
   -- where an input goes on by no part, a script ends or is broken there
   script_here :
       (script : Script) (at : ℕ) (rest : List ℕ) →
-      IsInOrder question_form script → BeginsWithScript input script at rest → (GoesOn question_form script at rest → ⊥) →
+      IsInOrder any_order script → BeginsWithScript input script at rest → (GoesOn any_order script at rest → ⊥) →
       IsUndeniable HasScript
   script_here script at rest in_order begins stops denied =
-      let Ends : Type 0 = HasEndLine question_form script at rest in
+      let Ends : Type 0 = HasEndLine any_order script at rest in
       decided Ends (λ (split : Ends ⊎ (Ends → ⊥)). elim split [
         | inl end ↦ denied (
           script,
@@ -100,11 +104,11 @@ module _ (input : List ℕ) where
   -- from each beginning the input goes on to the end of a script: each part takes a byte or more
   script_from :
       (size : ℕ) (script : Script) (at : ℕ) (rest : List ℕ) →
-      length rest < size → IsInOrder question_form script → BeginsWithScript input script at rest →
+      length rest < size → IsInOrder any_order script → BeginsWithScript input script at rest →
       IsUndeniable HasScript
   script_from zero script at rest lt in_order begins denied = omega arith
   script_from (suc size) script at rest lt in_order begins denied =
-      let On : Type 0 = GoesOn question_form script at rest in
+      let On : Type 0 = GoesOn any_order script at rest in
       decided On (λ (split : On ⊎ (On → ⊥)). elim split [
         | inl on ↦
             let fewer : length on.more < length rest =
@@ -242,51 +246,90 @@ some_answer g fit text tokens (tree constituent) = some_tree_answer g fit text t
 some_answer g fit text tokens (tokens_in span) =
     λ denied. denied (some_tokens_answer g.lexicon.kinds text tokens span)
 
-module _ (g : Grammar) (fit : HasTrees g) where
-  -- questions on a current text have replies
-  some_replies :
-      (state : State) (text : List ℕ) → IsCurrent state text →
-      (questions : List Command) → AreQuestions questions →
-      IsUndeniable ((out : List ℕ) × AreTold g state questions out)
-  some_replies state text current [] are denied = denied ([], refl)
-  some_replies state text current (ask query ∷ questions) are denied =
-      let tokens = some_tokens g.lexicon text in
-      some_answer g fit text tokens.0 query
-      (λ (answer : HasAnswer g text tokens.0 query).
-      some_replies state text current questions are
-      (λ (others : (out : List ℕ) × AreTold g state questions out).
-      denied (
-        answer.0 ++ others.0,
-        (answer.0, others.0, state, (text, tokens.0, current, tokens.1, answer.1), refl, refl, others.1),
-      )))
-  some_replies state text current (opens other ∷ questions) are denied = are
+-- the state of these texts
+abbrev state_of : List (List ℕ) → State
+state_of texts = record { texts = texts }
 
-  -- the commands behind a grammar have replies
-  replies_in_order :
-      (commands : List Command) → AreInOrder commands →
-      IsUndeniable ((out : List ℕ) × AreTold g no_texts commands out)
-  replies_in_order [] are denied = denied ([], refl)
-  replies_in_order (opens text ∷ questions) are denied =
-      let tokens = some_tokens g.lexicon text in
-      let line : List ℕ = version_reply 0 (length tokens.0) in
-      some_replies (with_text no_texts text) text ([], refl) questions are
-      (λ (others : (out : List ℕ) × AreTold g (with_text no_texts text) questions out).
-      denied (
-        line ++ others.0,
-        (line, others.0, with_text no_texts text, (tokens.0, tokens.1, refl), refl, refl, others.1),
-      ))
-  replies_in_order (ask query ∷ commands) are denied = are
+-- no text is open, or one is
+texts_closed_or_open : (texts : List (List ℕ)) → IsClosed (state_of texts) ⊎ IsOpen (state_of texts)
+texts_closed_or_open [] = inl refl
+texts_closed_or_open (text ∷ texts) = elim (texts_closed_or_open texts) [
+  | inl none ↦ inr (text, ([], ap (λ (others : List (List ℕ)). text ∷ others) none))
+  | inr some ↦ inr (some.0, (text ∷ some.1.0, ap (λ (others : List (List ℕ)). text ∷ others) some.1.1))
+]
+
+closed_or_open : (state : State) → IsClosed state ⊎ IsOpen state
+closed_or_open state = texts_closed_or_open state.texts
+
+module _ (g : Grammar) (state : State) where
+  -- the command has a reply
+  abbrev HasReply : Command → Type 0
+  HasReply command = (line : List ℕ) × (after : State) × IsReply g state command line after
+
+  -- a text has one that cannot be denied
+  some_opening : (text : List ℕ) → IsUndeniable (HasReply (opens text))
+  some_opening text denied = elim (closed_or_open state) [
+    | inr current ↦ denied (open_line, state, open_already current refl refl)
+    | inl closed ↦
+        opened_or_refused g.lexicon text (λ (split : IsOpenedOrRefused g.lexicon text). elim split [
+          | inl fit ↦
+              let tokens : List Token = fit.1.0 in
+              let line : List ℕ = version_reply 0 (length tokens) in
+              denied (line, with_text state text, opened tokens closed fit.0 fit.1.1 refl refl)
+          | inr refusal ↦ denied (refusal.0, state, not_opened closed refusal.1 refl)
+        ])
+  ]
+
+  -- so has an edit
+  some_edit : (at deleted : ℕ) (inserted : List ℕ) → IsUndeniable (HasReply (edits at deleted inserted))
+  some_edit at deleted inserted denied = elim (closed_or_open state) [
+    | inl closed ↦ denied (closed_line, state, none_to_edit closed refl refl)
+    | inr (text, current) ↦
+        let IsSplit : Type 0 = IsEditedOrRefused text at deleted inserted g.lexicon in
+        edited_or_refused text at deleted inserted g.lexicon (λ (split : IsSplit). elim split [
+          | inl done ↦
+              let tokens : List Token = done.2.0 in
+              let line : List ℕ = version_reply (length state.texts) (length tokens) in
+              let after : State = with_text state (edited text at deleted inserted) in
+              denied (line, after, is_edited text tokens current done.0 done.1 done.2.1 refl refl)
+          | inr refusal ↦ denied (refusal.0, state, not_edited text current refusal.1 refl)
+        ])
+  ]
+
+  -- so has a question
+  some_query_answer : HasTrees g → (query : Query) → IsUndeniable (HasReply (ask query))
+  some_query_answer fit query denied = elim (closed_or_open state) [
+    | inl closed ↦ denied (closed_line, state, (none_to_ask closed refl, refl))
+    | inr (text, current) ↦
+        let tokens = some_tokens g.lexicon text in
+        some_answer g fit text tokens.0 query (λ (answer : HasAnswer g text tokens.0 query).
+        denied (answer.0, state, (answered text tokens.0 current tokens.1 answer.1, refl)))
+  ]
+
+  -- so has each command
+  some_reply : HasTrees g → (command : Command) → IsUndeniable (HasReply command)
+  some_reply fit (opens text) = some_opening text
+  some_reply fit (edits at deleted inserted) = some_edit at deleted inserted
+  some_reply fit (ask query) = some_query_answer fit query
+
+-- and so have commands in turn
+some_replies : (g : Grammar) → HasTrees g → (state : State) (commands : List Command) →
+    IsUndeniable ((out : List ℕ) × AreTold g state commands out)
+some_replies g fit state [] denied = denied ([], refl)
+some_replies g fit state (command ∷ commands) denied =
+    some_reply g state fit command (λ (reply : HasReply g state command).
+    some_replies g fit reply.1 commands (λ (others : (out : List ℕ) × AreTold g reply.1 commands out).
+    denied (reply.0 ++ others.0, (reply.0, others.0, reply.1, reply.2, refl, others.1))))
 
 module _ (input : List ℕ) where
   -- a script with a grammar has a session
   session_of_grammar :
       (block : List ℕ) (commands : List Command) (ending : Ending) →
-      IsScript question_form input (with_grammar block commands) ending → IsUndeniable (HasSession input)
+      IsScript any_order input (with_grammar block commands) ending → IsUndeniable (HasSession input)
   session_of_grammar block commands ending script denied =
       let h = script.begins in
       some_verdict block (λ (split : HasVerdict block). elim split [
-        | inl accepted ↦ replies_in_order accepted.0 (accepted_has_trees block accepted.0 accepted.1) commands
-            script.in_order
+        | inl accepted ↦ some_replies accepted.0 (accepted_has_trees block accepted.0 accepted.1) no_texts commands
             (λ (told : (out : List ℕ) × AreTold accepted.0 no_texts commands out).
             let all : List ℕ = grammar_reply accepted.0 ++ told.0 in
             let replied = replies_told accepted.0 no_texts commands told.0 told.1 in
@@ -305,7 +348,7 @@ module _ (input : List ℕ) where
 
   -- the input has a session by each script that it is
   session_of :
-      (script : Script) (ending : Ending) → IsScript question_form input script ending → IsUndeniable (HasSession input)
+      (script : Script) (ending : Ending) → IsScript any_order input script ending → IsUndeniable (HasSession input)
   session_of nothing ending script denied =
       let session : IsSession serve_mode input (last_line ending) (last_status ending) =
       whole nothing ending [] script refl refl refl in

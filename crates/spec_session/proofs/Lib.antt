@@ -1,8 +1,8 @@
 pub mod TreeLemmas
+pub mod TextLemmas
 pub mod RepliesLemmas
 pub mod RunLemmas
 pub mod SessionsLemmas
-pub mod FrontLemmas
 pub mod DenialLemmas
 pub mod VerdictLemmas
 pub mod ExistenceLemmas

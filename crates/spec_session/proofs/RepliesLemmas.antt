@@ -1,9 +1,8 @@
 -- A command has one reply: a grammar is accepted in one way or refused by one line, and so on.
 use Rattle.std.proofs.Common.{◌≡◌, ℕ, ◌<◌, ◌≤◌, inl, inr, List, [], ◌∷◌, ◌++◌, length, drop, get_or, sym, subst, ◌∙◌, ap, arith, length-append}
 use Rattle.spec_lexing.specs.declared.token.Token.{Token}
-use Rattle.spec_lexing.specs.Kinds.{MatchesKind, token_kind, lex_kinds}
+use Rattle.spec_lexing.specs.Lexicon.{Lexicon}
 use Rattle.spec_lexing.specs.Tokens.{AreTokensOf}
-use Rattle.spec_lexing.proofs.TokensLemmas.{one_token_list}
 use Rattle.spec_grammar.specs.Grammars.{Grammar, symbol_count}
 use Rattle.spec_lbnf.specs.Expansion.{expansion_of}
 use Rattle.spec_lbnf.specs.declared.definition.Def.{Def}
@@ -14,11 +13,15 @@ use Rattle.lbnf_readers.proofs.FaultLemmas.{one_file_of_defs, one_first_fault, s
 use Rattle.spec_lbnf.proofs.CheckLemmas.{fit_or_unfit, one_unfitness}
 use Rattle.spec_lexing.specs.declared.kind_def.KindDef.{KindDef}
 use Rattle.spec_script.specs.declared.question.TokenSpan.{TokenSpan}
-use Rattle.spec_script.specs.Script.{Constituent, Query, has, tree, tokens_in, Command, opens, ask}
+use Rattle.spec_script.specs.Script.{Constituent, Query, has, tree, tokens_in, Command, opens, edits, ask}
 use Rattle.spec_session.specs.GrammarReplies.{IsAccepted, IsRefused, IsRefusedFor, faulty, unfit}
 use Rattle.spec_session.specs.GrammarReplies.{too_many_states, too_many_symbols, fault_reason, unfit_reason}
 use Rattle.spec_session.specs.GrammarReplies.{symbols_reason, refusal_line}
-use Rattle.spec_session.specs.Steps.{version_reply, State, IsCurrent, IsReply}
+use Rattle.spec_session.specs.Steps.{version_reply, State, with_text, IsCurrent, IsClosed, IsReply}
+use Rattle.spec_session.specs.Steps.{OpensText, open_already, not_opened, opened}
+use Rattle.spec_session.specs.Steps.{EditsText, none_to_edit, not_edited, is_edited}
+use Rattle.spec_session.specs.Steps.{AnswersQuery, none_to_ask, answered}
+use Rattle.spec_session.specs.TextRefusals.{HasTokens, edited, IsEditRefused}
 use Rattle.spec_session.specs.Questions.{HasSymbol, IsSpan, IsNoSpan, IsWithin, IsOutside, first_of, end_of}
 use Rattle.spec_session.specs.Questions.{IsDerived, IsQuestionRefused, of_no_symbol, of_no_span}
 use Rattle.spec_session.specs.TokenAnswers.{IsTokensAnswer, refused_tokens, tokens_told, span_first, span_end}
@@ -29,6 +32,7 @@ use Rattle.spec_trees.specs.TreeText.{tree_text}
 use Rattle.spec_session.specs.Lines.{as_line}
 use Rattle.spec_session.specs.TreeAnswers.{IsTreeAnswer, refused_tree, no_tree, large_tree, printed_tree}
 use Rattle.spec_session.proofs.TreeLemmas.{one_tree, tree_derives}
+use Rattle.spec_session.proofs.TextLemmas.{same_tokens, one_text_refusal, text_or_refusal, one_edit_refusal, edit_or_refusal}
 use Rattle.spec_session.specs.Answers.{IsHasAnswer, refused_has, yes, no, IsAnswer}
 
 -- a block is accepted as one grammar
@@ -215,20 +219,109 @@ one_current : (state : State) (text other : List ℕ) → IsCurrent state text �
     text ≡ other
 one_current state text other h k = one_last h.0 text k.0 other (sym h.1 ∙ k.1)
 
--- a text has one list of tokens under a grammar
-one_tokens : (g : Grammar) (text : List ℕ) (tokens others : List Token) →
-    AreTokensOf g.lexicon text tokens → AreTokensOf g.lexicon text others → tokens ≡ others
-one_tokens g text tokens others h k = one_token_list MatchesKind token_kind (lex_kinds g.lexicon) text 0 tokens others h k
+-- no text is current where none is open
+no_current : (state : State) (text : List ℕ) → IsClosed state → IsCurrent state text → ⊥
+no_current state text closed h =
+    omega (arith, ap length (sym closed ∙ h.1), length-append h.0 (text ∷ []))
 
--- a command has one reply
-pub one_reply : (g : Grammar) (state : State) (command : Command) (line other : List ℕ) →
-    IsReply g state command line → IsReply g state command other → line ≡ other
-one_reply g state (opens text) line other h k =
-    let same : h.0 ≡ k.0 = one_tokens g text h.0 k.0 h.1 k.1 in
-    let replies = ap (λ (tokens : List Token). version_reply (length state.texts) (length tokens)) same in
-    h.2 ∙ replies ∙ sym k.2
-one_reply g state (ask query) line other h k =
-    let one_text : h.0 ≡ k.0 = one_current state h.0 k.0 h.2 k.2 in
-    let again : AreTokensOf g.lexicon h.0 k.1 = rw one_text k.3 in
-    let same : h.1 ≡ k.1 = one_tokens g h.0 h.1 k.1 h.3 again in
-    one_answer g h.0 h.1 query line other h.4 (rw (one_text, same) k.4)
+-- one line replies, and one state is left
+abbrev pub AreSameReplies : List ℕ → List ℕ → State → State → Type 0
+AreSameReplies line other after final = (line ≡ other) × (after ≡ final)
+
+-- opening a text has one reply, and leaves one state
+one_opening : (lexicon : Lexicon) (before : State) (text line other : List ℕ) (after final : State) →
+    OpensText lexicon before text line after → OpensText lexicon before text other final →
+    AreSameReplies line other after final
+one_opening lexicon before text line other after final (open_already o e d) (open_already o' f c) =
+    (e ∙ sym f, d ∙ sym c)
+one_opening lexicon before text line other after final (open_already o e d) (not_opened k r c) =
+    absurd (no_current before o.0 k o.1)
+one_opening lexicon before text line other after final (open_already o e d) (opened tokens k fit h f c) =
+    absurd (no_current before o.0 k o.1)
+one_opening lexicon before text line other after final (not_opened k r d) (open_already o f c) =
+    absurd (no_current before o.0 k o.1)
+one_opening lexicon before text line other after final (not_opened k r d) (not_opened k' r' c) =
+    (one_text_refusal lexicon text line other r r', d ∙ sym c)
+one_opening lexicon before text line other after final (not_opened k r d) (opened tokens k' fit h f c) =
+    absurd (text_or_refusal lexicon text line tokens fit h r)
+one_opening lexicon before text line other after final (opened tokens k fit h e d) (open_already o f c) =
+    absurd (no_current before o.0 k o.1)
+one_opening lexicon before text line other after final (opened tokens k fit h e d) (not_opened k' r c) =
+    absurd (text_or_refusal lexicon text other tokens fit h r)
+one_opening lexicon before text line other after final (opened tokens k fit h e d) (opened others k' fit' h' f c) =
+    let same : tokens ≡ others = same_tokens lexicon text tokens others h.are_tokens h'.are_tokens in
+    (e ∙ ap (λ (ts : List Token). version_reply 0 (length ts)) same ∙ sym f, d ∙ sym c)
+
+-- an edit of one current text is one of another, which is the same
+same_edit : (lexicon : Lexicon) (text other : List ℕ) (at deleted : ℕ) (inserted line : List ℕ) → text ≡ other →
+    IsEditRefused other at deleted inserted lexicon line → IsEditRefused text at deleted inserted lexicon line
+same_edit lexicon text other at deleted inserted line e h =
+    subst (λ (t : List ℕ). IsEditRefused t at deleted inserted lexicon line) (sym e) h
+
+-- an edit has one reply, and leaves one state
+module _ (lexicon : Lexicon) (before : State) (at deleted : ℕ) (inserted line other : List ℕ) (after final : State) where
+  -- of two edited texts
+  one_edited : (text : List ℕ) (tokens : List Token) (text' : List ℕ) (others : List Token) → text ≡ text' →
+      HasTokens lexicon (edited text at deleted inserted) tokens →
+      HasTokens lexicon (edited text' at deleted inserted) others →
+      line ≡ version_reply (length before.texts) (length tokens) →
+      other ≡ version_reply (length before.texts) (length others) →
+      after ≡ with_text before (edited text at deleted inserted) →
+      final ≡ with_text before (edited text' at deleted inserted) → AreSameReplies line other after final
+  one_edited text tokens text' others one h h' e f d c =
+      let Has : List ℕ → Type 0 = λ (t : List ℕ). HasTokens lexicon (edited t at deleted inserted) others in
+      let again : HasTokens lexicon (edited text at deleted inserted) others = subst Has (sym one) h' in
+      let same : tokens ≡ others =
+      same_tokens lexicon (edited text at deleted inserted) tokens others h.are_tokens again.are_tokens in (
+        e ∙ ap (λ (ts : List Token). version_reply (length before.texts) (length ts)) same ∙ sym f,
+        d ∙ ap (λ (t : List ℕ). with_text before (edited t at deleted inserted)) one ∙ sym c,
+      )
+
+  one_edit : EditsText lexicon before at deleted inserted line after →
+      EditsText lexicon before at deleted inserted other final → AreSameReplies line other after final
+  one_edit (none_to_edit k e d) (none_to_edit k' f c) = (e ∙ sym f, d ∙ sym c)
+  one_edit (none_to_edit k e d) (not_edited text cur r c) = absurd (no_current before text k cur)
+  one_edit (none_to_edit k e d) (is_edited text tokens cur room keeps h f c) = absurd (no_current before text k cur)
+  one_edit (not_edited text cur r d) (none_to_edit k f c) = absurd (no_current before text k cur)
+  one_edit (not_edited text cur r d) (not_edited text' cur' r' c) =
+      let one : text ≡ text' = one_current before text text' cur cur' in (
+        one_edit_refusal text at deleted inserted lexicon line other r
+            (same_edit lexicon text text' at deleted inserted other one r'),
+        d ∙ sym c,
+      )
+  one_edit (not_edited text cur r d) (is_edited text' tokens cur' room keeps h f c) =
+      let one : text' ≡ text = one_current before text' text cur' cur in
+      absurd (edit_or_refusal text' at deleted inserted lexicon line tokens room keeps h
+      (same_edit lexicon text' text at deleted inserted line one r))
+  one_edit (is_edited text tokens cur room keeps h e d) (none_to_edit k f c) = absurd (no_current before text k cur)
+  one_edit (is_edited text tokens cur room keeps h e d) (not_edited text' cur' r c) =
+      let one : text ≡ text' = one_current before text text' cur cur' in
+      absurd (edit_or_refusal text at deleted inserted lexicon other tokens room keeps h
+      (same_edit lexicon text text' at deleted inserted other one r))
+  one_edit (is_edited text tokens cur room keeps h e d) (is_edited text' others cur' room' keeps' h' f c) =
+      one_edited text tokens text' others (one_current before text text' cur cur') h h' e f d c
+
+-- a question has one reply
+one_query_answer : (g : Grammar) (state : State) (query : Query) (line other : List ℕ) →
+    AnswersQuery g state query line → AnswersQuery g state query other → line ≡ other
+one_query_answer g state query line other (none_to_ask k e) (none_to_ask k' f) = e ∙ sym f
+one_query_answer g state query line other (none_to_ask k e) (answered text tokens cur are a) =
+    absurd (no_current state text k cur)
+one_query_answer g state query line other (answered text tokens cur are a) (none_to_ask k f) =
+    absurd (no_current state text k cur)
+one_query_answer g state query line other (answered text tokens cur are a) (answered text' others cur' are' b) =
+    let one_text : text ≡ text' = one_current state text text' cur cur' in
+    let again : AreTokensOf g.lexicon text others = rw one_text are' in
+    let same : tokens ≡ others = same_tokens g.lexicon text tokens others are again in
+    one_answer g text tokens query line other a (rw (one_text, same) b)
+
+-- a command has one reply, and leaves one state
+pub one_reply : (g : Grammar) (before : State) (command : Command) (line other : List ℕ) (after final : State) →
+    IsReply g before command line after → IsReply g before command other final →
+    AreSameReplies line other after final
+one_reply g before (opens text) line other after final h k =
+    one_opening g.lexicon before text line other after final h k
+one_reply g before (edits at deleted inserted) line other after final h k =
+    one_edit g.lexicon before at deleted inserted line other after final h k
+one_reply g before (ask query) line other after final h k =
+    (one_query_answer g before query line other h.0 k.0, h.1 ∙ sym k.1)

@@ -2,7 +2,7 @@
 use Rattle.std.proofs.Common.{◌≡◌, ℕ, List, [], ◌∷◌, ◌++◌, length, drop, get_or, refl, sym, ◌∙◌, ap, subst, arith}
 use Rattle.spec_grammar.specs.Grammars.{Grammar}
 use Rattle.spec_script.specs.Script.{Command, opens, ask}
-use Rattle.spec_session.specs.Steps.{State, IsReply, Leaves, Step, IsStep}
+use Rattle.spec_session.specs.Steps.{State, IsReply, Step, IsStep}
 use Rattle.spec_session.specs.Runs.{IsRun, commands_of, replies_of, AreReplies}
 use Rattle.spec_session.specs.Laws.{OneRun}
 use Rattle.spec_session.proofs.RepliesLemmas.{one_reply}
@@ -11,8 +11,8 @@ use Rattle.spec_session.proofs.RepliesLemmas.{one_reply}
 abbrev pub AreTold : Grammar → State → List Command → List ℕ → Type 0
 AreTold g from [] out = out ≡ []
 AreTold g from (command ∷ commands) out =
-    (line : List ℕ) × (rest : List ℕ) × (after : State) × IsReply g from command line
-    × Leaves command from after × (out ≡ line ++ rest) × AreTold g after commands rest
+    (line : List ℕ) × (rest : List ℕ) × (after : State) × IsReply g from command line after
+    × (out ≡ line ++ rest) × AreTold g after commands rest
 
 -- the first of some commands
 first_command : (command other : Command) (commands others : List Command) →
@@ -22,19 +22,12 @@ first_command command other commands others e = ap (λ (all : List Command). get
 -- where a run begins with a step
 module _ (g : Grammar) (from : State) (command : Command) (step : Step)
     (starts : step.before ≡ from) (same : step.command ≡ command) (is : IsStep g step) where
-  -- the command has its reply
-  reply_is : IsReply g from command step.line
+  -- the command has its reply, and leaves its state
+  reply_is : IsReply g from command step.line step.after
   reply_is =
-      let IsFor : Command → Type 0 = λ (c : Command). IsReply g step.before c step.line in
-      let IsIn : State → Type 0 = λ (s : State). IsReply g s command step.line in
-      subst IsIn starts (subst IsFor same is.replies)
-
-  -- and leaves its state
-  leaves_is : Leaves command from step.after
-  leaves_is =
-      let IsFor : Command → Type 0 = λ (c : Command). Leaves c step.before step.after in
-      let IsIn : State → Type 0 = λ (s : State). Leaves command s step.after in
-      subst IsIn starts (subst IsFor same is.leaves)
+      let IsFor : Command → Type 0 = λ (c : Command). IsReply g step.before c step.line step.after in
+      let IsIn : State → Type 0 = λ (s : State). IsReply g s command step.line step.after in
+      subst IsIn starts (subst IsFor same is)
 
 -- what a run replies is told one after another
 told_of_run : (g : Grammar) (from : State) (commands : List Command) (steps : List Step) (out : List ℕ) →
@@ -48,7 +41,6 @@ told_of_run g from (command ∷ commands) (step ∷ steps) out run same is =
       replies_of steps,
       step.after,
       reply_is g from command step run.0 first run.1,
-      leaves_is g from command step run.0 first run.1,
       is,
       told_of_run g step.after commands steps (replies_of steps) run.2 (ap (drop 1) same) refl,
     )
@@ -61,22 +53,16 @@ told_of g from commands out h = told_of_run g from commands h.0 out h.1.run h.1.
 pub replies_told : (g : Grammar) (from : State) (commands : List Command) (out : List ℕ) →
     AreTold g from commands out → AreReplies g from commands out
 replies_told g from [] out h = ([], record { run = tt; of_commands = refl }, h)
-replies_told g from (command ∷ commands) out (line, rest, after, reply, leaves, is, h) =
+replies_told g from (command ∷ commands) out (line, rest, after, reply, is, h) =
     let behind = replies_told g after commands rest h in
     let step : Step = record { command = command; line = line; before = from; after = after } in
-    let is_step : IsStep g step = record { replies = reply; leaves = leaves } in
+    let is_step : IsStep g step = reply in
     let front : command ∷ commands_of behind.0 ≡ command ∷ commands =
     ap (λ others. command ∷ others) behind.1.of_commands in (
       step ∷ behind.0,
       record { run = (refl, is_step, behind.1.run); of_commands = front },
       is ∙ ap (λ bytes. line ++ bytes) behind.2,
     )
-
--- a command leaves one state
-pub one_after : (command : Command) (before after other : State) → Leaves command before after →
-    Leaves command before other → after ≡ other
-one_after (opens text) before after other h k = h ∙ sym k
-one_after (ask query) before after other h k = h ∙ sym k
 
 -- a step of these parts
 abbrev step_of : Command → List ℕ → State → State → Step
@@ -86,12 +72,10 @@ step_of command line before after = record { command = command; line = line; bef
 one_step : (g : Grammar) (step other : Step) → step.before ≡ other.before → step.command ≡ other.command →
     IsStep g step → IsStep g other → step ≡ other
 one_step g step other starts same h k =
-    let line : step.line ≡ other.line =
-    one_reply g other.before other.command step.line other.line
-    (reply_is g other.before other.command step starts same h) k.replies in
-    let after : step.after ≡ other.after =
-    one_after other.command other.before step.after other.after
-    (leaves_is g other.before other.command step starts same h) k.leaves in
+    let replies = one_reply g other.before other.command step.line other.line step.after other.after
+    (reply_is g other.before other.command step starts same h) k in
+    let line : step.line ≡ other.line = replies.0 in
+    let after : step.after ≡ other.after = replies.1 in
     ap (λ (c : Command). step_of c step.line step.before step.after) same
     ∙ ap (λ (l : List ℕ). step_of other.command l step.before step.after) line
     ∙ ap (λ (s : State). step_of other.command other.line s step.after) starts

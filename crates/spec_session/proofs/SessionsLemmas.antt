@@ -8,8 +8,8 @@ use Rattle.spec_session.specs.Steps.{State, no_texts}
 use Rattle.spec_session.specs.Runs.{AreReplies}
 use Rattle.spec_session.specs.Sessions.{Mode, serve_mode, AreAllReplies, last_line, last_status, IsSession, refused, whole}
 use Rattle.spec_session.specs.Laws.{OneSession, RepliesComeFirst, RepliesThenLastLine, RefusalIsAll}
-use Rattle.spec_script.proofs.BeginningLemmas.{two_beginnings, commands_behind, second_block, HasFronts, in_order_front, script_goes_on, same_script}
-use Rattle.spec_session.proofs.RunLemmas.{AreTold, told_of, one_after}
+use Rattle.spec_script.proofs.BeginningLemmas.{two_beginnings, commands_behind, second_block, HasFronts, any_fronts, script_goes_on, same_script}
+use Rattle.spec_session.proofs.RunLemmas.{AreTold, told_of}
 use Rattle.spec_session.proofs.RepliesLemmas.{one_grammar, accepted_or_refused, one_refusal, one_reply}
 
 -- the bytes begin with these
@@ -35,12 +35,13 @@ told_start : (g : Grammar) (from : State) (commands behind : List Command) (told
     AreTold g from commands told → AreTold g from (commands ++ behind) out → StartsWith out told
 told_start g from [] behind told out h k = (out, rw h refl)
 told_start g from (command ∷ commands) behind told out h k =
-    let one : k.0 ≡ h.0 = one_reply g from command k.0 h.0 k.3 h.3 in
-    let one_state : k.2 ≡ h.2 = one_after command from k.2 h.2 k.4 h.4 in
-    let again : out ≡ h.0 ++ k.1 = k.5 ∙ ap (λ line. line ++ k.1) one in
+    let replies = one_reply g from command k.0 h.0 k.2 h.2 k.3 h.3 in
+    let one : k.0 ≡ h.0 = replies.0 in
+    let one_state : k.2 ≡ h.2 = replies.1 in
+    let again : out ≡ h.0 ++ k.1 = k.4 ∙ ap (λ line. line ++ k.1) one in
     let IsFrom : State → Type 0 = λ (s : State). AreTold g s (commands ++ behind) k.1 in
-    let tail = told_start g h.2 commands behind h.1 k.1 h.6 (subst IsFrom one_state k.6) in
-    starts_after h.0 out k.1 told h.1 h.5 again tail
+    let tail = told_start g h.2 commands behind h.1 k.1 h.5 (subst IsFrom one_state k.5) in
+    starts_after h.0 out k.1 told h.1 h.4 again tail
 
 replies_start : (g : Grammar) (from : State) (commands behind : List Command) (told out : List ℕ) →
     AreReplies g from commands told → AreReplies g from (commands ++ behind) out → StartsWith out told
@@ -191,7 +192,7 @@ module _ (mode : Mode) (definite : IsDefinite mode) where
 
 -- the mode `serve` is definite
 serve_definite : IsDefinite serve_mode
-serve_definite = record { bare = tt; fronts = in_order_front; one_text = λ g lines others h k. h ∙ sym k }
+serve_definite = record { bare = tt; fronts = any_fronts; one_text = λ g lines others h k. h ∙ sym k }
 
 pub refusal_is_all : RefusalIsAll serve_mode
 refusal_is_all = refusal_is_all_of serve_mode serve_definite

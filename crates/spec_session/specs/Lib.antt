@@ -1,6 +1,7 @@
 pub mod Sessions
 pub mod Runs
 pub mod Steps
+pub mod TextRefusals
 pub mod Answers
 pub mod TokenAnswers
 pub mod TreeAnswers

@@ -3,7 +3,7 @@
 use Rattle.std.specs.Prelude.{◌≡◌, ℕ, List, [], ◌++◌, codes, decimal}
 use Rattle.spec_grammar.specs.Grammars.{Grammar}
 use Rattle.spec_script.specs.Script.{Script, nothing, header_alone, with_grammar, Form}
-use Rattle.spec_script.specs.Script.{question_form}
+use Rattle.spec_script.specs.Script.{any_order}
 use Rattle.spec_script.specs.Script.{Ending, ended, broken, BeginsWithScript, IsScript}
 use Rattle.spec_session.specs.Lines.{as_line}
 use Rattle.spec_session.specs.GrammarReplies.{IsAccepted, IsRefused, grammar_reply}
@@ -26,9 +26,9 @@ pub record Mode : Type 1 where
   pub form : Form
   pub Follow : Grammar → List ℕ → Type 0
 
--- the mode `serve`: a text is opened and asked, and no line follows the reply to a grammar
+-- the mode `serve`: commands stand in any order, and no line follows the reply to a grammar
 abbrev pub serve_mode : Mode
-serve_mode = record { form = question_form; Follow = λ g lines. lines ≡ [] }
+serve_mode = record { form = any_order; Follow = λ g lines. lines ≡ [] }
 
 -- the bytes are all that is replied to the script, whose grammar, if there is one, is accepted: the
 -- reply to the grammar, the lines that follow it, and the replies to the commands; nothing replies

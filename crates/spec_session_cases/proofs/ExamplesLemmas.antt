@@ -18,7 +18,7 @@ use Rattle.std.proofs.lemmas.List.Elements.{All-from_recursion}
 use Rattle.spec_lbnf.specs.Differences.{IsGood}
 use Rattle.lbnf_readers.proofs.ScanLemmas.{scanned}
 use Rattle.lbnf_readers.proofs.FaultLemmas.{defs_are, fault_is}
-use Rattle.spec_script.specs.Script.{question_form, Part, header, grammar, of_command, nothing, header_alone}
+use Rattle.spec_script.specs.Script.{any_order, Part, header, grammar, of_command, nothing, header_alone}
 use Rattle.spec_script.specs.Script.{line_of, block_of, text_of, IsWithinLimits, MayFollow, broken}
 use Rattle.spec_script.specs.Script.{IsScript}
 use Rattle.spec_session.specs.Lines.{as_line, with_number}
@@ -49,7 +49,7 @@ part_is_some part more e =
 -- an input that does not begin with the header
 module _ (input : List ℕ) (other : (more : List ℕ) → input ≡ codes "script 1\n" ++ more → ⊥) where
   -- begins with no part in its place
-  no_first : (part : Part) (more : List ℕ) → MayFollow question_form nothing part → input ≡ text_of part ++ more → ⊥
+  no_first : (part : Part) (more : List ℕ) → MayFollow any_order nothing part → input ≡ text_of part ++ more → ⊥
   no_first header more in_place e = other more e
   no_first (grammar block) more in_place e = in_place
   no_first (of_command command) more in_place e = in_place
@@ -58,7 +58,7 @@ module _ (input : List ℕ) (other : (more : List ℕ) → input ≡ codes "scri
   pub refused_at_0 : IsSession serve_mode input (refused_at 0) 3
   refused_at_0 = whole nothing (broken 0) [] script refl (broken_line 0 (omega arith)) refl
     where
-      script : IsScript question_form input nothing (broken 0)
+      script : IsScript any_order input nothing (broken 0)
       script = record {
         at = 0;
         rest = input;
@@ -74,7 +74,7 @@ module _ (input : List ℕ) (other : (more : List ℕ) → input ≡ codes "scri
 -- an input that begins with the header, behind which no grammar stands
 module _ (rest : List ℕ) (other : (block more : List ℕ) → IsWithinLimits (grammar block) → rest ≡ text_of (grammar block) ++ more → ⊥) where
   -- goes on with no part in its place
-  no_second : (part : Part) (more : List ℕ) → MayFollow question_form header_alone part → IsWithinLimits part → rest ≡ text_of part ++ more → ⊥
+  no_second : (part : Part) (more : List ℕ) → MayFollow any_order header_alone part → IsWithinLimits part → rest ≡ text_of part ++ more → ⊥
   no_second header more in_place within e = in_place
   no_second (grammar block) more in_place within e = other block more within e
   no_second (of_command command) more in_place within e = in_place
@@ -83,7 +83,7 @@ module _ (rest : List ℕ) (other : (block more : List ℕ) → IsWithinLimits (
   pub refused_at_9 : IsSession serve_mode (codes "script 1\n" ++ rest) (refused_at 9) 3
   refused_at_9 = whole header_alone (broken 9) [] script refl (broken_line 9 (omega arith)) refl
     where
-      script : IsScript question_form (codes "script 1\n" ++ rest) header_alone (broken 9)
+      script : IsScript any_order (codes "script 1\n" ++ rest) header_alone (broken 9)
       script = record {
         at = 9;
         rest = rest;

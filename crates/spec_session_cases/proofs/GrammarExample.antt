@@ -48,7 +48,7 @@ use Rattle.spec_trees.specs.OrderLaws.{NoLesserCut}
 use Rattle.spec_trees.proofs.EndsLemmas.{none_before_none, none_before_cut}
 use Rattle.spec_session.specs.TreeAnswers.{IsFirstTreeOf, IsTreeAnswer, refused_tree, no_tree, printed_tree}
 use Rattle.spec_session.specs.Answers.{IsHasAnswer, refused_has, yes, no}
-use Rattle.spec_session.specs.Steps.{State, IsReply}
+use Rattle.spec_session.specs.Steps.{State, IsReply, answered}
 use Rattle.spec_session_cases.proofs.StatesExample.{few_states}
 
 -- the grammar's block
@@ -152,22 +152,22 @@ abbrev pub span_to : ℕ → Constituent
 span_to end = NamedSpan (codes "S") 0 end
 
 -- a question has the reply that is its answer
-reply : (constituent : Constituent) (line : List ℕ) → IsHasAnswer rule_grammar one_token constituent line → IsReply rule_grammar one_text (ask (has constituent)) line
-reply constituent line answer = (codes "a", one_token, ([], refl), are_tokens, answer)
+reply : (constituent : Constituent) (line : List ℕ) → IsHasAnswer rule_grammar one_token constituent line → IsReply rule_grammar one_text (ask (has constituent)) line one_text
+reply constituent line answer = (answered (codes "a") one_token ([], refl) are_tokens answer, refl)
 
 -- the entry and the category derive the text
-pub entry_reply : IsReply rule_grammar one_text (ask (has EntryWhole)) (codes "yes\n")
+pub entry_reply : IsReply rule_grammar one_text (ask (has EntryWhole)) (codes "yes\n") one_text
 entry_reply =
     reply EntryWhole (codes "yes\n")
     (yes (omega arith, omega arith) (record { symbol = Category 0; is_symbol = refl; derives = derived }) refl)
 
-pub category_reply : IsReply rule_grammar one_text (ask (has category_s)) (codes "yes\n")
+pub category_reply : IsReply rule_grammar one_text (ask (has category_s)) (codes "yes\n") one_text
 category_reply =
     reply category_s (codes "yes\n")
     (yes (omega arith, omega arith) (record { symbol = Category 0; is_symbol = refl; derives = derived }) refl)
 
 -- the category derives no empty span
-pub empty_reply : IsReply rule_grammar one_text (ask (has (span_to 0))) (codes "no\n")
+pub empty_reply : IsReply rule_grammar one_text (ask (has (span_to 0))) (codes "no\n") one_text
 empty_reply =
     reply (span_to 0) (codes "no\n")
     (no (Category 0, refl) (omega arith, omega arith)
@@ -208,16 +208,16 @@ entry_tree = record {
 -- a question on a tree has the reply that is its answer
 tree_reply : (constituent : Constituent) (line : List ℕ) →
     IsTreeAnswer rule_grammar (codes "a") one_token constituent line →
-    IsReply rule_grammar one_text (ask (tree constituent)) line
-tree_reply constituent line answer = (codes "a", one_token, ([], refl), are_tokens, answer)
+    IsReply rule_grammar one_text (ask (tree constituent)) line one_text
+tree_reply constituent line answer = (answered (codes "a") one_token ([], refl) are_tokens answer, refl)
 
-pub entry_tree_reply : IsReply rule_grammar one_text (ask (tree EntryWhole)) (codes "(A)\n")
+pub entry_tree_reply : IsReply rule_grammar one_text (ask (tree EntryWhole)) (codes "(A)\n") one_text
 entry_tree_reply =
     tree_reply EntryWhole (codes "(A)\n")
     (printed_tree first_tree (omega arith, omega arith) entry_tree (omega arith) refl)
 
 -- over an empty span there is none
-pub no_tree_reply : IsReply rule_grammar one_text (ask (tree (span_to 0))) (codes "none\n")
+pub no_tree_reply : IsReply rule_grammar one_text (ask (tree (span_to 0))) (codes "none\n") one_text
 no_tree_reply =
     tree_reply (span_to 0) (codes "none\n")
     (no_tree (Category 0, refl) (omega arith, omega arith)
@@ -243,12 +243,12 @@ no_other (Category category) is = no_other_category category is
 no_other (Kind kind) is = no_other_kind kind is.0 is.1 is.2
 
 -- so a question on it is refused
-pub unknown_reply : IsReply rule_grammar one_text (ask (has category_t)) (codes "refused category\n")
+pub unknown_reply : IsReply rule_grammar one_text (ask (has category_t)) (codes "refused category\n") one_text
 unknown_reply =
     reply category_t (codes "refused category\n")
     (refused_has (of_no_symbol (λ (known : HasSymbol rule_grammar category_t). no_other known.0 known.1) refl))
 
-pub unknown_tree_reply : IsReply rule_grammar one_text (ask (tree backward_t)) (codes "refused category\n")
+pub unknown_tree_reply : IsReply rule_grammar one_text (ask (tree backward_t)) (codes "refused category\n") one_text
 unknown_tree_reply =
     tree_reply backward_t (codes "refused category\n")
     (refused_tree (of_no_symbol (λ (known : HasSymbol rule_grammar backward_t). no_other known.0 known.1) refl))
@@ -258,12 +258,12 @@ outside_is : codes "refused span 1\n" ≡ codes "refused span " ++ as_line (deci
 outside_is = ap (λ digits. codes "refused span " ++ as_line digits) (sym (decimal_digit 1 (omega arith)))
 
 -- the text has no two tokens
-pub outside_reply : IsReply rule_grammar one_text (ask (has (span_to 2))) (codes "refused span 1\n")
+pub outside_reply : IsReply rule_grammar one_text (ask (has (span_to 2))) (codes "refused span 1\n") one_text
 outside_reply =
     reply (span_to 2) (codes "refused span 1\n")
     (refused_has (of_no_span (Category 0, refl) (inr (omega arith)) outside_is))
 
-pub outside_tree_reply : IsReply rule_grammar one_text (ask (tree (span_to 2))) (codes "refused span 1\n")
+pub outside_tree_reply : IsReply rule_grammar one_text (ask (tree (span_to 2))) (codes "refused span 1\n") one_text
 outside_tree_reply =
     tree_reply (span_to 2) (codes "refused span 1\n")
     (refused_tree (of_no_span (Category 0, refl) (inr (omega arith)) outside_is))
@@ -271,24 +271,24 @@ outside_tree_reply =
 -- a question on tokens has the reply that is its answer
 tokens_reply : (span : TokenSpan) (line : List ℕ) →
     IsTokensAnswer rule_grammar.lexicon.kinds (codes "a") one_token span line →
-    IsReply rule_grammar one_text (ask (tokens_in span)) line
-tokens_reply span line answer = (codes "a", one_token, ([], refl), are_tokens, answer)
+    IsReply rule_grammar one_text (ask (tokens_in span)) line one_text
+tokens_reply span line answer = (answered (codes "a") one_token ([], refl) are_tokens answer, refl)
 
 -- the text has the one token
-pub all_tokens_reply : IsReply rule_grammar one_text (ask (tokens_in Whole)) (codes "tokens 1 word:a\n")
+pub all_tokens_reply : IsReply rule_grammar one_text (ask (tokens_in Whole)) (codes "tokens 1 word:a\n") one_text
 all_tokens_reply =
     tokens_reply Whole (codes "tokens 1 word:a\n")
     (tokens_told (omega arith, omega arith)
     (ap (λ digits. codes "tokens " ++ as_line (digits ++ codes " word:a")) (sym (decimal_digit 1 (omega arith)))))
 
 -- an empty span has none
-pub no_tokens_reply : IsReply rule_grammar one_text (ask (tokens_in (Span 1 1))) (codes "tokens 0\n")
+pub no_tokens_reply : IsReply rule_grammar one_text (ask (tokens_in (Span 1 1))) (codes "tokens 0\n") one_text
 no_tokens_reply =
     tokens_reply (Span 1 1) (codes "tokens 0\n")
     (tokens_told (omega arith, omega arith)
     (ap (λ digits. codes "tokens " ++ as_line (digits ++ [])) (sym (decimal_digit 0 (omega arith)))))
 
 -- and two tokens are no span of it
-pub tokens_outside_reply : IsReply rule_grammar one_text (ask (tokens_in (Span 0 2))) (codes "refused span 1\n")
+pub tokens_outside_reply : IsReply rule_grammar one_text (ask (tokens_in (Span 0 2))) (codes "refused span 1\n") one_text
 tokens_outside_reply =
     tokens_reply (Span 0 2) (codes "refused span 1\n") (refused_tokens (inr (omega arith)) outside_is)

@@ -4,16 +4,18 @@ use Rattle.std.proofs.lemmas.Fmt.{decimal_digit, decimal-digits_value}
 use Rattle.std.specs.Str.{IsAscii}
 use Rattle.std.proofs.lemmas.Str.Ascii.{IsAscii-from_all}
 use Rattle.std.proofs.lemmas.List.Elements.{All-from_recursion}
-use Rattle.spec_script.specs.Script.{question_form, Constituent, Query, has, tree, tokens_in, Command, opens, ask, Part, header, grammar}
+use Rattle.spec_script.specs.Script.{any_order, Constituent, Query, has, tree, tokens_in, Command, opens, ask, Part, header, grammar}
 use Rattle.spec_script.specs.Script.{of_command, Script, with_grammar, as_parts, text_of}
-use Rattle.spec_script.specs.Script.{line_of, IsWord, IsNameable, IsWithinLimits, AreQuestions}
+use Rattle.spec_script.specs.Script.{line_of, IsWord, IsNameable, IsWithinLimits}
 use Rattle.spec_script.specs.Script.{MayFollow, BeginsWithParts, BeginsWithScript, EndsAs, Ending}
 use Rattle.spec_script.specs.Script.{ended, broken, IsScript}
 use Rattle.spec_script.specs.declared.question.Constituent.TheVariants.{EntryWhole}
 use Rattle.spec_script.specs.declared.question.TokenSpan.TheVariants.{Whole, Span}
 use Rattle.spec_session.specs.Lines.{as_line}
 use Rattle.spec_session.specs.GrammarReplies.{grammar_reply}
-use Rattle.spec_session.specs.Steps.{version_reply, no_texts, IsReply}
+use Rattle.spec_session.specs.Steps.{version_reply, no_texts, IsReply, opened, open_already}
+use Rattle.spec_session.specs.TextRefusals.{IsFitText, HasTokens}
+use Rattle.std.proofs.lemmas.Str.{IsUtf8-from_ascii}
 use Rattle.spec_session.specs.Runs.{AreReplies}
 use Rattle.spec_session.specs.Sessions.{serve_mode, AreAllReplies, last_line, last_status, IsSession, whole}
 use Rattle.spec_session.specs.Checking.{lines_from, bare_form, check_mode}
@@ -24,9 +26,9 @@ use Rattle.spec_session_cases.proofs.GrammarExample.{rule_block, rule_grammar, a
 
 -- the answer to a question comes before those to others
 told : (query : Query) (line rest : List ℕ) (questions : List Command) →
-    IsReply rule_grammar one_text (ask query) line → AreTold rule_grammar one_text questions rest →
+    IsReply rule_grammar one_text (ask query) line one_text → AreTold rule_grammar one_text questions rest →
     AreTold rule_grammar one_text (ask query ∷ questions) (line ++ rest)
-told query line rest questions is others = (line, rest, one_text, is, refl, refl, others)
+told query line rest questions is others = (line, rest, one_text, is, refl, others)
 
 -- a part that has these bytes stands before other parts
 next : (part : Part) (bytes : List ℕ) (at end : ℕ) (parts : List Part) (more rest : List ℕ) →
@@ -64,11 +66,18 @@ script_with questions = with_grammar rule_block (opens (codes "a") ∷ questions
 
 -- where questions have these bytes and these answers, and the script ends so behind them
 module _ (questions : List Command) (asked answers last : List ℕ) (at : ℕ) (rest : List ℕ) (ending : Ending)
-    (in_order : AreQuestions questions) (begins : BeginsWithParts 38 asked (as_parts questions) at rest)
+    (begins : BeginsWithParts 38 asked (as_parts questions) at rest)
     (replies : AreTold rule_grammar one_text questions answers)
-    (ends : EndsAs question_form (script_with questions) at rest ending) (last_is : last ≡ last_line ending) where
+    (ends : EndsAs any_order (script_with questions) at rest ending) (last_is : last ≡ last_line ending) where
   ascii : IsAscii (codes "a")
   ascii = IsAscii-from_all (codes "a") (All-from_recursion (λ (byte : ℕ). byte < 128) (codes "a") (omega arith, tt))
+
+  -- the text fits, and so do its tokens
+  fit_text : IsFitText (codes "a")
+  fit_text = record { few = omega arith; utf8 = IsUtf8-from_ascii (codes "a") ascii }
+
+  has_tokens : HasTokens rule_grammar.lexicon (codes "a") one_token
+  has_tokens = record { are_tokens = are_tokens; few = omega arith }
 
   -- the input begins with the script
   begins_all : BeginsWithScript (front ++ asked) (script_with questions) at rest
@@ -79,19 +88,19 @@ module _ (questions : List Command) (asked answers last : List ℕ) (at : ℕ) (
       (omega arith) (omega arith)
       (next (of_command (opens (codes "a"))) (codes "open 1\na\n") 29 at (as_parts questions) asked rest
       (ap (λ digits. (codes "open " ++ digits) ++ codes "\na\n") (decimal_digit 1 (omega arith)))
-      (omega arith) (omega arith, ascii) begins))
+      (omega arith) (omega arith) begins))
 
   -- the text and the questions have these replies
   all_replies : AreReplies rule_grammar no_texts (opens (codes "a") ∷ questions) (version ++ answers)
   all_replies =
       replies_told rule_grammar no_texts (opens (codes "a") ∷ questions) (version ++ answers)
-      (version, answers, one_text, (one_token, are_tokens, version_is), refl, refl, replies)
+      (version, answers, one_text, opened one_token refl fit_text has_tokens version_is refl, refl, replies)
 
   -- the session is these replies and the last line
   pub small_session : IsSession serve_mode (front ++ asked) (front_replies ++ (answers ++ last)) (last_status ending)
   small_session =
-      let script : IsScript question_form (front ++ asked) (script_with questions) ending =
-      record { at = at; rest = rest; in_order = in_order; begins = begins_all; ends = ends } in
+      let script : IsScript any_order (front ++ asked) (script_with questions) ending =
+      record { at = at; rest = rest; in_order = tt; begins = begins_all; ends = ends } in
       let told_all : List ℕ = grammar_reply rule_grammar ++ (version ++ answers) in
       let out_is : front_replies ++ (answers ++ last) ≡ told_all ++ last_line ending =
       ap (λ bytes. (bytes ++ (version ++ answers)) ++ last) counts_are
@@ -128,7 +137,7 @@ span_within end small =
 -- a script without questions
 pub no_question : IsSession serve_mode (front ++ codes "end\n") (front_replies ++ codes "end\n") 0
 no_question =
-    small_session [] (codes "end\n") [] (codes "end\n") 38 (codes "end\n") ended tt (refl, refl) refl
+    small_session [] (codes "end\n") [] (codes "end\n") 38 (codes "end\n") ended (refl, refl) refl
     (record { more = []; early = omega arith; complete = tt; spelled = refl }) refl
 
 -- the questions of the whole session
@@ -166,7 +175,7 @@ pub whole_session : IsSession serve_mode
     (front ++ codes "has\nhas S\nhas S 0 0\nhas T\nhas S 0 2\nend\nhas")
     (front_replies ++ codes "yes\nyes\nno\nrefused category\nrefused span 1\nend\n") 0
 whole_session =
-    small_session questions _ (codes "yes\nyes\nno\nrefused category\nrefused span 1\n") (codes "end\n") 74 (codes "end\nhas") ended tt
+    small_session questions _ (codes "yes\nyes\nno\nrefused category\nrefused span 1\n") (codes "end\n") 74 (codes "end\nhas") ended
     questions_begin questions_told
     (record { more = codes "has"; early = omega arith; complete = tt; spelled = refl }) refl
 
@@ -210,7 +219,7 @@ pub token_session : IsSession serve_mode
     (front ++ codes "tokens\ntokens 1 1\ntokens 0 2\nend\n")
     (front_replies ++ codes "tokens 1 word:a\ntokens 0\nrefused span 1\nend\n") 0
 token_session =
-    small_session token_questions _ (codes "tokens 1 word:a\ntokens 0\nrefused span 1\n") (codes "end\n") 67 (codes "end\n") ended tt
+    small_session token_questions _ (codes "tokens 1 word:a\ntokens 0\nrefused span 1\n") (codes "end\n") 67 (codes "end\n") ended
     token_questions_begin token_questions_told
     (record { more = []; early = omega arith; complete = tt; spelled = refl }) refl
 
@@ -270,35 +279,30 @@ pub tree_session : IsSession serve_mode
     (front ++ codes "tree\ntree S 0 0\ntree T 1 0\ntree S 0 2\nend\n")
     (front_replies ++ codes "(A)\nnone\nrefused category\nrefused span 1\nend\n") 0
 tree_session =
-    small_session tree_questions _ (codes "(A)\nnone\nrefused category\nrefused span 1\n") (codes "end\n") 76 (codes "end\n") ended tt
+    small_session tree_questions _ (codes "(A)\nnone\nrefused category\nrefused span 1\n") (codes "end\n") 76 (codes "end\n") ended
     tree_questions_begin tree_questions_told
     (record { more = []; early = omega arith; complete = tt; spelled = refl }) refl
 
--- a second text is no question
-no_second : (part : Part) (more : List ℕ) → MayFollow question_form (script_with (ask (has category_s) ∷ [])) part →
-    codes "open 1\na\nend\n" ≡ text_of part ++ more → ⊥
-no_second header more in_place e = in_place
-no_second (grammar block) more in_place e = in_place
-no_second (of_command (opens text)) more in_place e = in_place
-no_second (of_command (ask (has constituent))) more in_place e = omega (arith, ap (λ bytes. get_or bytes 0 0) e)
-no_second (of_command (ask (tree constituent))) more in_place e = omega (arith, ap (λ bytes. get_or bytes 0 0) e)
-no_second (of_command (ask (tokens_in span))) more in_place e = omega (arith, ap (λ bytes. get_or bytes 0 0) e)
-
--- a script that breaks at a place of two digits
-refused_line : codes "script refused 44\n" ≡ last_line (broken 44)
-refused_line =
-    ap (λ digits. codes "script refused " ++ as_line digits)
-    (sym (decimal-digits_value model (codes "44") refl (omega arith) (λ e. omega (arith, e)) (omega arith)))
-
--- behind a question no text follows
+-- a second text is refused
 pub second_text : IsSession serve_mode
-    (front ++ codes "has S\nopen 1\na\nend\n") (front_replies ++ codes "yes\nscript refused 44\n") 3
+    (front ++ codes "open 1\na\nhas S\nend\n") (front_replies ++ codes "refused open\nyes\nend\n") 0
 second_text =
-    small_session (ask (has category_s) ∷ []) _ (codes "yes\n") (codes "script refused 44\n") 44 (codes "open 1\na\nend\n") (broken 44) tt
-    (next (of_command (ask (has category_s))) (codes "has S\n") 38 44 [] _ _ refl (omega arith) (word_s, omega arith) (refl, refl))
-    (told (has category_s) (codes "yes\n") [] [] category_reply refl)
-    (refl, (λ go. no_second go.part go.more go.in_place go.spelled), (λ end. omega (arith, ap (λ bytes. get_or bytes 0 0) end.spelled)))
-    refused_line
+    let second : Command = opens (codes "a") in
+    let asked = next (of_command (ask (has category_s))) (codes "has S\n") 47 53 [] (codes "end\n") (codes "end\n")
+    refl (omega arith) (word_s, omega arith) (refl, refl) in
+    small_session (second ∷ ask (has category_s) ∷ []) _ (codes "refused open\nyes\n") (codes "end\n") 53 (codes "end\n") ended
+    (next (of_command second) (codes "open 1\na\n") 38 53 (as_parts (ask (has category_s) ∷ [])) (codes "has S\nend\n") (codes "end\n")
+    (ap (λ digits. (codes "open " ++ digits) ++ codes "\na\n") (decimal_digit 1 (omega arith)))
+    (omega arith) (omega arith) asked)
+    (
+      codes "refused open\n",
+      codes "yes\n",
+      one_text,
+      open_already (codes "a", ([], refl)) refl refl,
+      refl,
+      told (has category_s) (codes "yes\n") [] [] category_reply refl,
+    )
+    (record { more = []; early = omega arith; complete = tt; spelled = refl }) refl
 
 -- the line of the rule
 rule_lines_are : codes "0 A S ::= \"a\"\n" ≡ lines_from rule_grammar 0 rule_grammar.rules

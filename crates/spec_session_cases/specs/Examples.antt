@@ -47,9 +47,9 @@ pub record SmallSessions : Type 0 where
   pub tree_session : IsSession serve_mode
       (front ++ codes "tree\ntree S 0 0\ntree T 1 0\ntree S 0 2\nend\n")
       (front_replies ++ codes "(A)\nnone\nrefused category\nrefused span 1\nend\n") 0
-  -- a second text breaks the script behind the replies to what stands before it
-  pub second_text : IsSession serve_mode (front ++ codes "has S\nopen 1\na\nend\n")
-      (front_replies ++ codes "yes\nscript refused 44\n") 3
+  -- a second text is refused, and nothing changes
+  pub second_text : IsSession serve_mode (front ++ codes "open 1\na\nhas S\nend\n")
+      (front_replies ++ codes "refused open\nyes\nend\n") 0
   -- in the mode `check` the rule has a line behind the reply to its grammar
   pub checked_grammar : IsSession check_mode (codes "script 1\ngrammar 9\nA.S::=\"a\"\nend\n")
       (codes "grammar rules 1 categories 1 kinds 1\n0 A S ::= \"a\"\nend\n") 0

@@ -1,15 +1,15 @@
 -- One command of a session: a reply is said, the session ends, or it stops here.
-use Rattle.std.proofs.Common.{ℕ, List, Option, subst}
+use Rattle.std.proofs.Common.{ℕ, List, Option, subst, arith, ◌≤◌, ◌<◌}
 use Rattle.cyk_io.specs.Streams.{coming}
 use Rattle.spec_script.specs.Script.{with_grammar}
 use Rattle.spec_session.specs.Runs.{commands_of, state_after}
 use Rattle.spec_session.specs.Steps.{no_texts}
 use Rattle.script_reader.specs.Reading.{TakesCommand}
 use Rattle.script_reader.specs.declared.command.Command.{Command}
+use Rattle.script_reader.proofs.ReadingLemmas.{command_range}
 use Rattle.script_reader.specs.declared.stop.Stop.TheVariants.{Fault}
 use Rattle.chart_service.specs.declared.ending.EarlyEnd.TheVariants.{Stopped}
 use Rattle.cyk_io.specs.declared.fault.IoFault.TheVariants.{Write}
-use Rattle.chart_service.specs.Sessions.{is_open}
 use Rattle.chart_service.specs.Replying.{bytes_of}
 use Rattle.chart_service.specs.Progress.{EndsEarly}
 use Rattle.chart_service.proofs.ToldLemmas.{err_given, other_error}
@@ -28,28 +28,70 @@ returns-in_err-flush_unless-clause-err g c input before r =
     c.args.replies.now c.args.session.now r (g.K.Sink.written c.flush_unless.new.sink)
     c.in_err-flush_unless.ensures.err)
 
+pub returns-in_err-head-clause-err : goal.returns-in_err-head-clause-err
+returns-in_err-head-clause-err g c input before r =
+    let comes : Option (List ℕ) = coming c.args.ahead.now (g.S.Source.left c.args.source.now) in
+    let on = running_on input before comes c.args.ahead.now.offset (g.K.Sink.written c.args.sink.now)
+    c.args.replies.now c.args.session.now r (g.K.Sink.written c.flush_unless.new.sink)
+    c.flush_unless.new.self c.in_ok-flush_unless.ensures.ok in
+    err_given (EndsEarly input before (g.K.Sink.written c.flush_unless.new.sink) c.flush_unless.new.self)
+    (Stopped c.in_err-head.field-0.0) c.from_residual-in_err-head.result
+    c.from_residual-in_err-head.ensures.1
+    (running_stops input before comes c.args.ahead.now.offset (g.K.Sink.written c.flush_unless.new.sink)
+    c.flush_unless.new.self c.args.session.now on c.in_err-head.field-0.0
+    (c.in_err-head.ensures.err (with_grammar on.block (commands_of on.steps)) tt))
+
+pub returns-in_err-head-clause-write : goal.returns-in_err-head-clause-write
+returns-in_err-head-clause-write g c =
+    let comes : Option (List ℕ) = coming c.args.ahead.now (g.S.Source.left c.args.source.now) in
+    let never = reads_only some_script.0 c.args.ahead.now.offset comes c.in_err-head.field-0.0
+    (c.in_err-head.ensures.err some_script.0 some_script.1) in
+    record {
+      later = c.in_ok-flush_unless.ensures.cause.later;
+      cause = λ e. absurd (other_error c.from_residual-in_err-head.result (Stopped c.in_err-head.field-0.0)
+          (Stopped (Fault Write)) c.from_residual-in_err-head.ensures.1 (λ same. never (let e = same in cc)) e);
+    }
+
+pub returns-in_err-flush_unless-2-clause-err : goal.returns-in_err-flush_unless-2-clause-err
+returns-in_err-flush_unless-2-clause-err g c input before r =
+    let comes : Option (List ℕ) = coming c.args.ahead.now (g.S.Source.left c.args.source.now) in
+    let on = running_on input before comes c.args.ahead.now.offset (g.K.Sink.written c.args.sink.now)
+    c.args.replies.now c.args.session.now r (g.K.Sink.written c.flush_unless.new.sink)
+    c.flush_unless.new.self c.in_ok-flush_unless.ensures.ok in
+    err_given (EndsEarly input before (g.K.Sink.written c.flush_unless-2.new.sink) c.flush_unless-2.new.self)
+    (Stopped (Fault c.in_err-flush_unless-2.field-0.0)) c.from_residual-in_err-flush_unless-2.result
+    c.from_residual-in_err-flush_unless-2.ensures.1
+    (cut_running input before comes c.args.ahead.now.offset (g.K.Sink.written c.flush_unless.new.sink)
+    c.flush_unless.new.self c.args.session.now on (g.K.Sink.written c.flush_unless-2.new.sink)
+    c.in_err-flush_unless-2.ensures.err)
+
 pub returns-in_err-command-clause-err : goal.returns-in_err-command-clause-err
 returns-in_err-command-clause-err g c input before r =
     let comes : Option (List ℕ) = coming c.args.ahead.now (g.S.Source.left c.args.source.now) in
     let on = running_on input before comes c.args.ahead.now.offset (g.K.Sink.written c.args.sink.now)
     c.args.replies.now c.args.session.now r (g.K.Sink.written c.flush_unless.new.sink)
     c.flush_unless.new.self c.in_ok-flush_unless.ensures.ok in
-    err_given (EndsEarly input before (g.K.Sink.written c.flush_unless.new.sink) c.flush_unless.new.self)
+    let later = running_on input before comes c.args.ahead.now.offset (g.K.Sink.written c.flush_unless.new.sink)
+    c.flush_unless.new.self c.args.session.now on (g.K.Sink.written c.flush_unless-2.new.sink)
+    c.flush_unless-2.new.self c.in_ok-flush_unless-2.ensures.ok in
+    err_given (EndsEarly input before (g.K.Sink.written c.flush_unless-2.new.sink) c.flush_unless-2.new.self)
     (Stopped c.in_err-command.field-0.0) c.from_residual-in_err-command.result
     c.from_residual-in_err-command.ensures.1
-    (running_stops input before comes c.args.ahead.now.offset (g.K.Sink.written c.flush_unless.new.sink)
-    c.flush_unless.new.self c.args.session.now on c.in_err-command.field-0.0
-    (rw c.is_open-2.ensures at c.in_err-command.ensures.err
-    (with_grammar on.block (commands_of on.steps)) on.tells_open))
+    (running_stops input before comes c.args.ahead.now.offset (g.K.Sink.written c.flush_unless-2.new.sink)
+    c.flush_unless-2.new.self c.args.session.now later c.in_err-command.field-0.0
+    ((rw c.offset-at.ensures.offset at c.in_err-command.ensures.err) comes c.in_ok-head.ensures.ok
+    (with_grammar later.block (commands_of later.steps)) tt))
 
 pub returns-in_err-command-clause-write : goal.returns-in_err-command-clause-write
 returns-in_err-command-clause-write g c =
-    let script = some_script c.is_open-2.result in
     let comes : Option (List ℕ) = coming c.args.ahead.now (g.S.Source.left c.args.source.now) in
-    let never = reads_only script.0 c.args.ahead.now.offset comes c.in_err-command.field-0.0
-    (c.in_err-command.ensures.err script.0 script.1) in
+    let never = reads_only some_script.0 c.args.ahead.now.offset comes c.in_err-command.field-0.0
+    ((rw c.offset-at.ensures.offset at c.in_err-command.ensures.err) comes c.in_ok-head.ensures.ok
+    some_script.0 some_script.1) in
+    let first = c.in_ok-flush_unless.ensures.cause.later in
+    let second = c.in_ok-flush_unless-2.ensures.cause.later in
     record {
-      later = c.in_ok-flush_unless.ensures.cause.later;
+      later = omega (arith, first, second);
       cause = λ e. absurd (other_error c.from_residual-in_err-command.result (Stopped c.in_err-command.field-0.0)
           (Stopped (Fault Write)) c.from_residual-in_err-command.ensures.1 (λ same. never (let e = same in cc)) e);
     }
@@ -57,54 +99,112 @@ returns-in_err-command-clause-write g c =
 pub returns-then-is_end-clause-ok : goal.returns-then-is_end-clause-ok
 returns-then-is_end-clause-ok g c input before r =
     let comes : Option (List ℕ) = coming c.args.ahead.now (g.S.Source.left c.args.source.now) in
-    let next : Option (List ℕ) = coming c.read_command.new.ahead (g.S.Source.left c.read_command.new.source) in
-    let from : ℕ = c.args.ahead.now.offset in
-    let to : ℕ = c.read_command.new.ahead.offset in
     let on = running_on input before comes c.args.ahead.now.offset (g.K.Sink.written c.args.sink.now)
     c.args.replies.now c.args.session.now r (g.K.Sink.written c.flush_unless.new.sink)
     c.flush_unless.new.self c.in_ok-flush_unless.ensures.ok in
-    running_ends input before comes from (g.K.Sink.written c.flush_unless.new.sink) c.flush_unless.new.self
-    c.args.session.now on to next
-    (subst (λ (x : Command). TakesCommand (is_open c.args.session.now) from to comes next x)
-    (c.is_end.ensures.0 c.if-is_end.true) (rw c.is_open-2.ensures at c.in_ok-command.ensures.ok))
+    let later = running_on input before comes c.args.ahead.now.offset (g.K.Sink.written c.flush_unless.new.sink)
+    c.flush_unless.new.self c.args.session.now on (g.K.Sink.written c.flush_unless-2.new.sink)
+    c.flush_unless-2.new.self c.in_ok-flush_unless-2.ensures.ok in
+    let next : Option (List ℕ) = coming c.read_command.new.ahead (g.S.Source.left c.read_command.new.source) in
+    let from : ℕ = c.args.ahead.now.offset in
+    let to : ℕ = c.read_command.new.ahead.offset in
+    running_ends input before comes from (g.K.Sink.written c.flush_unless-2.new.sink) c.flush_unless-2.new.self
+    c.args.session.now later to next
+    (subst (λ (x : Command). TakesCommand from to comes next x)
+    (c.is_end.ensures.0 c.if-is_end.true) ((rw c.offset-at.ensures.offset at c.in_ok-command.ensures.ok) comes c.in_ok-head.ensures.ok))
+
+pub returns-then-is_end-clause-range : goal.returns-then-is_end-clause-range
+returns-then-is_end-clause-range g c =
+    let comes : Option (List ℕ) = coming c.args.ahead.now (g.S.Source.left c.args.source.now) in
+    let next : Option (List ℕ) = coming c.read_command.new.ahead (g.S.Source.left c.read_command.new.source) in
+    let range = command_range c.args.ahead.now.offset c.read_command.new.ahead.offset comes next
+    c.in_ok-command.command ((rw c.offset-at.ensures.offset at c.in_ok-command.ensures.ok) comes c.in_ok-head.ensures.ok) in
+    range
+
+pub returns-then-is_end-clause-few : goal.returns-then-is_end-clause-few
+returns-then-is_end-clause-few g c =
+    let comes : Option (List ℕ) = coming c.args.ahead.now (g.S.Source.left c.args.source.now) in
+    let next : Option (List ℕ) = coming c.read_command.new.ahead (g.S.Source.left c.read_command.new.source) in
+    let range = command_range c.args.ahead.now.offset c.read_command.new.ahead.offset comes next
+    c.in_ok-command.command ((rw c.offset-at.ensures.offset at c.in_ok-command.ensures.ok) comes c.in_ok-head.ensures.ok) in
+    omega (arith, range.0, c.requires.few)
+
+pub reply-reply-requires-clause-can_reply : goal.reply-reply-requires-clause-can_reply
+reply-reply-requires-clause-can_reply g c κs within =
+    let comes : Option (List ℕ) = coming c.args.ahead.now (g.S.Source.left c.args.source.now) in
+    let next : Option (List ℕ) = coming c.read_command.new.ahead (g.S.Source.left c.read_command.new.source) in
+    let read = command_read c.args.ahead.now.offset c.read_command.new.ahead.offset comes next c.in_ok-command.command
+    ((rw c.offset-at.ensures.offset at c.in_ok-command.ensures.ok) comes c.in_ok-head.ensures.ok)
+    (not_end c.is_end.result c.is_end.ensures.1 c.if-is_end.false) in
+    (read.0, read.1)
 
 pub returns-in_err-say-clause-err : goal.returns-in_err-say-clause-err
 returns-in_err-say-clause-err g c input before r =
     let comes : Option (List ℕ) = coming c.args.ahead.now (g.S.Source.left c.args.source.now) in
-    let next : Option (List ℕ) = coming c.read_command.new.ahead (g.S.Source.left c.read_command.new.source) in
     let on = running_on input before comes c.args.ahead.now.offset (g.K.Sink.written c.args.sink.now)
     c.args.replies.now c.args.session.now r (g.K.Sink.written c.flush_unless.new.sink)
     c.flush_unless.new.self c.in_ok-flush_unless.ensures.ok in
-    let read = command_read c.in_ok-command.command (not_end c.is_end.result c.is_end.ensures.1 c.if-is_end.false) in
+    let later = running_on input before comes c.args.ahead.now.offset (g.K.Sink.written c.flush_unless.new.sink)
+    c.flush_unless.new.self c.args.session.now on (g.K.Sink.written c.flush_unless-2.new.sink)
+    c.flush_unless-2.new.self c.in_ok-flush_unless-2.ensures.ok in
+    let next : Option (List ℕ) = coming c.read_command.new.ahead (g.S.Source.left c.read_command.new.source) in
+    let read = command_read c.args.ahead.now.offset c.read_command.new.ahead.offset comes next c.in_ok-command.command
+    ((rw c.offset-at.ensures.offset at c.in_ok-command.ensures.ok) comes c.in_ok-head.ensures.ok)
+    (not_end c.is_end.result c.is_end.ensures.1 c.if-is_end.false) in
     err_given (EndsEarly input before (g.K.Sink.written c.say.new.sink) c.say.new.replies)
     (Stopped (Fault c.in_err-say.field-0.0)) c.from_residual-in_err-say.result
     c.from_residual-in_err-say.ensures.1
-    (cut_reply input before comes c.args.ahead.now.offset (g.K.Sink.written c.flush_unless.new.sink)
-    c.flush_unless.new.self c.args.session.now on c.in_ok-command.command c.read_command.new.ahead.offset next
-    (rw c.is_open-2.ensures at c.in_ok-command.ensures.ok) read.0 read.1 (bytes_of c.reply-reply.new.self)
+    (cut_reply input before comes c.args.ahead.now.offset (g.K.Sink.written c.flush_unless-2.new.sink)
+    c.flush_unless-2.new.self c.args.session.now later c.read_command.new.ahead.offset next
+    read.0 read.2 (bytes_of c.reply-reply.new.self)
     c.reply-reply.new.self c.reply-reply.ensures.language c.reply-reply.result
-    (c.reply-reply.ensures.ok (state_after no_texts on.steps) read.0 on.is_in read.1)
+    (c.reply-reply.ensures.ok (state_after no_texts later.steps) read.0 later.is_in read.1)
     (g.K.Sink.written c.say.new.sink) c.in_err-say.ensures.err)
 
 pub returns-clause-ok : goal.returns-clause-ok
 returns-clause-ok g c input before r =
     let comes : Option (List ℕ) = coming c.args.ahead.now (g.S.Source.left c.args.source.now) in
-    let next : Option (List ℕ) = coming c.read_command.new.ahead (g.S.Source.left c.read_command.new.source) in
     let on = running_on input before comes c.args.ahead.now.offset (g.K.Sink.written c.args.sink.now)
     c.args.replies.now c.args.session.now r (g.K.Sink.written c.flush_unless.new.sink)
     c.flush_unless.new.self c.in_ok-flush_unless.ensures.ok in
-    let read = command_read c.in_ok-command.command (not_end c.is_end.result c.is_end.ensures.1 c.if-is_end.false) in
-    running_said input before comes c.args.ahead.now.offset (g.K.Sink.written c.flush_unless.new.sink)
-    c.flush_unless.new.self c.args.session.now on c.in_ok-command.command c.read_command.new.ahead.offset next
-    (rw c.is_open-2.ensures at c.in_ok-command.ensures.ok) read.0 read.1 (bytes_of c.reply-reply.new.self)
+    let later = running_on input before comes c.args.ahead.now.offset (g.K.Sink.written c.flush_unless.new.sink)
+    c.flush_unless.new.self c.args.session.now on (g.K.Sink.written c.flush_unless-2.new.sink)
+    c.flush_unless-2.new.self c.in_ok-flush_unless-2.ensures.ok in
+    let next : Option (List ℕ) = coming c.read_command.new.ahead (g.S.Source.left c.read_command.new.source) in
+    let read = command_read c.args.ahead.now.offset c.read_command.new.ahead.offset comes next c.in_ok-command.command
+    ((rw c.offset-at.ensures.offset at c.in_ok-command.ensures.ok) comes c.in_ok-head.ensures.ok)
+    (not_end c.is_end.result c.is_end.ensures.1 c.if-is_end.false) in
+    running_said input before comes c.args.ahead.now.offset (g.K.Sink.written c.flush_unless-2.new.sink)
+    c.flush_unless-2.new.self c.args.session.now later c.read_command.new.ahead.offset next
+    read.0 read.2 (bytes_of c.reply-reply.new.self)
     c.reply-reply.new.self c.reply-reply.ensures.language c.reply-reply.result
-    (c.reply-reply.ensures.ok (state_after no_texts on.steps) read.0 on.is_in read.1)
+    (c.reply-reply.ensures.ok (state_after no_texts later.steps) read.0 later.is_in read.1)
     (g.K.Sink.written c.say.new.sink) c.say.new.replies c.in_ok-say.ensures.ok
+
+pub returns-clause-range : goal.returns-clause-range
+returns-clause-range g c =
+    let comes : Option (List ℕ) = coming c.args.ahead.now (g.S.Source.left c.args.source.now) in
+    let next : Option (List ℕ) = coming c.read_command.new.ahead (g.S.Source.left c.read_command.new.source) in
+    let range = command_range c.args.ahead.now.offset c.read_command.new.ahead.offset comes next
+    c.in_ok-command.command ((rw c.offset-at.ensures.offset at c.in_ok-command.ensures.ok) comes c.in_ok-head.ensures.ok) in
+    range
+
+pub returns-clause-few : goal.returns-clause-few
+returns-clause-few g c =
+    let comes : Option (List ℕ) = coming c.args.ahead.now (g.S.Source.left c.args.source.now) in
+    let next : Option (List ℕ) = coming c.read_command.new.ahead (g.S.Source.left c.read_command.new.source) in
+    let range = command_range c.args.ahead.now.offset c.read_command.new.ahead.offset comes next
+    c.in_ok-command.command ((rw c.offset-at.ensures.offset at c.in_ok-command.ensures.ok) comes c.in_ok-head.ensures.ok) in
+    omega (arith, range.0, c.requires.few, c.reply-reply.ensures.texts)
 
 pub returns-clause-is_in : goal.returns-clause-is_in
 returns-clause-is_in g c =
-    let read = command_read c.in_ok-command.command (not_end c.is_end.result c.is_end.ensures.1 c.if-is_end.false) in
+    let comes : Option (List ℕ) = coming c.args.ahead.now (g.S.Source.left c.args.source.now) in
+    let next : Option (List ℕ) = coming c.read_command.new.ahead (g.S.Source.left c.read_command.new.source) in
+    let read = command_read c.args.ahead.now.offset c.read_command.new.ahead.offset comes next c.in_ok-command.command
+    ((rw c.offset-at.ensures.offset at c.in_ok-command.ensures.ok) comes c.in_ok-head.ensures.ok)
+    (not_end c.is_end.result c.is_end.ensures.1 c.if-is_end.false) in
     says_in c.reply-reply.new.self c.requires.is_in.0 read.0 (bytes_of c.reply-reply.new.self)
     c.reply-reply.result (c.reply-reply.ensures.ok c.requires.is_in.0 read.0 c.requires.is_in.1 read.1)
-    (g.K.Sink.written c.flush_unless.new.sink) (g.K.Sink.written c.say.new.sink) c.flush_unless.new.self
+    (g.K.Sink.written c.flush_unless-2.new.sink) (g.K.Sink.written c.say.new.sink) c.flush_unless-2.new.self
     c.say.new.replies c.in_ok-say.ensures.ok

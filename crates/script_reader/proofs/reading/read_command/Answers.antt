@@ -1,26 +1,36 @@
--- Where a text is open a question is read, and else a text.
-use Rattle.std.proofs.lemmas.Result.{err_from_is_err_and, IfOk-weaker}
+-- What stands behind the line of a command is its block, where it has one.
+use Rattle.std.proofs.Common.{refl}
+use Rattle.std.proofs.lemmas.Result.{err_from_is_err_and}
 use Rattle.cyk_io.specs.Streams.{coming}
-use Rattle.spec_script.specs.Script.{opens, of_command}
-use Rattle.script_reader.proofs.ReadingLemmas.{part_range, question_range}
+use Rattle.script_reader.proofs.LinesAndBlocksLemmas.{stops_weaker}
+use Rattle.script_reader.proofs.ReadingLemmas.{no_open_block, no_edit_block, edit_taken}
 use Rattle.script_reader.proofs.reading.read_command.Goals as goal
 
-pub returns-then-is_open-clause-range : goal.returns-then-is_open-clause-range
-returns-then-is_open-clause-range g c =
-    IfOk-weaker c.read_question.result _ _
-    (question_range c.args.ahead.now.offset c.read_question.new.ahead.offset
-    (coming c.args.ahead.now (g.S.Source.left c.args.source.now))
-    (coming c.read_question.new.ahead (g.S.Source.left c.read_question.new.source)))
-    c.read_question.ensures.ok
-
-pub returns-clause-range : goal.returns-clause-range
-returns-clause-range g c =
-    part_range c.args.ahead.now.offset c.read_text.new.ahead.offset
-    (coming c.args.ahead.now (g.S.Source.left c.args.source.now))
-    (coming c.read_text.new.ahead (g.S.Source.left c.read_text.new.source))
-    (of_command (opens c.in_ok-text.text.items)) c.in_ok-text.ensures.ok
-
-pub returns-in_err-text-clause-err : goal.returns-in_err-text-clause-err
-returns-in_err-text-clause-err g c script tells =
+pub returns-in_err-block-in-Open-clause-err : goal.returns-in_err-block-in-Open-clause-err
+returns-in_err-block-in-Open-clause-err g c before t script complete =
     let p = err_from_is_err_and c.from_residual.result c.from_residual.ensures.1 in
-    rw (p.1, p.2) (c.in_err-text.ensures.err script (rw c.if-is_open.false at tells))
+    rw (p.1, p.2)
+    (stops_weaker c.args.at _ refl _ _
+    (no_open_block c.args.at c.args.ahead.now.offset before
+    (coming c.args.ahead.now (g.S.Source.left c.args.source.now)) script complete c.in-Open.count
+    (rw c.in-Open.is at t))
+    c.in_err-block-in-Open.field-0.0 c.in_err-block-in-Open.ensures.err)
+
+pub returns-in_err-block-in-Edit-clause-err : goal.returns-in_err-block-in-Edit-clause-err
+returns-in_err-block-in-Edit-clause-err g c before t script complete =
+    let p = err_from_is_err_and c.from_residual-in_err-block-in-Edit.result
+    c.from_residual-in_err-block-in-Edit.ensures.1 in
+    rw (p.1, p.2)
+    (stops_weaker c.args.at _ refl _ _
+    (no_edit_block c.args.at c.args.ahead.now.offset before
+    (coming c.args.ahead.now (g.S.Source.left c.args.source.now)) script complete c.in-Edit.splice
+    (rw c.in-Edit.is at t))
+    c.in_err-block-in-Edit.field-0.0 c.in_err-block-in-Edit.ensures.err)
+
+pub returns-in_ok-block-in-Edit-clause-ok : goal.returns-in_ok-block-in-Edit-clause-ok
+returns-in_ok-block-in-Edit-clause-ok g c before t =
+    edit_taken c.args.at c.args.ahead.now.offset before
+    (coming c.args.ahead.now (g.S.Source.left c.args.source.now))
+    c.read_block-in-Edit.new.ahead.offset
+    (coming c.read_block-in-Edit.new.ahead (g.S.Source.left c.read_block-in-Edit.new.source))
+    c.in_ok-block-in-Edit.block c.in-Edit.splice (rw c.in-Edit.is at t) c.in_ok-block-in-Edit.ensures.ok

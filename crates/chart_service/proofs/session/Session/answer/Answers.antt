@@ -9,14 +9,14 @@ pub answer_to-requires-clause-opened : goal.answer_to-requires-clause-opened
 answer_to-requires-clause-opened g c κs within =
     opened_now c.args.self.now c.in-Some.version c.in-Some.is c.requires.is_in.0 c.requires.is_in.1
 
-pub returns-clause-says : goal.returns-clause-says
-returns-clause-says g c =
+pub returns-in-Some-clause-says : goal.returns-in-Some-clause-says
+returns-in-Some-clause-says g c =
     if_ok (Answers c.args.self.now.language c.in-Some.version.text (query_of c.args.query.now))
     (CanSay c.args.self.now)
     (λ reply a. can_say c.args.self.now c.in-Some.version c.in-Some.is reply a.1) c.answer_to.result
     c.answer_to.ensures
 
-pub returns-clause-ok : goal.returns-clause-ok
-returns-clause-ok g c state i =
+pub returns-in-Some-clause-ok : goal.returns-in-Some-clause-ok
+returns-in-Some-clause-ok g c state i =
     answered_in c.args.self.now c.in-Some.version c.in-Some.is state i (query_of c.args.query.now)
     c.answer_to.result c.answer_to.ensures
