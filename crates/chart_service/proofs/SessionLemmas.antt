@@ -222,8 +222,11 @@ module _ {C : Type 0} (old : Session C) (state : State) (i : IsIn old state) whe
     put_in : IsIn new (with_text state bytes)
     put_in = record {
       texts = omega (arith, put.texts, i.texts, length-append state.texts (bytes ∷ []));
-      current = subst Keeps (sym put.current) (bytes, (state.texts, refl),
-          subst (λ (g : Grammar). IsVersionOf g bytes put.version) (sym language) version_is);
+      current = subst Keeps (sym put.current) (
+        bytes,
+        (state.texts, refl),
+        subst (λ (g : Grammar). IsVersionOf g bytes put.version) (sym language) version_is,
+      );
     }
 
     -- and a command that leaves it so is replied to

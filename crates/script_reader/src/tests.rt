@@ -28,7 +28,10 @@ fn read_all(alloc: Global, source: &mut CleanSource) -> Result<(), Stop> {
 fn a_break_has_the_offset_of_its_part(rt: HostRuntime) -> Result<(), Fail> {
     let cases = [
         (b"open 2\nab\nhas\nhas E 0 2\nend\n".as_slice(), Ok(())),
-        (b"has\nedit 0 1 2\nab\nopen 1\n\xff\nend\n".as_slice(), Ok(())),
+        (
+            b"has\nedit 0 1 2\nab\nopen 1\n\xff\nend\n".as_slice(),
+            Ok(()),
+        ),
         (b"end\n".as_slice(), Ok(())),
         (b"open 2\nab\n".as_slice(), Err(Stop::Breaks(33))),
         (b"open 02\nab\n".as_slice(), Err(Stop::Breaks(23))),

@@ -293,8 +293,7 @@ second_text =
     small_session (second ∷ ask (has category_s) ∷ []) _ (codes "refused open\nyes\n") (codes "end\n") 53 (codes "end\n") ended
     (next (of_command second) (codes "open 1\na\n") 38 53 (as_parts (ask (has category_s) ∷ [])) (codes "has S\nend\n") (codes "end\n")
     (ap (λ digits. (codes "open " ++ digits) ++ codes "\na\n") (decimal_digit 1 (omega arith)))
-    (omega arith) (omega arith) asked)
-    (
+    (omega arith) (omega arith) asked) (
       codes "refused open\n",
       codes "yes\n",
       one_text,
