@@ -9,19 +9,23 @@ use std::test::Fail;
 
 const GRAMMAR: &[u8] = b"script 1\ngrammar 3\nabc\n";
 
-/// Reads a script through its line `end`, or to where it stops.
+/// Reads a script of at most 20 commands through its line `end`, or to where it stops.
 fn read_all(alloc: Global, source: &mut CleanSource) -> Result<(), Stop> {
     let mut ahead = Ahead::new();
     let mut line: Line<MAX_LINE> = Line::new();
     read_header(source, &mut ahead, &mut line)?;
     read_grammar(alloc, source, &mut ahead, &mut line)?;
-    loop {
+    for _ in 0..20 {
         let at = ahead.offset();
+        if at >= 1 << 50 {
+            break;
+        }
         let head = read_head(source, &mut ahead, &mut line)?;
         if let Command::End = read_command(alloc, source, &mut ahead, head, at)? {
             return Ok(());
         }
     }
+    Err(Stop::Breaks(0))
 }
 
 #[test]
