@@ -142,8 +142,13 @@ fn each_way_to_end_has_its_last_line(rt: HostRuntime) -> Result<(), Fail> {
         ),
         (
             b"script 1\ngrammar 0\n\nend\n".as_slice(),
+            0,
+            b"grammar rules 0 categories 0 kinds 0\nend\n".as_slice(),
+        ),
+        (
+            b"script 1\ngrammar 0\n\nedit 0 0 0\n\n".as_slice(),
             3,
-            b"grammar rules 0 categories 0 kinds 0\nscript refused 20\n".as_slice(),
+            b"grammar rules 0 categories 0 kinds 0\nrefused closed\nscript refused 32\n".as_slice(),
         ),
     ];
     for (script, expected, session) in rows {
