@@ -1,5 +1,5 @@
 #!/usr/bin/env bash
-# Prints a script: the grammar NAME.cf of this folder, the text NAME.txt, and the questions NAME.ask.
+# Prints a script: the grammar NAME.cf of this folder, the text NAME.txt, and the commands NAME.ask.
 #   bash examples/script.sh json | bin/lbnfchart serve
 cd "$(dirname "$0")" || exit 1
 name=$1
