@@ -356,7 +356,8 @@ def fault(command, session):
         wanted[0] = line or wanted[0].replace(b'version 0', b'version %d' % number)
         for asked, had, owed in zip([sort.encode()] + questions, lines[at:], wanted):
             if had != owed:
-                return f'{before!r} behind the edit {edit!r}, {asked!r}: {had!r} in place of {owed!r}'
+                named = edit and f'edit {edit[0]} {edit[1]} {edit[2][:80]!r}'
+                return f'{asked!r}: {had!r} in place of {owed!r} behind {named} of {before!r}'
         at, before = at + len(wanted), text
     return None
 

@@ -27,7 +27,7 @@ PLAIN = [chr(c) for c in range(32, 127) if chr(c) not in '"\\'] + ['\x7f', '\x80
 ESCAPED = ['\\"', '\\\\', '\\/', '\\b', '\\f', '\\n', '\\r', '\\t', '\\u0041', '\\uD83d', '\\u00e9']
 # The bytes that break a text: all of ASCII but the two that are white space here alone.
 BREAKING = [chr(c) for c in range(128) if c not in (11, 12)]
-MOST = 4096
+MOST = 4096                                 # letters of a text
 
 
 def string(chance):
