@@ -4,14 +4,15 @@ import concurrent.futures
 
 
 def run(description, option, count, make, fault):
-    """Makes cases by a seed and as many as the option says, prints what is wrong with each and
-    `N passed, M failed`, and answers the exit status. `fault` gets the command and a case, and
+    """Makes cases by a seed and as many as the option says, prints the seed, what is wrong with each
+    and `N passed, M failed`, and answers the exit status. `fault` gets the command and a case, and
     answers None where nothing is wrong."""
     words = argparse.ArgumentParser(description=description, formatter_class=argparse.RawTextHelpFormatter)
     words.add_argument('command', nargs='+')
     words.add_argument('--' + option, type=int, default=count, dest='count')
     words.add_argument('--seed', type=int, default=1)
     given = words.parse_args()
+    print(f'seed {given.seed}')
     cases = make(given.seed, given.count)
     failed = 0
     with concurrent.futures.ThreadPoolExecutor() as pool:

@@ -23,11 +23,11 @@ import compared
 
 GRAMMAR = (pathlib.Path(__file__).resolve().parent.parent / 'examples' / 'json.cf').read_bytes()
 SPACES = ['', '', '', ' ', '\n', '\t ', '\r\n']
-PLAIN = [chr(c) for c in range(32, 127) if chr(c) not in '"\\'] + ['\x7f']
+PLAIN = [chr(c) for c in range(32, 127) if chr(c) not in '"\\'] + ['\x7f', '\x80', 'é', '€', '\ufeff', '😀']
 ESCAPED = ['\\"', '\\\\', '\\/', '\\b', '\\f', '\\n', '\\r', '\\t', '\\u0041', '\\uD83d', '\\u00e9']
 # The bytes that break a text: all of ASCII but the two that are white space here alone.
 BREAKING = [chr(c) for c in range(128) if c not in (11, 12)]
-MOST = 4096
+MOST = 4096                                 # letters of a text
 
 
 def string(chance):

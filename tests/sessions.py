@@ -11,6 +11,7 @@ import pathlib
 import subprocess
 import sys
 
+import edit_sessions
 import grammar_files
 
 # The beginning that most cases share, and the offsets that their breaks name:
@@ -143,12 +144,11 @@ for name, more in [
 ]:
     case(name, H + more, broken(9), 3)
 
-# ---- The text's line and block: every break is at 54, behind the grammar's reply.
+# ---- The text's line and block: every break is at 54, behind the grammar's reply, also where the
+# block is at fault.
 
 for name, more in [
     ('the input ends behind the grammar', b''),
-    ('the end before the text', b'end\n'),
-    ('a question before the text', b'has S 0 2\n'),
     ('a second grammar', b'grammar 33\n' + G + b'\n'),
     ('an empty line behind the grammar', b'\nopen 3\na a\nend\n'),
     ('a text line without its LF', b'open 3'),
@@ -157,7 +157,6 @@ for name, more in [
     ('a text with a space behind', b'open 3 \na a\nend\n'),
     ('a text line that ends in CR LF', b'open 3\r\na a\nend\n'),
     ('a text with a leading zero', b'open 03\na a\nend\n'),
-    ('a text of 4,097 bytes', b'open 4097\n' + b'a' * 4097 + b'\nend\n'),
     ('a text of ten digits', b'open 1000000000\na a\nend\n'),
     ('the input ends behind the line of the text', b'open 3\n'),
     ('the input ends inside the text', b'open 3\na '),
@@ -166,15 +165,24 @@ for name, more in [
     ('a text that is told one byte too short', b'open 2\na a\nend\n'),
     ('a text that is told one byte too long', b'open 4\na a\nend\n'),
     ('an empty text without its LF', b'open 0\n'),
-    ('the byte 80 in a text', b'open 3\na\x80a\nend\n'),
-    ('the byte FF at the end of a text', b'open 3\na \xff\nend\n'),
-    ('a letter of two bytes in a text', b'open 4\na \xc3\xa9\nend\n'),
     ('a line of 257 bytes behind the grammar', b'o' * 257 + b'\n'),
     ('a misspelt command', b'hass S\n'),
 ]:
     case(name, HG + more, broken(54, RULES), 3)
 
-# ---- The questions and the end: every break is at 65, behind the replies to grammar and text.
+# A block is read to its LF before anything is said of its command.
+for name, more, wanted in [
+    ('an edit before the text, whose block is cut short', b'edit 0 0 2\na', broken(54)),
+    ('an edit before the text, whose block has no LF', b'edit 0 0 1\na', broken(54)),
+    ('an edit before the text, whose block is told one byte too short', b'edit 0 0 1\naa\nend\n', broken(54)),
+    ('a question before the text, and nothing', b'has S 0 2\n', b'refused closed\n' + broken(64)),
+    ('a question before the text, and a break', b'has\nhass\n', b'refused closed\n' + broken(58)),
+    ('an edit before the text, and a break', b'edit 0 0 1\na\nopens 1\na\n', b'refused closed\n' + broken(67)),
+    ('a text that is no UTF-8, and a break', b'open 1\n\xff\nopens 1\na\n', b'refused utf8 0\n' + broken(63)),
+]:
+    case(name, HG + more, RULES + wanted, 3)
+
+# ---- Edits, questions and the end: every break is at 65, behind the replies to grammar and text.
 
 for name, more in [
     ('the input ends behind the text', b''),
@@ -183,11 +191,46 @@ for name, more in [
     ('an end behind a space', b' end\n'),
     ('an end that ends in CR LF', b'end\r\n'),
     ('an end in upper case', b'END\n'),
-    ('a second text', b'open 3\na a\nend\n'),
     ('a grammar behind the text', b'grammar 33\n' + G + b'\nend\n'),
     ('a header behind the text', b'script 1\nend\n'),
     ('an empty line behind the text', b'\nend\n'),
-    ('an edit', b'edit 0 1 1\nb\nend\n'),
+    ('a second text that is told one byte too short', b'open 2\na a\nend\n'),
+    ('a second text without its LF', b'open 3\na a'),
+    ('an edit without numbers', b'edit\nb\nend\n'),
+    ('an edit with one number', b'edit 1\nb\nend\n'),
+    ('an edit with two numbers', b'edit 0 1\nb\nend\n'),
+    ('an edit with four numbers', b'edit 0 1 1 1\nb\nend\n'),
+    ('an edit with a space behind', b'edit 0 1 1 \nb\nend\n'),
+    ('an edit behind a space', b' edit 0 1 1\nb\nend\n'),
+    ('an edit with two spaces behind its word', b'edit  0 1 1\nb\nend\n'),
+    ('an edit with two spaces before its second number', b'edit 0  1 1\nb\nend\n'),
+    ('an edit with two spaces before its third number', b'edit 0 1  1\nb\nend\n'),
+    ('an edit with a tab', b'edit 0\t1 1\nb\nend\n'),
+    ('an edit that ends in CR LF', b'edit 0 1 1\r\nb\nend\n'),
+    ('an edit in upper case', b'EDIT 0 1 1\nb\nend\n'),
+    ('an edit of one longer word', b'edits 0 1 1\nb\nend\n'),
+    ('an edit without a space', b'edit0 1 1\nb\nend\n'),
+    ('an edit with a leading zero in its place', b'edit 00 1 1\nb\nend\n'),
+    ('an edit with a leading zero in what it deletes', b'edit 0 01 1\nb\nend\n'),
+    ('an edit with a leading zero in its length', b'edit 0 1 01\nb\nend\n'),
+    ('an edit with a sign', b'edit -1 1 1\nb\nend\n'),
+    ('an edit with a letter for a number', b'edit 0 x 1\nb\nend\n'),
+    ('an edit at a place of ten digits', b'edit 1000000000 0 1\nb\nend\n'),
+    ('an edit that deletes a number of ten digits', b'edit 0 1000000000 1\nb\nend\n'),
+    ('an edit whose length has ten digits', b'edit 0 1 1000000000\nb\nend\n'),
+    ('an edit without its LF', b'edit 0 1 1'),
+    ('the input ends behind the line of the edit', b'edit 0 1 1\n'),
+    ('the input ends inside the block of the edit', b'edit 0 1 3\nab'),
+    ('the input ends before the LF of the block', b'edit 0 1 1\nb'),
+    ('another byte in the place of the LF of the block', b'edit 0 1 1\nb end\n'),
+    ('a block that is told one byte too short', b'edit 0 1 1\nbb\nend\n'),
+    ('a block that is told one byte too long', b'edit 0 1 2\nb\nend\n'),
+    ('an empty block with a byte', b'edit 0 1 0\nb\nend\n'),
+    ('an empty block without its LF', b'edit 0 1 0\n'),
+    ('CR before the LF of the block', b'edit 0 1 1\nb\r\nend\n'),
+    ('a block of nine digits, cut short', b'edit 0 1 999999999\nb\nend\n'),
+    ('an edit out of range, whose block is cut short', b'edit 9 9 2\nb'),
+    ('an edit of bytes that are no UTF-8, whose block is cut short', b'edit 0 1 2\n\xff'),
     ('a question for a tree without its LF', b'tree'),
     ('a question for a tree with a space behind', b'tree \nend\n'),
     ('a question for a tree in upper case', b'TREE\nend\n'),
@@ -256,7 +299,10 @@ for name, more, wanted in [
     ('the input ends behind the entry', b'has\n', b'yes\n' + broken(69)),
     ('a break behind two questions', b'has S 0 2\nhas T 0 2\nend', b'yes\nrefused category\n' + broken(85)),
     ('the input ends behind a question', b'has S 1 1\n', b'no\n' + broken(75)),
-    ('a second text behind a question', b'has S 0 3\nopen 1\na\nend\n', b'refused span 2\n' + broken(75)),
+    ('the input ends behind an edit', b'edit 0 1 0\n\n', b'version 1 tokens 1\n' + broken(77)),
+    ('a break behind an edit', b'edit 0 1 0\n\nhass\n', b'version 1 tokens 1\n' + broken(77)),
+    ('a break behind a second text', b'open 1\na\nopen\n', b'refused open\n' + broken(74)),
+    ('a break behind a refused edit', b'edit 4 0 0\n\nedit 4 0\n', b'refused range 3\n' + broken(77)),
 ]:
     case(name, HGO + more, OPENED + wanted, 3)
 
@@ -307,8 +353,8 @@ def open_text(text):
     return b'open ' + str(len(text)).encode() + b'\n' + text + b'\n'
 
 
-def version(tokens):
-    return b'version 0 tokens ' + str(tokens).encode() + b'\n'
+def version(tokens, number=0):
+    return b'version %d tokens %d\n' % (number, tokens)
 
 
 # Texts under the grammar of one word, `a`: white space gives no token, and another byte is a stray token.
@@ -724,6 +770,16 @@ for name, grammar, counted, text, tokens, questions, answers in [
     counted = counted or (5, 3, 4)
     case('tree: ' + name, with_grammar(grammar, open_text(text) + questions + END),
          counts(*counted) + version(tokens) + answers + b'end\n', 0)
+
+# ---- Texts that are opened and edited.
+
+for name, steps in edit_sessions.ROWS:
+    case('edits: ' + name, HG + b''.join(command for command, _ in steps) + END,
+         RULES + b''.join(reply + b'\n' for _, reply in steps) + END, 0)
+
+for name, grammar, line, steps in edit_sessions.OTHERS:
+    case('edits: ' + name, with_grammar(grammar, b''.join(command for command, _ in steps) + END),
+         b'grammar ' + line + b'\n' + b''.join(reply + b'\n' for _, reply in steps) + END, 0)
 
 # ---- Grammar files by their lines, and questions on some of them.
 
