@@ -64,12 +64,6 @@ module _ (IsBad IsGood : List ℕ → Type 0) (names : List (List ℕ)) (i : ℕ
   pub more_good : IsGood name → All IsGood (take (i + 1) names)
   more_good next = All-more IsGood names i name within good (subst IsGood is next)
 
--- what a test of the shown bytes told, of the name
-pub told_listed : (table : List (List ℕ)) (name shown : List ℕ) → shown ≡ name
-    → (told answer : Bool) → told ≡ list_any (bytes_eq shown) table → told ≡ answer → list_any (bytes_eq name) table ≡ answer
-told_listed table name shown same told answer looked is =
-    ap (λ n. list_any (bytes_eq n) table) (sym same) ∙ sym looked ∙ is
-
 -- where the first names are good and there are no more, all are
 pub good_all : (IsGood : List ℕ → Type 0) (names : List (List ℕ)) (i : ℕ) → length names ≤ i
     → All IsGood (take i names) → All IsGood names

@@ -1,7 +1,8 @@
 -- The names that are gathered are the categories and the words of the rules.
-use Rattle.std.proofs.Common.{◌≡◌, ℕ, List, [], ◌∷◌, ◌++◌, Option, Bool, true, false, not, cond, map, fold, filter, refl, sym, ap, ◌∙◌}
+use Rattle.std.proofs.Common.{◌≡◌, ◌≤◌, ℕ, List, [], ◌∷◌, ◌++◌, Option, Bool, true, false, not, cond, map, fold, filter, length, take, refl, sym, ap, ◌∙◌}
 use Rattle.std.specs.List.{flat_map}
 use Rattle.std.specs.Option.{option_map}
+use Rattle.std.proofs.lemmas.List.{take_all}
 use Rattle.std.proofs.lemmas.List.Sums.{fold-append}
 use Rattle.spec_lexing.specs.Lexicon.{Lexicon}
 use Rattle.spec_grammar.specs.declared.rule.Rule.{Rule}
@@ -79,6 +80,11 @@ module _ (kinds : List (List ℕ)) where
       rules_words (with_rule kinds met rule) rules
       ∙ ap (λ names. with_new_names names (word_texts rules)) (items_words (with_category met (category_text rule.cat)) rule.items)
       ∙ sym (fold-append with_new_name met.words (item_words rule.items) (word_texts rules))
+
+  -- names of the rules up to the end of the definitions are those of all rules
+  pub all_gathered : (met : MetNames) (defs : List Def) (n : ℕ) → length defs ≤ n
+      → met ≡ fold (with_rule kinds) no_names (rules_of (take n defs)) → met ≡ fold (with_rule kinds) no_names (rules_of defs)
+  all_gathered met defs n past so_far = so_far ∙ ap (λ taken. fold (with_rule kinds) no_names (rules_of taken)) (take_all n defs past)
 
   -- the categories that are gathered are those that the rules meet
   pub met_are : (rules : List RawRule)

@@ -1,5 +1,5 @@
 //! The checks of names: no name is repeated, and each category that is named is known.
-ghost use Rattle.std.specs.Prelude.{◌≡◌, ◌≤◌, [], All, MatchOption};
+ghost use Rattle.std.specs.Prelude.{◌≡◌, ◌≤◌, [], All, IfOk, MatchOption};
 ghost use Rattle.spec_lbnf.specs.Limits.{size_of};
 ghost use Rattle.spec_lbnf.specs.Expansion.{kind_names};
 ghost use Rattle.spec_lbnf.specs.Checks.{known_names, IsFirstName, HasOwnNames};
@@ -15,22 +15,23 @@ use crate::names::Names;
 use crate::naming::{add_token_name, known_names, named_categories, own_names};
 use crate::texts::CategoryText;
 use spec_lbnf::{Def, GrammarFault};
-use std::alloc::Global;
+use std::alloc::{AllocError, Global};
 
 /// The first of the names that is listed.
 fn first_listed<'a, 'n>(
+    room: &mut Vec<u8>,
     known: &Names,
     names: &'a [CategoryText<'n>],
-) -> Option<&'a CategoryText<'n>>
-    ensures { MatchOption result (All (IsUnlisted known.now) names.now)
-        (λ name. IsFirstName (IsListed known.now) names.now name.now) }
+) -> Result<Option<&'a CategoryText<'n>>, AllocError>
+    ensures { IfOk result (λ found. MatchOption found (All (IsUnlisted known.now) names.now)
+        (λ name. IsFirstName (IsListed known.now) names.now name.now)) }
 {
     for name in names {
-        if known.has(name.as_str()) {
-            return Some(name);
+        if known.has_text(room, name)? {
+            return Ok(Some(name));
         }
     }
-    None
+    Ok(None)
 }
 
 /// That the name is repeated, or that memory ran out.
@@ -64,12 +65,17 @@ pub(crate) fn check_own_names(
     requires kinds { kinds.now ≡ kind_names defs.now }
     ensures { Checks (λ done. HasOwnNames defs.now) (AtOwnName defs.now) result }
 {
+    let mut room = Vec::new(alloc);
     let mut earlier = Names::new(alloc);
     for def in defs {
         let Ok(names) = own_names(alloc, def) else {
             return Err(GrammarFault::Memory);
         };
-        if let Some(name) = first_listed(taken(def.def(), &earlier, kinds), names.as_slice()) {
+        let taken = taken(def.def(), &earlier, kinds);
+        let Ok(found) = first_listed(&mut room, taken, names.as_slice()) else {
+            return Err(GrammarFault::Memory);
+        };
+        if let Some(name) = found {
             return Err(repeated(alloc, name));
         }
         let Ok(()) = add_token_name(alloc, &mut earlier, def.def()) else {
@@ -81,18 +87,19 @@ pub(crate) fn check_own_names(
 
 /// The first of the names that is not listed.
 fn first_unlisted<'a, 'n>(
+    room: &mut Vec<u8>,
     known: &Names,
     names: &'a [CategoryText<'n>],
-) -> Option<&'a CategoryText<'n>>
-    ensures { MatchOption result (All (IsListed known.now) names.now)
-        (λ name. IsFirstName (IsUnlisted known.now) names.now name.now) }
+) -> Result<Option<&'a CategoryText<'n>>, AllocError>
+    ensures { IfOk result (λ found. MatchOption found (All (IsListed known.now) names.now)
+        (λ name. IsFirstName (IsUnlisted known.now) names.now name.now)) }
 {
     for name in names {
-        if !known.has(name.as_str()) {
-            return Some(name);
+        if !known.has_text(room, name)? {
+            return Ok(Some(name));
         }
     }
-    None
+    Ok(None)
 }
 
 /// That the definition names an unknown category, or that memory ran out.
@@ -117,15 +124,19 @@ fn check_named_by(
     ensures { Checks (λ used. AreAllKnown defs.now × (used ≡ used_names kinds.now defs.now))
         (AtUnknown defs.now) result }
 {
+    let mut room = Vec::new(alloc);
     let mut used = Names::new(alloc);
     for (number, def) in defs.iter().enumerate() {
         let Ok(names) = named_categories(alloc, def) else {
             return Err(GrammarFault::Memory);
         };
-        if let Some(name) = first_unlisted(known, names.as_slice()) {
+        let Ok(found) = first_unlisted(&mut room, known, names.as_slice()) else {
+            return Err(GrammarFault::Memory);
+        };
+        if let Some(name) = found {
             return Err(unknown(alloc, name, number as u32));
         }
-        let Ok(()) = used.add_listed(alloc, kinds, names.as_slice()) else {
+        let Ok(()) = used.add_listed(alloc, &mut room, kinds, names.as_slice()) else {
             return Err(GrammarFault::Memory);
         };
     }

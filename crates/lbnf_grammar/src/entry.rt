@@ -81,5 +81,5 @@ pub(crate) fn entry_symbol(
     let Some(cat) = entry_category(defs) else {
         return Ok(None);
     };
-    Ok(Some(category_symbol(alloc, tables, cat)?))
+    Ok(Some(category_symbol(&mut Vec::new(alloc), tables, cat)?))
 }

@@ -50,6 +50,17 @@ impl Names {
         self.set.contains(name)
     }
 
+    /// Whether the text, which is made in the room, is one of the names.
+    pub(crate) fn has_text(
+        &self,
+        room: &mut Vec<u8>,
+        text: &CategoryText<'_>,
+    ) -> Result<bool, AllocError>
+        ensures { IfOk result (λ has. has ≡ list_any (bytes_eq text.now) self.now) }
+    {
+        Ok(self.has(text.in_room(room)?))
+    }
+
     /// The number of the name, which is the count of names where it is none of them.
     pub(crate) fn number(&self, name: &str) -> usize
         ensures number { result ≡ name_number self.now name.now }
@@ -70,16 +81,17 @@ impl Names {
         Ok(())
     }
 
-    /// Adds those of the names that are new.
+    /// Adds those of the names that are new. They are made in the room.
     pub(crate) fn add_all(
         &mut self,
         alloc: Global,
+        room: &mut Vec<u8>,
         names: &[CategoryText<'_>],
     ) -> Result<(), AllocError>
         ensures { OnOk result (self.new ≡ with_new_names self.old names.now) }
     {
         for name in names {
-            self.add(alloc, name.as_str())?;
+            self.add(alloc, name.in_room(room)?)?;
         }
         Ok(())
     }
@@ -95,10 +107,11 @@ impl Names {
         Ok(())
     }
 
-    /// Adds those of the names that are new, and among these others.
+    /// Adds those of the names that are new, and among these others. They are made in the room.
     pub(crate) fn add_listed(
         &mut self,
         alloc: Global,
+        room: &mut Vec<u8>,
         others: &Names,
         names: &[CategoryText<'_>],
     ) -> Result<(), AllocError>
@@ -106,7 +119,7 @@ impl Names {
             (self.new ≡ with_new_names self.old (filter (is_among others.now) names.now)) }
     {
         for name in names {
-            self.add_if_listed(alloc, others, name.as_str())?;
+            self.add_if_listed(alloc, others, name.in_room(room)?)?;
         }
         Ok(())
     }

@@ -32,7 +32,7 @@ fn internal_text<'a>(alloc: Global, def: &'a Def) -> Result<Vec<CategoryText<'a>
     ensures { IfOk result (λ names. names.items ≡ internal_category def.now) }
 {
     match internal_category(def) {
-        Some(cat) => Ok(vec![in alloc; category_text(alloc, cat)?]?),
+        Some(cat) => Ok(vec![in alloc; category_text(cat)]?),
         None => Ok(Vec::new(alloc)),
     }
 }
@@ -46,7 +46,7 @@ fn own_categories<'a, 'd>(
 {
     let mut names = internal_text(alloc, def.def())?;
     for rule in def.rules() {
-        names.push(category_text(alloc, &rule.cat)?)?;
+        names.push(category_text(&rule.cat))?;
     }
     Ok(names)
 }
@@ -116,7 +116,7 @@ pub(crate) fn known_names(alloc: Global, defs: &[ExpandedDef<'_>]) -> Result<Nam
 {
     let list = all_own_categories(alloc, defs)?;
     let mut names = Names::new(alloc);
-    names.add_all(alloc, list.as_slice())?;
+    names.add_all(alloc, &mut Vec::new(alloc), list.as_slice())?;
     add_token_names(alloc, &mut names, defs)?;
     add_predefined_names(alloc, &mut names)?;
     Ok(names)
@@ -137,30 +137,22 @@ fn all_own_categories<'a, 'd>(
 }
 
 /// Adds the text of the item, if it is a category.
-fn add_item<'a>(
-    alloc: Global,
-    names: &mut Vec<CategoryText<'a>>,
-    item: &'a RawItem,
-) -> Result<(), AllocError>
+fn add_item<'a>(names: &mut Vec<CategoryText<'a>>, item: &'a RawItem) -> Result<(), AllocError>
     ensures { OnOk result
         (names.new.items ≡ names.old.items ++ item_categories (item.now ∷ [])) }
 {
     match item {
-        RawItem::Cat(cat) => Ok(names.push(category_text(alloc, cat)?)?),
+        RawItem::Cat(cat) => Ok(names.push(category_text(cat))?),
         RawItem::Word(_) => Ok(()),
     }
 }
 
 /// Adds the texts of the categories among the items.
-fn add_items<'a>(
-    alloc: Global,
-    names: &mut Vec<CategoryText<'a>>,
-    items: &'a [RawItem],
-) -> Result<(), AllocError>
+fn add_items<'a>(names: &mut Vec<CategoryText<'a>>, items: &'a [RawItem]) -> Result<(), AllocError>
     ensures { OnOk result (names.new.items ≡ names.old.items ++ item_categories items.now) }
 {
     for item in items {
-        add_item(alloc, names, item)?;
+        add_item(names, item)?;
     }
     Ok(())
 }
@@ -175,7 +167,7 @@ fn item_categories<'a>(
 {
     let mut names = Vec::new(alloc);
     for rule in rules {
-        add_items(alloc, &mut names, rule.items.as_slice())?;
+        add_items(&mut names, rule.items.as_slice())?;
     }
     Ok(names)
 }
@@ -189,7 +181,7 @@ fn category_texts<'a>(
 {
     let mut names = Vec::new(alloc);
     for cat in cats {
-        names.push(category_text(alloc, cat)?)?;
+        names.push(category_text(cat))?;
     }
     Ok(names)
 }

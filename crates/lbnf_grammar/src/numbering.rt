@@ -27,9 +27,9 @@ fn named_symbol(tables: &Tables, name: &str) -> Symbol
     Symbol::Category(tables.categories.number(name) as u16)
 }
 
-/// The symbol of the category's text.
+/// The symbol of the category's text, which is made in the room.
 pub(crate) fn category_symbol(
-    alloc: Global,
+    room: &mut Vec<u8>,
     tables: &Tables,
     cat: &CatName,
 ) -> Result<Symbol, AllocError>
@@ -38,27 +38,27 @@ pub(crate) fn category_symbol(
     ensures { IfOk result
         (λ symbol. symbol ≡ named_symbol (shown tables.now) (category_text cat.now)) }
 {
-    let text = category_text(alloc, cat)?;
-    Ok(named_symbol(tables, text.as_str()))
+    let text = category_text(cat);
+    Ok(named_symbol(tables, text.in_room(room)?))
 }
 
 /// The number of the category.
-fn category_number(alloc: Global, tables: &Tables, cat: &CatName) -> Result<u16, AllocError>
+fn category_number(room: &mut Vec<u8>, tables: &Tables, cat: &CatName) -> Result<u16, AllocError>
     requires { length tables.now.categories < 2 ^ 16 }
     ensures { IfOk result
         (λ number. number ≡ name_number tables.now.categories (category_text cat.now)) }
 {
-    let text = category_text(alloc, cat)?;
-    Ok(tables.categories.number(text.as_str()) as u16)
+    let text = category_text(cat);
+    Ok(tables.categories.number(text.in_room(room)?) as u16)
 }
 
-fn item_symbol(alloc: Global, tables: &Tables, item: &RawItem) -> Result<Symbol, AllocError>
+fn item_symbol(room: &mut Vec<u8>, tables: &Tables, item: &RawItem) -> Result<Symbol, AllocError>
     requires categories { length tables.now.categories < 2 ^ 16 }
     requires kinds { length tables.now.words + length tables.now.tokens < 2 ^ 16 }
     ensures { IfOk result (λ symbol. symbol ≡ item_symbol (shown tables.now) item.now) }
 {
     match item {
-        RawItem::Cat(cat) => category_symbol(alloc, tables, cat),
+        RawItem::Cat(cat) => category_symbol(room, tables, cat),
         RawItem::Word(word) => {
             let number = tables.words.number(word.as_str());
             Ok(Symbol::Kind(number as u16))
@@ -68,6 +68,7 @@ fn item_symbol(alloc: Global, tables: &Tables, item: &RawItem) -> Result<Symbol,
 
 fn symbols_of(
     alloc: Global,
+    room: &mut Vec<u8>,
     tables: &Tables,
     items: &[RawItem],
 ) -> Result<Items<Symbol>, AllocError>
@@ -78,20 +79,25 @@ fn symbols_of(
 {
     let mut symbols = Vec::with_capacity(alloc, items.len())?;
     for item in items {
-        symbols.push(item_symbol(alloc, tables, item)?)?;
+        symbols.push(item_symbol(room, tables, item)?)?;
     }
     Ok(Items::from_vec(symbols))
 }
 
-fn numbered_rule(alloc: Global, tables: &Tables, rule: &RawRule) -> Result<Rule, AllocError>
+fn numbered_rule(
+    alloc: Global,
+    room: &mut Vec<u8>,
+    tables: &Tables,
+    rule: &RawRule,
+) -> Result<Rule, AllocError>
     requires categories { length tables.now.categories < 2 ^ 16 }
     requires kinds { length tables.now.words + length tables.now.tokens < 2 ^ 16 }
     ensures { IfOk result (λ numbered.
         numbered ≡ numbered_rule (shown tables.now) rule.now) }
 {
-    let category = category_number(alloc, tables, &rule.cat)?;
+    let category = category_number(room, tables, &rule.cat)?;
     let label = copy_label(alloc, &rule.label)?;
-    let items = symbols_of(alloc, tables, rule.items.as_slice())?;
+    let items = symbols_of(alloc, room, tables, rule.items.as_slice())?;
     Ok(Rule {
         label,
         category,
@@ -102,6 +108,7 @@ fn numbered_rule(alloc: Global, tables: &Tables, rule: &RawRule) -> Result<Rule,
 /// Adds the rules, numbered by the tables.
 fn add_rules(
     alloc: Global,
+    room: &mut Vec<u8>,
     numbered: &mut Vec<Rule>,
     tables: &Tables,
     rules: &[RawRule],
@@ -112,7 +119,7 @@ fn add_rules(
         ++ map (numbered_rule (shown tables.now)) rules.now) }
 {
     for rule in rules {
-        numbered.push(numbered_rule(alloc, tables, rule)?)?;
+        numbered.push(numbered_rule(alloc, room, tables, rule)?)?;
     }
     Ok(())
 }
@@ -128,9 +135,10 @@ pub(crate) fn numbered_rules(
     ensures { IfOk result (λ numbered. numbered.items
         ≡ map (numbered_rule (shown tables.now)) (rules_of defs.now)) }
 {
+    let mut room = Vec::new(alloc);
     let mut numbered = Vec::new(alloc);
     for def in defs {
-        add_rules(alloc, &mut numbered, tables, def.rules())?;
+        add_rules(alloc, &mut room, &mut numbered, tables, def.rules())?;
     }
     Ok(numbered)
 }

@@ -25,35 +25,54 @@ pub(crate) struct MetNames {
 }
 
 impl MetNames {
-    fn add_category(&mut self, alloc: Global, cat: &CatName) -> Result<(), AllocError>
+    /// Adds the category, whose text is made in the room.
+    fn add_category(
+        &mut self,
+        alloc: Global,
+        room: &mut Vec<u8>,
+        cat: &CatName,
+    ) -> Result<(), AllocError>
         ensures { OnOk result (self.new ≡ with_category self.old (category_text cat.now)) }
     {
-        let text = category_text(alloc, cat)?;
-        self.categories.add(alloc, text.as_str())
+        let text = category_text(cat);
+        self.categories.add(alloc, text.in_room(room)?)
     }
 
     /// Adds the item, if it is no kind.
-    fn add_item(&mut self, alloc: Global, kinds: &Names, item: &RawItem) -> Result<(), AllocError>
+    fn add_item(
+        &mut self,
+        alloc: Global,
+        room: &mut Vec<u8>,
+        kinds: &Names,
+        item: &RawItem,
+    ) -> Result<(), AllocError>
         ensures { OnOk result (self.new ≡ with_item kinds.now self.old item.now) }
     {
         match item {
             RawItem::Cat(cat) => {
-                let text = category_text(alloc, cat)?;
-                if kinds.has(text.as_str()) {
+                let text = category_text(cat);
+                let text = text.in_room(room)?;
+                if kinds.has(text) {
                     return Ok(());
                 }
-                self.categories.add(alloc, text.as_str())
+                self.categories.add(alloc, text)
             }
             RawItem::Word(word) => self.words.add(alloc, word.as_str()),
         }
     }
 
-    fn add_rule(&mut self, alloc: Global, kinds: &Names, rule: &RawRule) -> Result<(), AllocError>
+    fn add_rule(
+        &mut self,
+        alloc: Global,
+        room: &mut Vec<u8>,
+        kinds: &Names,
+        rule: &RawRule,
+    ) -> Result<(), AllocError>
         ensures { OnOk result (self.new ≡ with_rule kinds.now self.old rule.now) }
     {
-        self.add_category(alloc, &rule.cat)?;
+        self.add_category(alloc, room, &rule.cat)?;
         for item in rule.items.as_slice() {
-            self.add_item(alloc, kinds, item)?;
+            self.add_item(alloc, room, kinds, item)?;
         }
         Ok(())
     }
@@ -61,22 +80,28 @@ impl MetNames {
     fn add_rules(
         &mut self,
         alloc: Global,
+        room: &mut Vec<u8>,
         kinds: &Names,
         rules: &[RawRule],
     ) -> Result<(), AllocError>
         ensures { OnOk result (self.new ≡ fold (with_rule kinds.now) self.old rules.now) }
     {
         for rule in rules {
-            self.add_rule(alloc, kinds, rule)?;
+            self.add_rule(alloc, room, kinds, rule)?;
         }
         Ok(())
     }
 
-    fn add_internal(&mut self, alloc: Global, def: &ExpandedDef<'_>) -> Result<(), AllocError>
+    fn add_internal(
+        &mut self,
+        alloc: Global,
+        room: &mut Vec<u8>,
+        def: &ExpandedDef<'_>,
+    ) -> Result<(), AllocError>
         ensures { OnOk result (self.new ≡ with_internal self.old def.now) }
     {
         match internal_category(def.def()) {
-            Some(cat) => self.add_category(alloc, cat),
+            Some(cat) => self.add_category(alloc, room, cat),
             None => Ok(()),
         }
     }
@@ -96,8 +121,9 @@ fn rule_names(
         categories: Names::new(alloc),
         words: Names::new(alloc),
     };
+    let mut room = Vec::new(alloc);
     for def in defs {
-        met.add_rules(alloc, kinds, def.rules())?;
+        met.add_rules(alloc, &mut room, kinds, def.rules())?;
     }
     Ok(met)
 }
@@ -109,8 +135,9 @@ fn met_names(alloc: Global, defs: &[ExpandedDef<'_>], kinds: &Names) -> Result<M
     ensures words { IfOk result (λ met. met.words ≡ words_of (rules_of defs.now)) }
 {
     let mut met = rule_names(alloc, defs, kinds)?;
+    let mut room = Vec::new(alloc);
     for def in defs {
-        met.add_internal(alloc, def)?;
+        met.add_internal(alloc, &mut room, def)?;
     }
     Ok(met)
 }

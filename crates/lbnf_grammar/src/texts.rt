@@ -1,5 +1,5 @@
 //! The texts of categories, and copies of labels, categories and items.
-ghost use Rattle.std.specs.Prelude.{◌≡◌, ◌++◌, IfOk, string_bytes};
+ghost use Rattle.std.specs.Prelude.{◌≡◌, ◌++◌, IfOk, OnOk, IsUtf8, string_bytes};
 ghost use Rattle.std.specs.Fmt.{decimal};
 ghost use Rattle.spec_lbnf.specs.Expansion.{category_text};
 
@@ -10,30 +10,48 @@ use sqlite_items::Items;
 use std::alloc::{AllocError, Global};
 use std::marker::Model;
 
-/// The text of a category, seen as its bytes.
+/// The text of a category, seen as its bytes. It keeps no more than the name and how many brackets
+/// are around it, so that it takes no memory.
 #[derive(Drop)]
 pub(crate) struct CategoryText<'a> {
     name: &'a str,
-    /// The name inside its brackets, where it has some.
-    bracketed: Option<Name>,
+    depth: u8,
 }
 
 impl<'a> Model for CategoryText<'a> {
-    ghost use Rattle.std.specs.Prelude.{List, ℕ, unwrap_or};
+    ghost use Rattle.std.specs.Prelude.{List, ℕ, ◌++◌, replicate};
 
     ghost Value = { List ℕ };
 
-    ghost view = { λ text. unwrap_or text.bracketed text.name.now };
+    ghost view = { λ text. replicate text.depth 91 ++ (text.name.now ++ replicate text.depth 93) };
 }
 
 impl<'a> CategoryText<'a> {
-    /// The text.
-    pub(crate) fn as_str(&self) -> &str
-        ensures { result.now ≡ self.now }
+    /// Writes the text in place of the bytes.
+    fn write(&self, bytes: &mut Vec<u8>) -> Result<(), AllocError>
+        ensures text { OnOk result (bytes.new.items ≡ self.now) }
+        ensures utf8 { OnOk result (IsUtf8 bytes.new.items) }
     {
-        match &self.bracketed {
-            Some(text) => text.as_str(),
-            None => self.name,
+        let depth = self.depth as usize;
+        bytes.clear();
+        bytes.resize(depth, b'[')?;
+        bytes.extend_from_slice(self.name.as_bytes())?;
+        bytes.resize(bytes.len() + depth, b']')?;
+        Ok(())
+    }
+
+    /// The text. With brackets it is written in the room, whose memory serves text after text, and
+    /// without them it is the name as it is.
+    pub(crate) fn in_room<'r>(&'r self, room: &'r mut Vec<u8>) -> Result<&'r str, AllocError>
+        ensures { IfOk result (λ text. text.now ≡ self.now) }
+    {
+        if self.depth == 0 {
+            return Ok(self.name);
+        }
+        self.write(room)?;
+        match str::from_utf8(room.as_slice()) {
+            Ok(text) => Ok(text),
+            Err(_) => unreachable!(),
         }
     }
 
@@ -41,7 +59,8 @@ impl<'a> CategoryText<'a> {
     pub(crate) fn to_name(&self, alloc: Global) -> Result<Name, AllocError>
         ensures { IfOk result (λ name. name ≡ self.now) }
     {
-        let bytes = Vec::from_slice(alloc, self.as_str().as_bytes())?;
+        let mut bytes = Vec::new(alloc);
+        self.write(&mut bytes)?;
         Ok(Name::of(bytes))
     }
 }
@@ -52,35 +71,18 @@ pub(crate) fn plain_text(name: &Name) -> CategoryText<'_>
 {
     CategoryText {
         name: name.as_str(),
-        bracketed: None,
+        depth: 0,
     }
 }
 
-/// The category's name in its brackets, in memory that is taken once.
-fn bracketed(alloc: Global, cat: &CatName) -> Result<Name, AllocError>
-    ensures { IfOk result (λ text. text ≡ category_text cat.now) }
+/// The category's name in its brackets.
+pub(crate) fn category_text(cat: &CatName) -> CategoryText<'_>
+    ensures { result ≡ category_text cat.now }
 {
-    let depth = cat.depth as usize;
-    let name = cat.name.as_slice();
-    let mut text = Vec::with_capacity(alloc, depth + name.len() + depth)?;
-    text.resize(depth, b'[')?;
-    text.extend_from_slice(name)?;
-    text.resize(text.len() + depth, b']')?;
-    Ok(Name::of(text))
-}
-
-/// The category's name in its brackets. Without brackets it is the name as it is, and nothing is
-/// copied.
-pub(crate) fn category_text(alloc: Global, cat: &CatName) -> Result<CategoryText<'_>, AllocError>
-    ensures { IfOk result (λ text. text ≡ category_text cat.now) }
-{
-    let name = cat.name.as_str();
-    if cat.depth == 0 {
-        let bracketed = None;
-        return Ok(CategoryText { name, bracketed });
+    CategoryText {
+        name: cat.name.as_str(),
+        depth: cat.depth,
     }
-    let bracketed = Some(bracketed(alloc, cat)?);
-    Ok(CategoryText { name, bracketed })
 }
 
 /// The text as a name. Its bytes are moved.

@@ -14,7 +14,7 @@ overflow_cast-number c = omega (arith, few_defs c.args.defs.now)
 
 pub returns-in-Some : goal.returns-in-Some
 returns-in-Some c =
-    let first = rw c.in-Some.is at c.first_unlisted.ensures in
+    let first = rw c.in-Some.is at c.in-Ok-first_unlisted.ensures in
     unknown_tells c.args.defs.now c.in-Some.name.now c.loop-number.number
     (first_unknown c.args.defs.now c.args.known.now c.requires.listed
     c.loop-number.number c.index-defs-number.result c.as_slice.result.now (search rules)
@@ -25,7 +25,7 @@ loop-number-preserved c =
     let defs = c.args.defs.now in
     let number = c.loop-number.number in
     let def = c.index-defs-number.result in
-    let listed = rw c.in_default-first_unlisted.is at c.first_unlisted.ensures in
+    let listed = rw c.in_default-found.is at c.in-Ok-first_unlisted.ensures in
     let at : slice_get defs number ≡ Some def = slice_get_read defs _ number def refl c.loop-number-test.true c.index-defs-number.is in
     record {
       known =

@@ -12,4 +12,4 @@ loop-name-preserved c =
     let old = c.loop-name.self in
     let at : slice_get names c.loop-name.name-index ≡ Some name = slice_get_read names _ c.loop-name.name-index name refl c.loop-name-test.true c.name-item.is in
     passing_more (is_among c.args.others.now) c.args.self.now names c.loop-name.name-index name at old c.add_if_listed.new.self c.loop-name.invariant
-    (c.in_ok-add_if_listed.ensures ∙ ap (λ n. cond (is_among c.args.others.now n) (with_new_name old n) old) c.as_str.ensures)
+    (c.in_ok-add_if_listed.ensures ∙ ap (λ n. cond (is_among c.args.others.now n) (with_new_name old n) old) c.in_ok-in_room.ensures)
