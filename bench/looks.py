@@ -30,7 +30,8 @@ coercions Exp 2 ;
 SUMS = 'Add. Exp ::= Exp "+" Exp1 ;\nNum. Exp1 ::= Integer ;\ncoercions Exp 1 ;\n'
 CALLS = 'Call. Exp ::= Ident "(" [Exp] ")" ;\nNum. Exp ::= Integer ;\nseparator Exp "," ;\n'
 NESTS = 'Wrap. S ::= "(" S ")" ;\nEnd. S ::= ;\n'
-JSON = (ROOT / 'examples' / 'json.cf').read_text()
+# Its control characters are to stay as they are, with CR among them.
+JSON = (ROOT / 'examples' / 'json.cf').read_bytes().decode()
 
 
 def statements(tokens):
