@@ -1,6 +1,7 @@
 """Where tokens stand in a text, and which parts at its ends a category or its corners derive."""
 from __future__ import annotations
 
+import re
 from collections.abc import Iterable
 from dataclasses import dataclass
 
@@ -9,7 +10,8 @@ from lbnfchart import Session, Token
 
 MOST_QUESTIONS = 20_000                     # of one search
 MOST_CORNERS = 200                          # where a search begins
-WHITE = ' \t\n\r\x0b\x0c'
+WHITE = re.compile(r'[ \t\n\r\x0b\x0c]')
+WHITE_RUN = re.compile(r'[ \t\n\r\x0b\x0c]*')
 
 
 @dataclass(frozen=True)
@@ -35,13 +37,20 @@ def places_of(text: str, tokens: Iterable[Token], grammar: Grammar) -> list[int]
         [string.text for string in read.strings] for read in grammar.definitions if read.sort == 'comment']
     places, at = [], 0
     for token in tokens:
+        starts = [token.text, *(first for first, *_ in comments)]
+        at = _behind_white(text, at, starts)
         skipped = _skipped(text, at, comments)
         while not _stands(text, at, token, skipped):
-            at += skipped
+            at = _behind_white(text, at + skipped, starts)
             skipped = _skipped(text, at, comments)
         places.append(at)
         at += len(token.text)
     return [*places, len(text)]
+
+
+def _behind_white(text: str, at: int, starts: list[str]) -> int:
+    """The place behind the white scalars there, where nothing else that may stand there starts with one."""
+    return at if any(WHITE.match(start) for start in starts) else WHITE_RUN.match(text, at).end()
 
 
 def _stands(text: str, at: int, token: Token, skipped: int) -> bool:
@@ -52,7 +61,7 @@ def _stands(text: str, at: int, token: Token, skipped: int) -> bool:
 
 def _skipped(text: str, at: int, comments: list[list[str]]) -> int:
     """The length of the longest white scalar or comment there, or 0."""
-    longest = 1 if text[at] in WHITE else 0
+    longest = 1 if WHITE.match(text, at) else 0
     for first, *second in comments:
         if text.startswith(first, at):
             behind = at + len(first)
