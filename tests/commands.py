@@ -101,8 +101,9 @@ FILE:1:2: here it begins
   [1
    ^
 '''),
-    (b' ', '''\
-FILE: Value does not derive the empty text
+    (b' ', 'FILE: Value does not derive the empty text\n'),
+    (b'}{', '''\
+FILE: Value does not derive the 2 tokens from 0 up to 2
 no part at the beginning is derived by: Value
 no part at the end is derived by: Value
 '''),
