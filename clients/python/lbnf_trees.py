@@ -7,6 +7,7 @@ from dataclasses import dataclass, field
 
 from lbnfchart import Token
 
+MOST_INDENT = 60                            # columns, so that a deep tree has no endless lines
 LABEL = re.compile(r'\(([A-Za-z0-9_\']+)')
 
 
@@ -54,7 +55,7 @@ def read_tree(printed: str, tokens: Iterable[Token]) -> Node:
 
 def lines_of(printed: str, tree: Node, width: int) -> Iterator[str]:
     """The tree in lines: a part that has room in one line of the width is printed in one, and else
-    each child of it in lines of its own, two columns further in."""
+    each child of it in lines of its own, two columns further in, up to `MOST_INDENT`."""
     left = [(tree, 0, '')]
     while left:
         node, indent, behind = left.pop()
@@ -63,6 +64,7 @@ def lines_of(printed: str, tree: Node, width: int) -> Iterator[str]:
             continue
         yield ' ' * indent + node.head
         comma = ',' if node.head == '[' else ''
+        inner = min(indent + 2, MOST_INDENT)
         *others, last = node.children
-        left.append((last, indent + 2, node.close + behind))
-        left += [(child, indent + 2, comma) for child in reversed(others)]
+        left.append((last, inner, node.close + behind))
+        left += [(child, inner, comma) for child in reversed(others)]
