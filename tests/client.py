@@ -76,7 +76,8 @@ class Answers(unittest.TestCase):
             session.open('[' + ','.join(texts) + ']')
             found = [token.text for token in session.tokens() if token.kind == 'Text']
             self.assertEqual(found, texts)
-            self.assertEqual(session.tokens(1, 4), [Token('Text', '"a b"'), Token('word', ','), Token('Text', '"word:"')])
+            first = [Token('Text', '"a b"'), Token('word', ','), Token('Text', '"word:"')]
+            self.assertEqual(session.tokens(1, 4), first)
 
     def test_escapes(self) -> None:
         scalars = ['\x00', '\x1f', '\x7f', '\\', '\x80', 'x', '"', '😀']
@@ -158,6 +159,7 @@ class Ends(unittest.TestCase):
         with self.assertRaises(lbnfchart.ScriptBroken) as caught:
             session._ask(b'hass\n')
         self.assertEqual(caught.exception.place, 54)
+        session.close()
         self.assertEqual(self.ended(session.has).status, 3)
 
     def test_left_by_a_fault(self) -> None:
@@ -171,7 +173,8 @@ class Ends(unittest.TestCase):
                 Session(LETTERS, ['sh', '-c', words])
 
     def test_pipes(self) -> None:
-        for words, status in [('exit 5', 5), ('printf "grammar rules"; exit 4', 4), ('exit 70', 70), ('kill -9 $$', -9)]:
+        ends = [('exit 5', 5), ('printf "grammar rules"; exit 4', 4), ('exit 70', 70), ('kill -9 $$', -9)]
+        for words, status in ends:
             with self.subTest(words):
                 found = self.ended(lambda: Session('x' * 1_000_000, ['sh', '-c', words]))
                 self.assertEqual(found.status, status)

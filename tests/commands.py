@@ -167,10 +167,10 @@ class Parse(WithFiles):
         self.assertEqual(run.stdout, '(Array [(Text Text:"a) (b"), (Text Text:"c, d]"), (Text Text:"Text:\\\\\\\\")])\n')
 
     def test_a_deep_tree(self) -> None:
-        text = self.file('text', b'[' * 100 + b']' * 100)
+        text = self.file('text', b'[' * 40 + b']' * 40)
         run = ran('lbnf-parse', f'{EXAMPLES}/json.cf', text)
-        self.assertEqual((run.returncode, run.stdout.count('(Array')), (0, 99))
-        self.assertLess(max(map(len, run.stdout.split('\n'))), 400)
+        self.assertEqual((run.returncode, run.stdout.count('(Array')), (0, 39))
+        self.assertLess(max(map(len, run.stdout.split('\n'))), 200)
 
     def test_tokens(self) -> None:
         grammar = self.file('grammar', b'A. S ::= "a" ; comment "//" ; comment "/*" "*/" ;')

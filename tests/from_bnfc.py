@@ -57,7 +57,8 @@ def read_by_bnfc(grammar, text):
         (pathlib.Path(folder) / 'text').write_bytes(text)
         for words in PARSER:
             subprocess.run(words.split(), cwd=folder, capture_output=True, check=True)
-        run = subprocess.run(['./Test', 'text'], cwd=folder, env={'LC_ALL': 'C.UTF-8'}, capture_output=True, check=False)
+        env = {'LC_ALL': 'C.UTF-8'}
+        run = subprocess.run(['./Test', 'text'], cwd=folder, env=env, capture_output=True, check=False)
         return b'Parse Successful' in run.stdout
 
 

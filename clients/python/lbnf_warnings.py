@@ -140,7 +140,7 @@ def strings(grammar: Grammar, source: Source) -> Warnings:
         for string in read.strings:
             if read.sort in ('separator', 'terminator') and ' ' in string.text:
                 yield string.place, f'{READS}this string with its spaces, as one symbol; here spaces cut it into words'
-            elif read.sort in ('rule', 'internal') and any(scalar.isspace() and scalar != ' ' for scalar in string.text):
+            elif read.sort in ('rule', 'internal') and re.search(r'[^\S ]', string.text):
                 yield string.place, f'{READS}this string as cut at all white space; here spaces alone cut it'
 
 

@@ -208,7 +208,9 @@ class Session:
     def __enter__(self) -> Session:
         return self
 
-    def __exit__(self, sort: type[BaseException] | None, fault: BaseException | None, trace: TracebackType | None) -> None:
+    def __exit__(
+        self, sort: type[BaseException] | None, fault: BaseException | None, trace: TracebackType | None
+    ) -> None:
         if fault is None:
             self.close()
         else:
@@ -227,6 +229,8 @@ class Session:
             raise _ended(self._stop())
         words = reply[:-1].decode()
         refusal = _refusal(words)
+        if isinstance(refusal, (GrammarRefused, ScriptBroken)):
+            self._stop()
         if refusal:
             raise refusal
         return words
