@@ -5,8 +5,9 @@
 
 CMD reads a script from standard input, as `bin/lbnfchart serve` does. The files of the first table
 are accepted by it, and refused by `bnfc`; those of the second the other way round, with the line that
-stands in the row; those of the third are accepted by both, and the text gets the answer of the row.
-Where `bnfc` is not installed, its side is left out, and the last line says so.
+stands in the row; those of the third are accepted by both, and the text gets the answers of the row.
+Where `bnfc`, or `alex`, `happy` and `ghc` to build its parsers, are not installed, this side is left
+out, and a line says so. The parsers take some minutes.
 """
 import pathlib
 import re
@@ -15,6 +16,10 @@ import subprocess
 import sys
 import tempfile
 
+# What builds a parser of the file Language.cf.
+PARSER = ['bnfc --haskell Language.cf', 'alex LexLanguage.x', 'happy ParLanguage.y', 'ghc -O0 TestLanguage.hs -o Test']
+HAS_BNFC = shutil.which('bnfc') is not None
+HAS_PARSERS = all(shutil.which(words.split()[0]) for words in PARSER)
 PAGE = pathlib.Path(__file__).resolve().parent.parent / 'docs' / 'FROM-BNFC.md'
 
 
@@ -45,6 +50,18 @@ def refused_by_bnfc(grammar):
         return run.returncode != 0
 
 
+def read_by_bnfc(grammar, text):
+    """Whether the parser that `bnfc` makes of the file reads the text."""
+    with tempfile.TemporaryDirectory() as folder:
+        (pathlib.Path(folder) / 'Language.cf').write_bytes(grammar)
+        (pathlib.Path(folder) / 'text').write_bytes(text)
+        for words in PARSER:
+            subprocess.run(words.split(), cwd=folder, capture_output=True, check=True)
+        env = {'LC_ALL': 'C.UTF-8'}
+        run = subprocess.run(['./Test', 'text'], cwd=folder, env=env, capture_output=True, check=False)
+        return b'Parse Successful' in run.stdout
+
+
 def replies(command, grammar, text):
     """The replies of a session that opens the text and asks whether its entry derives it."""
     script = b'script 1\ngrammar %d\n%b\nopen %d\n%b\nhas\nend\n' % (len(grammar), grammar, len(text), text)
@@ -52,37 +69,34 @@ def replies(command, grammar, text):
     return run.stdout.decode().split('\n')
 
 
-def main():
-    command = sys.argv[1:]
-    has_bnfc = shutil.which('bnfc') is not None
-    faults = []
-    passed = 0
-
-    def look(cell, is_so):
-        nonlocal passed
-        if is_so:
-            passed += 1
-        else:
-            faults.append(cell)
-
+def looks(command):
+    """What is looked at, row by row: a name, and whether it is as the row says."""
     for file, _, _ in rows('Taken here alone'):
         grammar = spelled(file)
-        look(file, replies(command, grammar, b'')[0].startswith('grammar rules '))
-        look(file + ' by bnfc', not has_bnfc or refused_by_bnfc(grammar))
+        yield file, replies(command, grammar, b'')[0].startswith('grammar rules ')
+        yield file + ' by bnfc', not HAS_BNFC or refused_by_bnfc(grammar)
     for file, _, line in rows('Taken there alone'):
         grammar = spelled(file)
-        look(file, replies(command, grammar, b'')[0] == spelled(line).decode())
-        look(file + ' by bnfc', not has_bnfc or not refused_by_bnfc(grammar))
-    for file, text, answer, _ in rows('Taken by both and read differently'):
+        yield file, replies(command, grammar, b'')[0] == spelled(line).decode()
+        yield file + ' by bnfc', not HAS_BNFC or not refused_by_bnfc(grammar)
+    for file, text, answer, there in rows('Taken by both and read differently'):
         grammar = spelled(file)
-        lines = replies(command, grammar, spelled(text))
-        look(file, lines[2:3] == [spelled(answer).decode()])
-        look(file + ' by bnfc', not has_bnfc or not refused_by_bnfc(grammar))
-    for cell in faults:
-        print('FAILED ' + cell)
-    if not has_bnfc:
+        yield file, replies(command, grammar, spelled(text))[2:3] == [spelled(answer).decode()]
+        yield file + ' by bnfc', not HAS_BNFC or not refused_by_bnfc(grammar)
+        if HAS_PARSERS and there.startswith(('`yes`', '`no`')):
+            yield file + ' by its parser', read_by_bnfc(grammar, spelled(text)) == (spelled(there) == b'yes')
+
+
+def main():
+    found = list(looks(sys.argv[1:]))
+    faults = [name for name, is_so in found if not is_so]
+    for name in faults:
+        print('FAILED ' + name)
+    if not HAS_BNFC:
         print('bnfc is not installed: its side of each row was not run')
-    print(f'{passed} passed, {len(faults)} failed')
+    elif not HAS_PARSERS:
+        print('alex, happy or ghc is not installed: no parser of bnfc was run')
+    print(f'{len(found) - len(faults)} passed, {len(faults)} failed')
     return 1 if faults else 0
 
 

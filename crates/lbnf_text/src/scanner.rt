@@ -155,20 +155,25 @@ fn next_part(text: &str, quote: char) -> Part<'_>
     }
 }
 
-/// The string whose opening quote stands before the text, and what is behind it.
-fn string(alloc: Global, text: &str) -> Result<Option<(FileToken, &str)>, AllocError>
+/// The string whose opening quote stands before the text, and what is behind it. Its scalars are
+/// gathered in the room, whose memory serves string after string, and then copied.
+fn string<'a>(
+    alloc: Global,
+    room: &mut String,
+    text: &'a str,
+) -> Result<Option<(FileToken, &'a str)>, AllocError>
     ensures { IfOk result (λ read. option_map (λ x. (x.0, x.1.now)) read ≡ string_at text.now) }
 {
-    let mut value = String::new(alloc);
+    room.clear();
     let mut rest = text;
     loop {
         match next_part(rest, '"') {
             Part::Scalar(scalar, behind) => {
-                value.push(scalar)?;
+                room.push(scalar)?;
                 rest = behind;
             }
             Part::Close(behind) => {
-                let name = Name::of(value.into_bytes());
+                let name = Name::of(Vec::from_slice(alloc, room.as_bytes())?);
                 return Ok(Some((FileToken::Text(name), behind)));
             }
             Part::Broken => return Ok(None),
@@ -296,9 +301,14 @@ fn sign(text: &str) -> Option<(FileToken, &str)>
     }
 }
 
-/// The token at the front, by its first byte, and what is behind it.
+/// The token at the front, by its first byte, and what is behind it. A string is gathered in the
+/// room.
 #[tactic(auto, unfolding(lbnf_readers::specs::Scanning::file_token_at))]
-fn token(alloc: Global, text: &str) -> Result<Option<(FileToken, &str)>, AllocError>
+fn token<'a>(
+    alloc: Global,
+    room: &mut String,
+    text: &'a str,
+) -> Result<Option<(FileToken, &'a str)>, AllocError>
     ensures { IfOk result (λ read. option_map (λ x. (x.0, x.1.now)) read ≡ file_token_at text.now) }
 {
     let [byte, ..] = text.as_bytes() else {
@@ -309,7 +319,7 @@ fn token(alloc: Global, text: &str) -> Result<Option<(FileToken, &str)>, AllocEr
     } else if byte.is_ascii_digit() {
         Ok(number(text))
     } else if *byte == b'"' {
-        string(alloc, &text[1..])
+        string(alloc, room, &text[1..])
     } else if *byte == b'\'' {
         Ok(character(&text[1..]))
     } else {
@@ -335,12 +345,13 @@ pub(crate) fn scan_file(alloc: Global, text: &str) -> Result<Scan, AllocError>
     requires { length text.now ≤ 65536 }
     ensures { IfOk result (λ scan. IsScan text.now scan.tokens.items scan.stop) }
 {
+    let mut room = String::new(alloc);
     let mut tokens = Vec::new(alloc);
     let mut rest = text;
     loop {
         let here = skip_spaces(rest);
         let offset = (text.len() - here.len()) as u32;
-        let Some((token, behind)) = token(alloc, here)? else {
+        let Some((token, behind)) = token(alloc, &mut room, here)? else {
             return Ok(Scan {
                 tokens,
                 stop: offset,

@@ -1,6 +1,6 @@
 //! The words of strings.
-ghost use Rattle.std.specs.Prelude.{◌≡◌, ◌++◌, map, not, IfOk, OnOk};
-ghost use Rattle.spec_lbnf.specs.Words.{is_empty, words_in};
+ghost use Rattle.std.specs.Prelude.{◌≡◌, ◌++◌, not, IfOk, OnOk};
+ghost use Rattle.spec_lbnf.specs.Words.{is_empty};
 ghost use Rattle.spec_lbnf.specs.Expansion.{word_items};
 ghost use Rattle.spec_lbnf.specs.declared.definition.RawItem.TheVariants.{Word};
 
@@ -13,15 +13,6 @@ fn has_bytes(part: &str) -> bool
     ensures { result ≡ not (is_empty part.now) }
 {
     !part.is_empty()
-}
-
-/// The parts of a string between its spaces, without empty ones.
-fn word_parts(alloc: Global, text: &str) -> Result<Vec<&str>, AllocError>
-    ensures { IfOk result (λ parts. map (λ part. part.now) parts.items ≡ words_in text.now) }
-{
-    text.split(' ')
-        .filter(|part| has_bytes(*part))
-        .collect(alloc)
 }
 
 /// A word, as an item. Its bytes are copied.
@@ -40,9 +31,8 @@ pub(crate) fn add_words(
 ) -> Result<(), AllocError>
     ensures { OnOk result (items.new ≡ items.old ++ word_items text.now) }
 {
-    let parts = word_parts(alloc, text.as_str())?;
-    for part in parts.iter() {
-        items.push(word_item(alloc, *part)?)?;
+    for part in text.as_str().split(' ').filter(|part| has_bytes(*part)) {
+        items.push(word_item(alloc, part)?)?;
     }
     Ok(())
 }

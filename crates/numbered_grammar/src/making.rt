@@ -58,12 +58,7 @@ fn have_own(categories: &[Name], kinds: &[KindDef], rules: &[Rule]) -> bool
         (grammar_of_parts rules.now categories.now (lexicon_of kinds.now)
         (entry_of_rules rules.now)) }
 {
-    for rule in rules {
-        if !has_own(categories, kinds, rule) {
-            return false;
-        }
-    }
-    true
+    rules.iter().all(|rule| has_own(categories, kinds, rule))
 }
 
 fn have_few_items(rules: &[Rule]) -> bool

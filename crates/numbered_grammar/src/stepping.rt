@@ -22,11 +22,10 @@ fn one_if_non_nullable(flags: &[bool], symbol: Symbol) -> usize
 fn non_nullable_count(flags: &[bool], items: &[Symbol]) -> usize
     ensures { result ≡ non_nullable_count flags.now items.now }
 {
-    let mut count = 0;
-    for item in items {
-        count += one_if_non_nullable(flags, *item);
-    }
-    count
+    items
+        .iter()
+        .filter(|item| !is_nullable(flags, **item))
+        .count()
 }
 
 /// Links the category to the item, if the item is a category, and each of the `non_nullable` items

@@ -1,10 +1,10 @@
 -- Cells by number: a cell more, and the union of two.
-use Rattle.std.proofs.Common.{◌≡◌, ℕ, ◌+◌, ◌<◌, List, [], ◌∷◌, ◌++◌, length, get_or, map, refl, sym, ◌∙◌, ap, inl, inr, arith, Contains}
+use Rattle.std.proofs.Common.{◌≡◌, ℕ, ◌+◌, ◌-◌, ◌<◌, ◌≤◌, List, [], ◌∷◌, ◌++◌, length, get_or, map, refl, sym, ◌∙◌, ap, inl, inr, arith, Contains}
 use Rattle.std.proofs.lemmas.Bool.{cases_lt}
 use Rattle.std.proofs.lemmas.List.{length_push, get_or_push, get_or_append_left, length-map, map-append}
 use Rattle.cell_sets.specs.Cells.{IsUnion, HaveSame}
 use Rattle.cell_sets.proofs.CellsLemmas.{has_first}
-use Rattle.quad_mat.specs.Rows.{cell_of, AreFull}
+use Rattle.quad_mat.specs.Rows.{cell_of, AreFull, AreDifferent, StayDifferent, IsMissingFrom}
 use Rattle.quad_mat.specs.Rooms.{NumbersCell, NumbersBoth}
 use Rattle.quad_mat.proofs.EntryLemmas.{cell_read, grows_self}
 
@@ -18,6 +18,41 @@ full_push cells cell full some n within none =
           let last : length cells ≡ n = omega (arith, longer, past, within) in
           some (sym (get_or_push cells cell [] n last) ∙ none)
     ]
+
+-- and has not the symbols of one of them
+different_push :
+    (cells : List (List ℕ)) (cell : List ℕ) → IsMissingFrom cells 0 cell → AreDifferent cells → AreDifferent (cells ++ cell ∷ [])
+different_push cells cell missing different =
+    let longer : length (cells ++ cell ∷ []) ≡ length cells + 1 = length_push cells cell in
+    let old = λ (n : ℕ) (before : n < length cells). get_or_append_left cells (cell ∷ []) [] n before in
+    record {
+      each = λ m n order within same. elim (cases_lt n (length cells)) [
+        | inl before ↦
+            different.each m n order before (rw (old m (omega (arith, order, before)), old n before) at same)
+        | inr past ↦
+            let first : m < length cells = omega (arith, longer, past, within, order) in
+            let last : length cells ≡ n = omega (arith, longer, past, within) in
+            let have : HaveSame (cell_of cells m) cell = rw (old m first, get_or_push cells cell [] n last) at same in
+            missing m (omega arith) first (λ s. ((have s).1, (have s).0))
+      ];
+    }
+
+-- so no two have the same symbols where no two had them
+pub different_pushed :
+    {C : Type 0} (symbols : C → List ℕ) (cells new : List C) (cell : C) (from : ℕ)
+    → from ≡ 0 → IsMissingFrom (map symbols cells) from (symbols cell) → new ≡ cells ++ cell ∷ []
+    → StayDifferent (map symbols cells) (map symbols new)
+different_pushed symbols cells new cell from zero missing is =
+    let table : map symbols new ≡ map symbols cells ++ symbols cell ∷ [] = ap (map symbols) is ∙ map-append symbols cells (cell ∷ []) in
+    rw table (record { each = different_push (map symbols cells) (symbols cell) (rw zero at missing) })
+
+-- the same cells
+pub stay_same : (cells : List (List ℕ)) → StayDifferent cells cells
+stay_same cells = record { each = λ different. different }
+
+-- from the first cells to the third by the second
+pub stay_then : (old now new : List (List ℕ)) → StayDifferent old now → StayDifferent now new → StayDifferent old new
+stay_then old now new one other = record { each = λ different. other.each (one.each different) }
 
 -- it is the last of them
 pub numbers_pushed :
@@ -118,3 +153,24 @@ pub place_same :
     → place < length cells → c ≡ get_or cells place c → HaveSame other (symbols c)
     → (place < length cells) × HaveSame other (cell_of (map symbols cells) place)
 place_same symbols cells place c other within is same = (within, rw (cell_read symbols cells place c within is) same)
+
+-- a cell at a place, without just these symbols
+pub place_differs :
+    {C : Type 0} (symbols : C → List ℕ) (cells : List C) (place : ℕ) (c : C) (other : List ℕ)
+    → place < length cells → c ≡ get_or cells place c → (HaveSame other (symbols c) → ⊥)
+    → HaveSame other (cell_of (map symbols cells) place) → ⊥
+place_differs symbols cells place c other within is differs same =
+    differs (rw (cell_read symbols cells place c within is) at same)
+
+-- where none is such from a place on, and the one before it is not, none is from that one on
+pub none_from_before :
+    (Is : ℕ → Type 0) (place count : ℕ)
+    → ((n : ℕ) → place ≤ n → n < count → Is n → ⊥) → (Is (place - 1) → ⊥)
+    → (n : ℕ) → place - 1 ≤ n → n < count → Is n → ⊥
+none_from_before Is place count none not_before n from within is =
+    elim (cases_lt n place) [
+      | inl below ↦
+          let same : n ≡ place - 1 = omega (arith, from, below) in
+          not_before (rw same at is)
+      | inr past ↦ none n past within is
+    ]

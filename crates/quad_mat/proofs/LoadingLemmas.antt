@@ -6,12 +6,12 @@ use Rattle.cell_sets.specs.Cells.{IsUnion, HaveSame}
 use Rattle.quad_mat.specs.declared.entries.Entry.{Entry}
 use Rattle.quad_mat.specs.declared.loading.Window.{Window}
 use Rattle.quad_mat.specs.declared.room.RowUnion.{RowUnion}
-use Rattle.quad_mat.specs.Rows.{cell_of, blank, EntryHas, RowHas, HasRisingColumns, column_at, AreFull, Grows}
+use Rattle.quad_mat.specs.Rows.{cell_of, blank, EntryHas, RowHas, HasRisingColumns, column_at, AreFull, Grows, StayDifferent}
 use Rattle.quad_mat.specs.Rooms.{NumbersCell, NumberHas, IsRoom, RoomGrows}
 use Rattle.quad_mat.specs.Rows.{row_of}
 use Rattle.quad_mat.specs.Loading.{IsMovedTo, MovedHas, AreCopied, CopiesCell, IsMovedUpTo, PushesMoved, IsMovedRow, IsKnown, AreBelow, AreNumbersOf, MovedNumberHas, Renumbers}
 use Rattle.quad_mat.proofs.EntryLemmas.{has_none, first_more, push_has, push_row, row_none, row_grows, grows_length, grows_read, grows_self, grows_then, has_grows, cell_read}
-use Rattle.quad_mat.proofs.CellLemmas.{copy_same, same_some}
+use Rattle.quad_mat.proofs.CellLemmas.{copy_same, same_some, stay_same, stay_then}
 use Rattle.quad_mat.proofs.RoomLemmas.{number_grows}
 
 -- what is written at a place of a list is there
@@ -74,6 +74,7 @@ module _ (source old : List (List ℕ)) (known : List (Option ℕ)) (n : ℕ) (w
   cell_known m is = record {
     grows = grows_self old;
     full = full;
+    different = stay_same old;
     copied = copied;
     within = (copied.each n m is).0;
     same = (copied.each n m is).1;
@@ -82,11 +83,12 @@ module _ (source old : List (List ℕ)) (known : List (Option ℕ)) (n : ℕ) (w
   -- a cell that was copied
   pub cell_copied :
       (new : List (List ℕ)) (symbols : List ℕ) (m : ℕ)
-      → HaveSame (cell_of source n) symbols → NumbersCell old new symbols m
+      → HaveSame (cell_of source n) symbols → NumbersCell old new symbols m → StayDifferent old new
       → CopiesCell source old new (set known n (Some m)) n m
-  cell_copied new symbols m same number = record {
+  cell_copied new symbols m same number different = record {
     grows = number.grows;
     full = number.full;
+    different = different;
     copied = record {
       count = length-set known n (Some m) ∙ copied.count;
       each = λ i j is. elim (set_cases known n m i j (omega (arith, copied.count, within)) is) [
@@ -109,6 +111,7 @@ module _ (w : Window) (columns : ℕ) (source old : List (List ℕ)) (row : List
   moved_start known full copied = record {
     grows = grows_self old;
     full = full;
+    different = stay_same old;
     copied = copied;
     is_row = row_none (length old) columns;
     below = λ k m d within from to. absurd (omega arith);
@@ -136,6 +139,7 @@ module _ (w : Window) (columns : ℕ) (source old : List (List ℕ)) (row : List
     moved_skip missing = record {
       grows = so_far.grows;
       full = so_far.full;
+      different = so_far.different;
       copied = so_far.copied;
       is_row = so_far.is_row;
       below = λ k m d inside from to. so_far.below k m d inside (omega (arith, from)) to;
@@ -161,6 +165,7 @@ module _ (w : Window) (columns : ℕ) (source old : List (List ℕ)) (row : List
     moved_more new after to cell rising fits moves copies = record {
       grows = grows_then old now new so_far.grows copies.grows;
       full = copies.full;
+      different = stay_then old now new so_far.different copies.different;
       copied = copies.copied;
       is_row =
           push_row made f (length new) columns

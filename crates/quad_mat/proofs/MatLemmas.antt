@@ -12,7 +12,7 @@ use Rattle.quad_mat.specs.declared.loading.Window.{Window}
 use Rattle.quad_mat.specs.declared.loading.Body.{Body}
 use Rattle.quad_mat.specs.declared.room.RowUnion.{RowUnion}
 use Rattle.quad_mat.specs.Matrices.{HasSize, IsSingle, IsUnionOf, IsPart, IsCut}
-use Rattle.quad_mat.specs.Rows.{found, RowHas}
+use Rattle.quad_mat.specs.Rows.{found, RowHas, AreDifferent}
 use Rattle.quad_mat.specs.Rooms.{IsRoom, IsSingleRow}
 use Rattle.quad_mat.specs.Rows.{row_of}
 use Rattle.quad_mat.specs.Loading.{PartHas, AreBelow, IsSource, IsBody, AreNumbersOf, MovedNumberHas, IsMatOf, BothHave}
@@ -164,22 +164,24 @@ module _ {C : Type 0} (symbols : C → List ℕ) (rows columns : ℕ) where
 pub kept_room :
     {C : Type 0} (symbols : C → List ℕ) (count columns : ℕ) (shared : Arc (Body C) Global) (body : Body C) (unions : List RowUnion)
     → shared.value ≡ body → count ≡ length body.numbers
-    → IsRoom columns (map symbols body.cells.items) body.rows unions → AreBelow (length body.rows) body.numbers
+    → IsRoom columns (map symbols body.cells.items) body.rows unions → AreDifferent (map symbols body.cells.items)
+    → AreBelow (length body.rows) body.numbers
     → IsKept symbols count columns (Some shared)
-kept_room symbols count columns shared body unions same is_count room below =
-    rw same (sym is_count, record { full = room.full; each = room.each; within = below })
+kept_room symbols count columns shared body unions same is_count room different below =
+    rw same (sym is_count, record { full = room.full; different = different; each = room.each; within = below })
 
 -- and then it is a matrix of its rows
 pub packed_room :
     {C : Type 0} (symbols : C → List ℕ) (count columns : ℕ) (shared : Arc (Body C) Global) (body : Body C) (unions : List RowUnion)
     → shared.value ≡ body → count ≡ length body.numbers
-    → IsRoom columns (map symbols body.cells.items) body.rows unions → AreBelow (length body.rows) body.numbers
+    → IsRoom columns (map symbols body.cells.items) body.rows unions → AreDifferent (map symbols body.cells.items)
+    → AreBelow (length body.rows) body.numbers
     → IsMatOf columns (map symbols body.cells.items) body.rows body.numbers (grid_of count columns (found_in symbols (Some shared)))
-packed_room {C = C} symbols count columns shared body unions same is_count room below =
+packed_room {C = C} symbols count columns shared body unions same is_count room different below =
     let At : Body C → Type 0 =
     λ b. IsMatOf columns (map symbols b.cells.items) b.rows b.numbers (grid_of count columns (found_in symbols (Some shared))) in
     subst At same
-    (packed_some symbols count columns shared (kept_room symbols count columns shared body unions same is_count room below))
+    (packed_some symbols count columns shared (kept_room symbols count columns shared body unions same is_count room different below))
 
 -- a room with the empty row alone is a matrix without symbols
 pub packed_none :

@@ -9,6 +9,7 @@ use Rattle.quad_mat.specs.declared.entries.Entry.{Entry}
 use Rattle.quad_mat.specs.declared.loading.Window.{Window}
 use Rattle.quad_mat.specs.Rows.{cell_of, FirstHas, RowHas, HasRisingColumns}
 use Rattle.quad_mat.specs.Rows.{column_at, AreCellsBelow, IsRow, AreFull, Grows}
+use Rattle.quad_mat.specs.Rows.{AreDifferent, StayDifferent}
 use Rattle.quad_mat.specs.Rooms.{NumberHas}
 use Rattle.quad_mat.specs.Rows.{row_of}
 use Rattle.quad_mat.specs.Matrices.{HasSize}
@@ -34,11 +35,12 @@ pub record AreCopied (source cells : List (List ℕ)) (known : List (Option ℕ)
       (n m : ℕ) → slice_get known n ≡ Some (Some m)
       → (m < length cells) × HaveSame (cell_of source n) (cell_of cells m)
 
--- the number is that of a cell with the same symbols, and is known
+-- the number is that of a cell with the same symbols, and is known; no cell comes twice
 pub record CopiesCell (source old new : List (List ℕ)) (known : List (Option ℕ)) (n m : ℕ)
     : Type 0 where
   pub grows : Grows old new
   pub full : AreFull new
+  pub different : StayDifferent old new
   pub copied : AreCopied source new known
   pub within : m < length new
   pub same : HaveSame (cell_of source n) (cell_of new m)
@@ -57,6 +59,7 @@ pub record IsMovedUpTo (w : Window) (columns : ℕ) (source old new : List (List
     (known : List (Option ℕ)) (row : List Entry) (count : ℕ) (made : List Entry) : Type 0 where
   pub grows : Grows old new
   pub full : AreFull new
+  pub different : StayDifferent old new
   pub copied : AreCopied source new known
   pub is_row : IsRow (length new) columns made
   pub below :
@@ -98,10 +101,12 @@ pub record IsSource (cells : List (List ℕ)) (rows : List (List Entry)) : Type 
 abbrev pub AreBelow : ℕ → List ℕ → Type 0
 AreBelow count numbers = (i : ℕ) → i < length numbers → slice_index numbers i < count
 
--- the matrix keeps cells that are not empty, rows over them, and for each row the number of one
+-- the matrix keeps different cells that are not empty, rows over them, and for each row the number
+-- of one
 pub record IsBody (columns : ℕ) (cells : List (List ℕ)) (rows : List (List Entry))
     (numbers : List ℕ) : Type 0 where
   pub full : AreFull cells
+  pub different : AreDifferent cells
   pub each : (n : ℕ) → n < length rows → IsRow (length cells) columns (row_of rows n)
   pub within : AreBelow (length rows) numbers
 

@@ -1,6 +1,7 @@
 -- Serves the proofs alone. Rows as lists of entries, each the number of a cell at its column.
-use Rattle.std.specs.Prelude.{◌≡◌, ℕ, ◌<◌, ◌≢◌, List, [], ◌∷◌, ◌++◌, length, slice_index_or}
+use Rattle.std.specs.Prelude.{◌≡◌, ℕ, ◌<◌, ◌≤◌, ◌≢◌, List, [], ◌∷◌, ◌++◌, length, slice_index_or}
 use Rattle.std.specs.Prelude.{if◌then◌else◌, ◌==◌, Result, MatchResult, Contains}
+use Rattle.cell_sets.specs.Cells.{HaveSame}
 use Rattle.quad_mat.specs.declared.entries.Entry.{Entry}
 
 -- the symbols of the cell of this number
@@ -65,6 +66,20 @@ IsColumnPlace row column place = MatchResult place
 -- no cell is empty
 abbrev pub AreFull : List (List ℕ) → Type 0
 AreFull cells = (n : ℕ) → n < length cells → cell_of cells n ≡ [] → ⊥
+
+-- no two cells have the same symbols
+pub record AreDifferent (cells : List (List ℕ)) : Type 0 where
+  pub each :
+      (m n : ℕ) → m < n → n < length cells → HaveSame (cell_of cells m) (cell_of cells n) → ⊥
+
+-- where no two of the old cells have the same symbols, no two of the new ones do
+pub record StayDifferent (old new : List (List ℕ)) : Type 0 where
+  pub each : AreDifferent old → AreDifferent new
+
+-- no cell from the place on has just these symbols
+abbrev pub IsMissingFrom : List (List ℕ) → ℕ → List ℕ → Type 0
+IsMissingFrom cells from symbols =
+    (n : ℕ) → from ≤ n → n < length cells → HaveSame symbols (cell_of cells n) → ⊥
 
 -- the new list begins with the old one
 abbrev pub Grows : {X : Type 0} → List X → List X → Type 0

@@ -1,7 +1,7 @@
-//! Cells by number, each kept once where it comes again soon.
-ghost use Rattle.std.specs.Prelude.{◌≡◌, ◌<◌, ◌^◌, [], length, map, IfOk, IfSome};
+//! Cells by number, each kept once where it comes again soon, or at all.
+ghost use Rattle.std.specs.Prelude.{◌≡◌, ◌<◌, ◌^◌, [], length, map, IfOk, MatchOption};
 ghost use Rattle.cell_sets.specs.Cells.{HaveSame};
-ghost use Rattle.quad_mat.specs.Rows.{cell_of, AreFull};
+ghost use Rattle.quad_mat.specs.Rows.{cell_of, AreFull, IsMissingFrom, StayDifferent};
 ghost use Rattle.quad_mat.specs.Rooms.{NumbersCell, NumbersBoth};
 ghost use Rattle.quad_mat.specs.Products.{NumbersSome};
 
@@ -21,21 +21,43 @@ pub(crate) fn number_of(place: usize) -> Result<u32, AllocError>
     }
 }
 
-/// Where a cell with the same symbols stands among the last ones.
-fn place_of_cell<C: Cell>(cells: &[C], cell: &C) -> Option<usize>
-    ensures { IfSome result (λ n. (n < length cells.now)
+/// Where a cell with the same symbols stands, from this place on. The last ones come first.
+fn place_of_cell<C: Cell>(cells: &[C], cell: &C, from: usize) -> Option<usize>
+    ensures { MatchOption result
+        (IsMissingFrom (map C.symbols cells.now) from (C.symbols cell.now))
+        (λ n. (n < length cells.now)
         × HaveSame (C.symbols cell.now) (cell_of (map C.symbols cells.now) n)) }
 {
     let mut place = cells.len();
-    let mut left = LOOK_BACK;
-    while place > 0 && left > 0 {
+    while place > from {
         place -= 1;
-        left -= 1;
         if cell.same(&cells[place]) {
             return Some(place);
         }
     }
     None
+}
+
+/// The number of a cell with these symbols. It is put behind the others, unless one from this place
+/// on has the same. From 0 on none is put there twice.
+pub(crate) fn number_from<C: Cell>(
+    cells: &mut Vec<C>,
+    cell: C,
+    from: usize,
+) -> Result<u32, AllocError>
+    requires full { AreFull (map C.symbols cells.old.items) }
+    requires some { C.symbols cell ≡ [] → ⊥ }
+    ensures number { IfOk result (λ n. NumbersCell
+        (map C.symbols cells.old.items) (map C.symbols cells.new.items) (C.symbols cell) n) }
+    ensures different { IfOk result (λ _. from ≡ 0
+        → StayDifferent (map C.symbols cells.old.items) (map C.symbols cells.new.items)) }
+{
+    if let Some(place) = place_of_cell(cells.as_slice(), &cell, from) {
+        return number_of(place);
+    }
+    let number = number_of(cells.len())?;
+    cells.push(cell)?;
+    Ok(number)
 }
 
 /// The number of a cell with these symbols. It is put behind the others, unless one of the last has
@@ -46,12 +68,8 @@ pub(crate) fn number_of_cell<C: Cell>(cells: &mut Vec<C>, cell: C) -> Result<u32
     ensures { IfOk result (λ n. NumbersCell
         (map C.symbols cells.old.items) (map C.symbols cells.new.items) (C.symbols cell) n) }
 {
-    if let Some(place) = place_of_cell(cells.as_slice(), &cell) {
-        return number_of(place);
-    }
-    let number = number_of(cells.len())?;
-    cells.push(cell)?;
-    Ok(number)
+    let from = cells.len().saturating_sub(LOOK_BACK);
+    number_from(cells, cell, from)
 }
 
 /// The number of a cell with these symbols, None where it has none.

@@ -4,12 +4,12 @@ ghost use Rattle.std.specs.Prelude.{OnOk};
 ghost use Rattle.std.specs.Prelude.{slice_get, slice_index, Some};
 ghost use Rattle.quad_mat.specs.Rows.{AreCellsBelow, AreFull, HasRisingColumns};
 ghost use Rattle.quad_mat.specs.Rooms.{IsRoom, RoomGrows};
-ghost use Rattle.quad_mat.specs.Rows.{row_of};
+ghost use Rattle.quad_mat.specs.Rows.{row_of, StayDifferent};
 ghost use Rattle.quad_mat.specs.Loading.{AreBelow, AreCopied, AreNumbersOf, CopiesCell};
 ghost use Rattle.quad_mat.specs.Loading.{IsKnown, IsMovedRow, IsMovedTo, IsMovedUpTo, IsSource};
 ghost use Rattle.quad_mat.specs.Loading.{MovedNumberHas, PushesMoved};
 
-use crate::cells::number_of_cell;
+use crate::cells::number_from;
 use crate::entries::{Entry, Row, row_at};
 use crate::room::{Room, number_of_row};
 use cell_sets::Cell;
@@ -92,7 +92,8 @@ pub(crate) fn known_at(known: &Items<Option<u32>>, n: u32) -> Option<u32>
     known.as_slice()[n as usize]
 }
 
-/// The number of a cell of the source among the others. One that is not known is copied.
+/// The number of a cell of the source among the others. One that is not known is copied, unless a
+/// cell with the same symbols is there.
 fn copied_cell<C: Cell>(
     alloc: Global,
     source: &[C],
@@ -112,7 +113,7 @@ fn copied_cell<C: Cell>(
         return Ok(number);
     }
     let copy: C = C::empty().union(alloc, &source[n as usize])?;
-    let number = number_of_cell(cells, copy)?;
+    let number = number_from(cells, copy, 0)?;
     known.set(n as usize, Some(number));
     Ok(number)
 }
@@ -147,6 +148,21 @@ fn push_moved<C: Cell>(
     }
 }
 
+/// How many entries of a row the window has.
+fn count_in(row: &[Entry], window: Window) -> usize {
+    row.iter()
+        .filter(|entry| entry.column.wrapping_sub(window.first) < window.width)
+        .count()
+}
+
+/// A row without entries, with room for so many.
+fn row_for(alloc: Global, count: usize) -> Result<Row, AllocError>
+    ensures { IfOk result (λ row. row ≡ []) }
+{
+    let entries = Vec::with_capacity(alloc, count)?;
+    Ok(Items::from_vec(entries))
+}
+
 /// What the window has of a row over the source's cells, as a row over the others.
 fn moved_row<C: Cell>(
     alloc: Global,
@@ -168,7 +184,7 @@ fn moved_row<C: Cell>(
         (map C.symbols cells.old.items) (map C.symbols cells.new.items) known.new
         row.now (length row.now) made) }
 {
-    let mut made = Items::new(alloc);
+    let mut made = row_for(alloc, count_in(row, window))?;
     for entry in row {
         push_moved(alloc, source, known, cells, *entry, window, &mut made)?;
     }
@@ -197,6 +213,8 @@ fn brought_row<C: Cell>(
     ensures grows { IfOk result (λ _. RoomGrows room.old.columns
         (map C.symbols room.old.cells.items) room.old.rows
         (map C.symbols room.new.cells.items) room.new.rows room.new.unions) }
+    ensures different { IfOk result (λ _. StayDifferent
+        (map C.symbols room.old.cells.items) (map C.symbols room.new.cells.items)) }
     ensures known { IfOk result (λ _.
         IsKnown window (map C.symbols body.now.cells.items) body.now.rows
         (map C.symbols room.new.cells.items) room.new.rows known.new.cells known.new.rows) }
@@ -235,6 +253,8 @@ pub(crate) fn loaded_row<C: Cell>(
     ensures grows { IfOk result (λ _. RoomGrows room.old.columns
         (map C.symbols room.old.cells.items) room.old.rows
         (map C.symbols room.new.cells.items) room.new.rows room.new.unions) }
+    ensures different { IfOk result (λ _. StayDifferent
+        (map C.symbols room.old.cells.items) (map C.symbols room.new.cells.items)) }
     ensures known { IfOk result (λ _.
         IsKnown window (map C.symbols body.now.cells.items) body.now.rows
         (map C.symbols room.new.cells.items) room.new.rows known.new.cells known.new.rows) }
@@ -275,6 +295,8 @@ pub(crate) fn loaded_rows<C: Cell>(
     ensures grows { IfOk result (λ _. RoomGrows room.old.columns
         (map C.symbols room.old.cells.items) room.old.rows
         (map C.symbols room.new.cells.items) room.new.rows room.new.unions) }
+    ensures different { IfOk result (λ _. StayDifferent
+        (map C.symbols room.old.cells.items) (map C.symbols room.new.cells.items)) }
     ensures count { IfOk result (λ numbers. length numbers ≡ count) }
     ensures rows { IfOk result (λ numbers. AreNumbersOf
         (MovedNumberHas window (map C.symbols body.now.cells.items) body.now.rows
@@ -311,6 +333,8 @@ pub(crate) fn renumbered<C: Cell>(
     ensures grows { IfOk result (λ _. RoomGrows room.old.columns
         (map C.symbols room.old.cells.items) room.old.rows
         (map C.symbols room.new.cells.items) room.new.rows room.new.unions) }
+    ensures different { IfOk result (λ _. StayDifferent
+        (map C.symbols room.old.cells.items) (map C.symbols room.new.cells.items)) }
     ensures count { IfOk result (λ numbers. length numbers ≡ length named) }
     ensures rows { IfOk result (λ numbers. AreNumbersOf
         (MovedNumberHas window (map C.symbols body.now.cells.items) body.now.rows named 0)

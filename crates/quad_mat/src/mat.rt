@@ -7,7 +7,7 @@ ghost use Rattle.quad_mat.specs.Matrices.{HasSize, IsCut, IsMatProduct, IsPart};
 ghost use Rattle.quad_mat.specs.Matrices.{IsSingle, IsUnionOf};
 ghost use Rattle.quad_mat.specs.Rows.{found};
 ghost use Rattle.quad_mat.specs.Rooms.{IsRoom, RoomGrows};
-ghost use Rattle.quad_mat.specs.Rows.{row_of};
+ghost use Rattle.quad_mat.specs.Rows.{row_of, AreDifferent, StayDifferent};
 ghost use Rattle.quad_mat.specs.Loading.{AreBelow, AreNumbersOf, BothHave, IsBody, IsMatOf};
 ghost use Rattle.quad_mat.specs.Loading.{IsSource, PartHas};
 ghost use Rattle.quad_mat.specs.Products.{HasNothing, IsProductMat, Keeps};
@@ -157,6 +157,8 @@ impl<C: Cell> Mat<C> {
         ensures grows { IfOk result (λ _. RoomGrows room.old.columns
             (map C.symbols room.old.cells.items) room.old.rows
             (map C.symbols room.new.cells.items) room.new.rows room.new.unions) }
+        ensures different { IfOk result (λ _. StayDifferent
+            (map C.symbols room.old.cells.items) (map C.symbols room.new.cells.items)) }
         ensures count { IfOk result (λ numbers. length numbers ≡ count) }
         ensures rows { IfOk result (λ numbers. AreNumbersOf
             (λ i column s. PartHas window self.now (first + i) column s)
@@ -174,7 +176,7 @@ impl<C: Cell> Mat<C> {
         }
     }
 
-    /// The rows of these numbers as a matrix.
+    /// The rows of these numbers as a matrix. No two of the room's cells have the same symbols.
     fn packed(
         alloc: Global,
         room: Room<C>,
@@ -183,6 +185,7 @@ impl<C: Cell> Mat<C> {
     ) -> Result<Mat<C>, AllocError>
         requires count { length numbers ≡ rows_count }
         requires room { IsRoom room.columns (map C.symbols room.cells.items) room.rows room.unions }
+        requires different { AreDifferent (map C.symbols room.cells.items) }
         requires numbers { AreBelow (length room.rows) numbers }
         ensures { IfOk result (λ mat. IsMatOf
             room.columns (map C.symbols room.cells.items) room.rows numbers mat) }
@@ -240,7 +243,7 @@ fn cell_in<C: Cell>(body: &Body<C>, i: u32, j: u32) -> Option<&C>
 }
 
 /// The rows of these numbers as a matrix, with those cells and rows of the room alone that are
-/// used.
+/// used, each different cell once.
 fn finished<C: Cell>(
     alloc: Global,
     room: Room<C>,

@@ -5,9 +5,9 @@ ghost use Rattle.std.specs.Prelude.{◌↔◌};
 ghost use Rattle.quad_mat.specs.declared.room.RowUnion.{RowUnion};
 ghost use Rattle.quad_mat.specs.Rows.{IsRow};
 ghost use Rattle.quad_mat.specs.Rooms.{IsRoom, IsRowUnion, IsSingleRow, RoomGrows};
-ghost use Rattle.quad_mat.specs.Rows.{row_of};
+ghost use Rattle.quad_mat.specs.Rows.{row_of, AreDifferent, StayDifferent};
 
-use crate::cells::{LOOK_BACK, number_of, number_of_cell};
+use crate::cells::{LOOK_BACK, number_from, number_of};
 use crate::entries::{Entry, Row, row_at};
 use crate::merging::merged;
 use cell_sets::Cell;
@@ -77,6 +77,7 @@ pub(crate) fn empty_room<C: Cell>(alloc: Global, columns: u32) -> Result<Room<C>
     ensures columns { IfOk result (λ room. room.columns ≡ columns) }
     ensures room { IfOk result (λ room.
         IsRoom columns (map C.symbols room.cells.items) room.rows room.unions) }
+    ensures different { IfOk result (λ room. AreDifferent (map C.symbols room.cells.items)) }
 {
     let mut rows = Items::new(alloc);
     rows.push(Items::new(alloc))?;
@@ -125,8 +126,10 @@ pub(crate) fn number_of_single<C: Cell>(
         (map C.symbols room.new.cells.items) room.new.rows room.new.unions) }
     ensures row { IfOk result (λ n. IsSingleRow (map C.symbols room.new.cells.items) room.new.rows
         column (C.symbols cell) n) }
+    ensures different { IfOk result (λ _. StayDifferent
+        (map C.symbols room.old.cells.items) (map C.symbols room.new.cells.items)) }
 {
-    let number = number_of_cell(&mut room.cells, cell)?;
+    let number = number_from(&mut room.cells, cell, 0)?;
     let mut row = Items::new(alloc);
     row.push(Entry {
         column,

@@ -21,6 +21,9 @@ number_of_row-requires-clause-room g c κs within =
     room_cells room.columns (map g.C.Cell.symbols room.cells.items) room.rows room.unions c.requires.room _
     c.in_ok-made.ensures.grows c.in_ok-made.ensures.full
 
+pub returns-clause-different : goal.returns-clause-different
+returns-clause-different g c = rw c.in_ok-number.ensures.cells c.in_ok-made.ensures.different
+
 pub returns-clause-row : goal.returns-clause-row
 returns-clause-row g c =
     let symbols = g.C.Cell.symbols in

@@ -1,5 +1,5 @@
 -- A cell that is known, or a copy.
-use Rattle.std.proofs.Common.{map, arith}
+use Rattle.std.proofs.Common.{map, arith, refl}
 use Rattle.std.proofs.lemmas.List.{length-map}
 use Rattle.quad_mat.proofs.LoadingLemmas.{cell_known, cell_copied, source_copy}
 use Rattle.quad_mat.proofs.loading.copied_cell.Goals as goal
@@ -12,8 +12,8 @@ returns-in-Some g c =
     (omega (arith, length-map source symbols, c.requires.within)) c.requires.full c.requires.copied c.in-Some.number
     c.in-Some.ensures
 
-pub number_of_cell-requires-clause-some : goal.number_of_cell-requires-clause-some
-number_of_cell-requires-clause-some g c κs within =
+pub number_from-requires-clause-some : goal.number_from-requires-clause-some
+number_from-requires-clause-some g c κs within =
     (source_copy g.C.Cell.symbols c.args.source.now c.args.n c.empty.result c.index-source-n.result c.in_ok-copy.copy
     c.requires.source c.requires.within c.index-source-n.is c.empty.ensures.items c.in_ok-copy.ensures.ok).0
 
@@ -27,5 +27,5 @@ returns g c =
     rw c.set.ensures
     (cell_copied (map symbols source) (map symbols c.args.cells.now.items) c.args.known.now c.args.n
     (omega (arith, length-map source symbols, c.requires.within)) c.requires.full c.requires.copied
-    (map symbols c.number_of_cell.new.cells.items) (symbols c.in_ok-copy.copy) c.in_ok-number.number copy.1
-    c.in_ok-number.ensures)
+    (map symbols c.number_from.new.cells.items) (symbols c.in_ok-copy.copy) c.in_ok-number.number copy.1
+    c.in_ok-number.ensures.number (c.in_ok-number.ensures.different refl))

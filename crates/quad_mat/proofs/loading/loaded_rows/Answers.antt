@@ -2,6 +2,7 @@
 use Rattle.std.proofs.Common.{map, length, get_or, ◌≡◌, ◌+◌, ◌∙◌, ap, refl, arith}
 use Rattle.std.proofs.lemmas.List.{length-map, length_push}
 use Rattle.quad_mat.specs.Loading.{MovedNumberHas}
+use Rattle.quad_mat.proofs.CellLemmas.{stay_same, stay_then}
 use Rattle.quad_mat.proofs.RoomLemmas.{room_kept, room_then}
 use Rattle.quad_mat.proofs.LoadingLemmas.{known_none, numbers_none, moved_next}
 use Rattle.quad_mat.proofs.loading.loaded_rows.Goals as goal
@@ -16,6 +17,7 @@ loop-i-init g c =
     rw c.in_ok-numbers.ensures (record {
       columns = refl;
       grows = room_kept room.columns (map symbols room.cells.items) room.rows room.unions c.requires.room;
+      different = stay_same (map symbols room.cells.items);
       known =
           known_none c.args.window source c.args.body.now.rows (map symbols room.cells.items) room.rows c.in_ok-cells.cells
           c.in_ok-rows.rows count c.in_ok-cells.ensures.none (c.in_ok-rows.ensures.count ∙ c.len-2.ensures)
@@ -42,6 +44,9 @@ loop-i-preserved g c =
       grows =
           room_then old.columns (map symbols old.cells.items) (map symbols now.cells.items) (map symbols new.cells.items)
           old.rows now.rows new.rows now.unions new.unions before.grows grows;
+      different =
+          stay_then (map symbols old.cells.items) (map symbols now.cells.items) (map symbols new.cells.items)
+          before.different made.different;
       known = made.known;
       count = length_push c.loop-i.numbers c.in_ok-m.m ∙ ap (λ n. n + 1) before.count;
       rows =

@@ -1,5 +1,6 @@
 -- The numbers so far are those of the rows so far.
 use Rattle.std.proofs.Common.{◌≡◌, length, map}
+use Rattle.quad_mat.specs.Rows.{StayDifferent}
 use Rattle.quad_mat.specs.Rooms.{RoomGrows}
 use Rattle.quad_mat.specs.Loading.{AreNumbersOf, IsKnown, MovedNumberHas}
 use Rattle.quad_mat.proofs.loading.loaded_rows.Given as goal
@@ -10,6 +11,7 @@ invariant-loop-i g l =
       columns : l.room.columns ≡ (l.fn).room.columns;
       grows : RoomGrows (l.fn).room.columns (map symbols (l.fn).room.cells.items) (l.fn).room.rows
           (map symbols l.room.cells.items) l.room.rows l.room.unions;
+      different : StayDifferent (map symbols (l.fn).room.cells.items) (map symbols l.room.cells.items);
       known : IsKnown l.window (map symbols l.body.cells.items) l.body.rows
           (map symbols l.room.cells.items) l.room.rows l.known.cells l.known.rows;
       count : length l.numbers ≡ l.i;

@@ -8,7 +8,7 @@ use Rattle.quad_mat.proofs.loading.moved_row.Goals as goal
 pub loop-entry-init : goal.loop-entry-init
 loop-entry-init g c =
     let symbols = g.C.Cell.symbols in
-    rw c.new-made.ensures
+    rw c.in_ok-made.ensures
     (moved_start c.args.window c.args.columns (map symbols c.args.source.now) (map symbols c.args.cells.now.items) c.args.row.now
     c.args.known.now c.requires.full c.requires.copied)
 

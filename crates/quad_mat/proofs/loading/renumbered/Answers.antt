@@ -1,6 +1,7 @@
 -- Nothing is known at first; one number more; all numbers.
 use Rattle.std.proofs.Common.{map, get_or, ◌∙◌, ap, refl, sym, arith}
 use Rattle.std.proofs.lemmas.List.{length-map}
+use Rattle.quad_mat.proofs.CellLemmas.{stay_same, stay_then}
 use Rattle.quad_mat.proofs.RoomLemmas.{room_kept, room_then}
 use Rattle.quad_mat.proofs.LoadingLemmas.{known_none, renumber_start, renumber_next, renumber_all}
 use Rattle.quad_mat.proofs.loading.renumbered.Goals as goal
@@ -13,6 +14,7 @@ loop-i-init g c =
     let known = c.in_ok-known in record {
       columns = refl;
       grows = room_kept room.columns (map symbols room.cells.items) room.rows room.unions c.requires.room;
+      different = stay_same (map symbols room.cells.items);
       known =
           known_none c.args.window (map symbols body.cells.items) body.rows (map symbols room.cells.items) room.rows
           known.known.cells known.known.rows (known.ensures.cells ∙ sym (length-map body.cells.items symbols))
@@ -43,6 +45,9 @@ loop-i-preserved g c =
       grows =
           room_then old.columns (map symbols old.cells.items) (map symbols now.cells.items) (map symbols new.cells.items)
           old.rows now.rows new.rows now.unions new.unions before.grows grows;
+      different =
+          stay_then (map symbols old.cells.items) (map symbols now.cells.items) (map symbols new.cells.items)
+          before.different made.different;
       known = made.known;
       numbers =
           renumber_next c.args.window (map symbols body.cells.items) body.rows c.args.named old.columns

@@ -8,6 +8,9 @@ renumbered-requires-clause-body g c κs within =
     let room = c.args.room in
     room_source room.columns (map g.C.Cell.symbols room.cells.items) room.rows room.unions c.requires.room
 
+pub packed-requires-clause-different : goal.packed-requires-clause-different
+packed-requires-clause-different g c κs within = c.in_ok-numbers.ensures.different.each c.in_ok-used.ensures.different
+
 pub returns : goal.returns
 returns g c =
     let symbols = g.C.Cell.symbols in

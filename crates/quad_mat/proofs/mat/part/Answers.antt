@@ -3,6 +3,9 @@ use Rattle.std.proofs.Common.{map, refl, ◌∙◌}
 use Rattle.quad_mat.proofs.MatLemmas.{part_rows}
 use Rattle.quad_mat.proofs.mat.part.Goals as goal
 
+pub packed-requires-clause-different : goal.packed-requires-clause-different
+packed-requires-clause-different g c κs within = c.in_ok-numbers.ensures.different.each c.in_ok-room.ensures.different
+
 pub returns-clause-part : goal.returns-clause-part
 returns-clause-part g c =
     let room = c.loaded.new.room in

@@ -3,6 +3,9 @@ use Rattle.std.proofs.Common.{map, ◌∙◌}
 use Rattle.quad_mat.proofs.MatLemmas.{single_rows}
 use Rattle.quad_mat.proofs.mat.Mat.at.Goals as goal
 
+pub packed-requires-clause-different : goal.packed-requires-clause-different
+packed-requires-clause-different g c κs within = c.in_ok-number.ensures.different.each c.in_ok-room.ensures.different
+
 pub returns : goal.returns
 returns g c =
     let symbols = g.C.Cell.symbols in

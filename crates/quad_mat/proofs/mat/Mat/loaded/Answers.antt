@@ -2,6 +2,7 @@
 use Rattle.std.proofs.Common.{map, ◌+◌, subst, arith}
 use Rattle.cell_sets.specs.Grids.{Grid}
 use Rattle.quad_mat.specs.Loading.{AreNumbersOf, PartHas}
+use Rattle.quad_mat.proofs.CellLemmas.{stay_same}
 use Rattle.quad_mat.proofs.MatLemmas.{kept_source, loaded_some, loaded_none, view_rows, view_columns}
 use Rattle.quad_mat.proofs.mat.Mat.loaded.Goals as goal
 
@@ -48,3 +49,6 @@ returns-in_ok-numbers-in-None-clause-rows g c =
     (map symbols room.cells.items) room.rows room.unions numbers
     (omega (arith, c.requires.rows, view_rows _ _ _ _ c.self.view_is))
     (omega (arith, c.requires.columns, view_columns _ _ _ _ c.self.view_is)) made.count c.requires.room made.zero)
+
+pub returns-in_ok-numbers-in-None-clause-different : goal.returns-in_ok-numbers-in-None-clause-different
+returns-in_ok-numbers-in-None-clause-different g c = stay_same _

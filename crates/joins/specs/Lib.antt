@@ -1,0 +1,4 @@
+pub mod Joins
+pub mod ClosedCharts
+pub mod JoinedRows
+pub mod Laws
