@@ -79,7 +79,7 @@ module _ (input before : List ℕ) (now : Option (List ℕ)) (is : now ≡ Some 
         rest = rest;
         in_order = in_order;
         begins = begins;
-        ends = (h.0, (h.1 rest comes).0, (h.1 rest comes).1);
+        ends = h rest comes;
       }
   stops_early front at rest in_order replies begins coming comes (Fault fault) h =
       ([], is ∙ ap Some (sym (append-nil before)), none_is_prefix)
@@ -216,7 +216,7 @@ module _ {C : Type 0} (input before : List ℕ) (coming : Option (List ℕ)) (at
         rest = r.rest;
         in_order = tt;
         begins = r.begins;
-        ends = (h.0, (h.1 r.rest r.comes).0, (h.1 r.rest r.comes).1);
+        ends = h r.rest r.comes;
       }
   running_stops (Fault fault) h = written_is_prefix input before now gathered told r.is_told told_is_prefix
 

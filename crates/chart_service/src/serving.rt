@@ -133,10 +133,9 @@ fn turn<S: Source, K: Sink, C: Cell>(
     ensures is_in { OnOk result ((state : State) × IsIn session.new state) }
 {
     replies.flush_unless(sink, ahead.has_line())?;
-    let at = ahead.offset();
     let head = read_head(source, ahead, line)?;
     replies.flush_unless(sink, !head.has_block())?;
-    let command = read_command(alloc, source, ahead, head, at)?;
+    let command = read_command(alloc, source, ahead, head)?;
     if is_end(&command) {
         return Ok(false);
     }

@@ -138,7 +138,7 @@ fn each_way_to_end_has_its_last_line(rt: HostRuntime) -> Result<(), Fail> {
         (
             b"script 1\ngrammar 70000\n".as_slice(),
             3,
-            b"script refused 9\n".as_slice(),
+            b"script refused 23\n".as_slice(),
         ),
         (
             b"script 1\ngrammar 0\n\nend\n".as_slice(),

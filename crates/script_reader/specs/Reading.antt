@@ -9,7 +9,7 @@ use Rattle.cyk_io.specs.Lines.{IsLine}
 use Rattle.spec_text.specs.declared.limits.TheConstants.{MAX_FILE}
 use Rattle.spec_script.specs.declared.limits.TheConstants.{MAX_BLOCK}
 use Rattle.spec_script.specs.Script.{opens, edits, ask, Part, grammar, of_command, text_of}
-use Rattle.spec_script.specs.Script.{IsWithinLimits, Script, any_order, GoesOn, HasEndLine}
+use Rattle.spec_script.specs.Script.{IsWithinLimits, Script, any_order, BreaksAt}
 use Rattle.script_reader.specs.declared.command.Block.{Block}
 use Rattle.script_reader.specs.declared.command.Block.TheVariants.{Kept, TooLong}
 use Rattle.script_reader.specs.declared.command.Head.{Head}
@@ -62,24 +62,15 @@ TakesCommand from to old new (Ask query) =
     TakesPart from to old new (of_command (ask (query_of query)))
 TakesCommand from to old new End = TakesEnd from to old new
 
--- behind the script neither a part in its place comes nor, in its place, the line `end`
-abbrev pub NothingFollows : Script → ℕ → Option (List ℕ) → Type 0
-NothingFollows script from old =
-    (told : List ℕ) → old ≡ Some told
-    → (GoesOn any_order script from told → ⊥) × (HasEndLine any_order script from told → ⊥)
-
 -- the fault is one that a call may answer that reads and does not write
 abbrev pub IsOfReading : IoFault → Type 0
 IsOfReading Read = Unit {0}
 IsOfReading Write = ⊥
 IsOfReading Memory = Unit {0}
 
--- reading stops so: the script is broken at this offset, where nothing comes that is sought, or
+-- behind the script, from this offset on, reading stops so: the script is broken at this place, or
 -- reading failed
-abbrev pub Stops : ℕ → Type 0 → Stop → Type 0
-Stops from NothingComes (Breaks at) = (at ≡ from) × NothingComes
-Stops from NothingComes (Fault fault) = IsOfReading fault
-
--- behind the script reading stops so
 abbrev pub StopsBehind : Script → ℕ → Option (List ℕ) → Stop → Type 0
-StopsBehind script from old = Stops from (NothingFollows script from old)
+StopsBehind script from old (Breaks place) =
+    (told : List ℕ) → old ≡ Some told → BreaksAt any_order script from told place
+StopsBehind script from old (Fault fault) = IsOfReading fault

@@ -10,10 +10,9 @@ ghost use Rattle.spec_script.specs.Script.{Script, nothing, header_alone, header
 ghost use Rattle.spec_script.specs.Script.{IsComplete};
 ghost use Rattle.script_reader.specs.declared.stop.Stop.TheVariants.{Fault};
 ghost use Rattle.script_reader.specs.Reading.{TakesPart, TakesGrammar, TakesHead, TakesCommand};
-ghost use Rattle.script_reader.specs.Reading.{Stops, StopsBehind};
-ghost use Rattle.script_reader.specs.LinesAndBlocks.{TakesLine, NoLineComes, TakesCount};
-ghost use Rattle.script_reader.specs.LinesAndBlocks.{NoCountComes, TakesBlock, NoBlockComes};
-ghost use Rattle.script_reader.specs.LinesAndBlocks.{PassesBlock, FindsBlock};
+ghost use Rattle.script_reader.specs.Reading.{StopsBehind};
+ghost use Rattle.script_reader.specs.LinesAndBlocks.{TakesLine, TakesGrammarLine, TakesBlock};
+ghost use Rattle.script_reader.specs.LinesAndBlocks.{StopsInBlock, PassesBlock, FindsBlock};
 
 use crate::command::{Block, Command, Head};
 use crate::forms::{MAX_NUMBER, count_behind, head_of};
@@ -32,8 +31,8 @@ fn next_line<S: Source>(
     requires early { ahead.old.offset < 2 ^ 62 }
     ensures ok { OnOk result (TakesLine ahead.old.offset ahead.new.offset
         (coming ahead.old (S.left source.old)) (coming ahead.new (S.left source.new)) line.new) }
-    ensures err { IfErr result (Stops ahead.old.offset
-        (NoLineComes ahead.old.offset (coming ahead.old (S.left source.old)))) }
+    ensures err { (script : Script) → IfErr result (StopsBehind script ahead.old.offset
+        (coming ahead.old (S.left source.old))) }
     ensures cause { HasCause (S.faults source.old) (S.faults source.new)
         (IsErrOf result (Fault Read)) }
     ensures range { ahead.new.offset ≤ ahead.old.offset + 257 }
@@ -45,7 +44,7 @@ fn next_line<S: Source>(
     match read_line(source, ahead, line)? {
         ReadLine::Line => Ok(()),
         ReadLine::LongLine(_) => Err(Stop::Breaks(at)),
-        ReadLine::Ended(_) => Err(Stop::Breaks(at)),
+        ReadLine::Ended(end) => Err(Stop::Breaks(end)),
     }
 }
 
@@ -80,28 +79,24 @@ pub fn read_header<S: Source>(
     Ok(())
 }
 
-/// Reads a line that begins so and ends in the number of bytes of a block.
-fn read_count<S: Source>(
+/// Reads the line of a grammar, which tells how many bytes its block has.
+fn read_grammar_line<S: Source>(
     source: &mut S,
     ahead: &mut Ahead,
     line: &mut Line<MAX_LINE>,
-    beginning: &[u8],
-    most: u32,
 ) -> Result<u32, Stop>
-    requires most { most < 10 ^ 9 }
     requires early { ahead.old.offset < 2 ^ 62 }
-    ensures ok { IfOk result (TakesCount beginning.now most ahead.old.offset ahead.new.offset
+    ensures ok { IfOk result (TakesGrammarLine ahead.old.offset ahead.new.offset
         (coming ahead.old (S.left source.old)) (coming ahead.new (S.left source.new))) }
-    ensures err { IfErr result (Stops ahead.old.offset
-        (NoCountComes beginning.now most ahead.old.offset
-        (coming ahead.old (S.left source.old)))) }
+    ensures err { IfErr result (StopsBehind header_alone ahead.old.offset
+        (coming ahead.old (S.left source.old))) }
     ensures cause { HasCause (S.faults source.old) (S.faults source.new)
         (IsErrOf result (Fault Read)) }
     ensures range { ahead.new.offset ≤ ahead.old.offset + 257 }
 {
     let at = ahead.offset();
     next_line(source, ahead, line)?;
-    count_behind(line.as_bytes(), beginning, most).ok_or(Stop::Breaks(at))
+    count_behind(line.as_bytes(), b"grammar ".as_slice(), MAX_NUMBER).ok_or(Stop::Breaks(at))
 }
 
 /// The bytes without the LF that they end in.
@@ -115,80 +110,79 @@ fn without_lf(mut bytes: Vec<u8>) -> Option<Vec<u8>>
     }
 }
 
-/// Reads and keeps a block of so many bytes, and reads its LF. Its part begins at the offset `at`.
+/// Reads and keeps a block of so many bytes, and reads its LF.
 fn keep_block<S: Source>(
     alloc: Global,
     source: &mut S,
     ahead: &mut Ahead,
     count: u32,
-    at: u64,
 ) -> Result<Vec<u8>, Stop>
     requires early { ahead.old.offset < 2 ^ 62 }
     ensures ok { IfOk result (λ block. TakesBlock count ahead.old.offset ahead.new.offset
         (coming ahead.old (S.left source.old)) (coming ahead.new (S.left source.new))
         block.items) }
-    ensures err { IfErr result (Stops at
-        (NoBlockComes count (coming ahead.old (S.left source.old)))) }
+    ensures err { IfErr result (StopsInBlock count ahead.old.offset
+        (coming ahead.old (S.left source.old))) }
     ensures cause { HasCause (S.faults source.old) (S.faults source.new)
         (IsErrOf result (Fault Read)) }
 {
+    let lf = ahead.offset() + u64::from(count);
     let whole = u64::from(count) + 1;
     let mut bytes = Vec::new(alloc);
     match read_exact_n(source, ahead, whole, whole, &mut bytes)? {
-        ReadBlock::Kept => without_lf(bytes).ok_or(Stop::Breaks(at)),
-        _ => Err(Stop::Breaks(at)),
+        ReadBlock::Kept => without_lf(bytes).ok_or(Stop::Breaks(lf)),
+        ReadBlock::Skipped => unreachable!(),
+        ReadBlock::Ended(end) => Err(Stop::Breaks(end)),
     }
 }
 
-/// Passes over a block of so many bytes and its LF. Its part begins at the offset `at`.
+/// Passes over a block of so many bytes and its LF.
 fn pass_block<S: Source>(
     alloc: Global,
     source: &mut S,
     ahead: &mut Ahead,
     count: u32,
-    at: u64,
 ) -> Result<(), Stop>
     requires some { 0 < count }
     requires early { ahead.old.offset < 2 ^ 61 }
     ensures ok { OnOk result (PassesBlock count ahead.old.offset ahead.new.offset
         (coming ahead.old (S.left source.old)) (coming ahead.new (S.left source.new))) }
-    ensures err { IfErr result (Stops at
-        (NoBlockComes count (coming ahead.old (S.left source.old)))) }
+    ensures err { IfErr result (StopsInBlock count ahead.old.offset
+        (coming ahead.old (S.left source.old))) }
     ensures cause { HasCause (S.faults source.old) (S.faults source.new)
         (IsErrOf result (Fault Read)) }
 {
     let mut bytes = Vec::new(alloc);
     match read_exact_n(source, ahead, u64::from(count), 0, &mut bytes)? {
         ReadBlock::Skipped => {}
-        _ => return Err(Stop::Breaks(at)),
+        ReadBlock::Kept => unreachable!(),
+        ReadBlock::Ended(end) => return Err(Stop::Breaks(end)),
     }
-    keep_block(alloc, source, ahead, 0, at)?;
+    keep_block(alloc, source, ahead, 0)?;
     Ok(())
 }
 
-/// Reads a block of so many bytes and its LF. One of more than `most` bytes is passed over. Its
-/// part begins at the offset `at`.
+/// Reads a block of so many bytes and its LF. One of more than `most` bytes is passed over.
 fn read_block<S: Source>(
     alloc: Global,
     source: &mut S,
     ahead: &mut Ahead,
     most: usize,
     count: u32,
-    at: u64,
 ) -> Result<Block, Stop>
     requires early { ahead.old.offset < 2 ^ 61 }
     ensures ok { IfOk result (FindsBlock most count ahead.old.offset ahead.new.offset
         (coming ahead.old (S.left source.old)) (coming ahead.new (S.left source.new))) }
-    ensures err { IfErr result (Stops at
-        (NoBlockComes count (coming ahead.old (S.left source.old)))) }
+    ensures err { IfErr result (StopsInBlock count ahead.old.offset
+        (coming ahead.old (S.left source.old))) }
     ensures cause { HasCause (S.faults source.old) (S.faults source.new)
         (IsErrOf result (Fault Read)) }
 {
     if count as usize > most {
-        pass_block(alloc, source, ahead, count, at)?;
+        pass_block(alloc, source, ahead, count)?;
         return Ok(Block::TooLong(count));
     }
-    let block = keep_block(alloc, source, ahead, count, at)?;
+    let block = keep_block(alloc, source, ahead, count)?;
     Ok(Block::Kept(block))
 }
 
@@ -210,9 +204,8 @@ pub fn read_grammar<S: Source>(
     ensures range { OnOk result
         ((ahead.old.offset < ahead.new.offset) × (ahead.new.offset < 2 ^ 50)) }
 {
-    let at = ahead.offset();
-    let count = read_count(source, ahead, line, b"grammar ".as_slice(), MAX_NUMBER)?;
-    read_block(alloc, source, ahead, MAX_FILE, count, at)
+    let count = read_grammar_line(source, ahead, line)?;
+    read_block(alloc, source, ahead, MAX_FILE, count)
 }
 
 /// Reads the line of the next command behind a grammar, or the line `end`. It takes no memory. The
@@ -237,22 +230,21 @@ pub fn read_head<'a, S: Source>(
     head_of(line.as_bytes()).ok_or(Stop::Breaks(at))
 }
 
-/// Reads what stands behind the line of a command, which began at the offset `at`: its block, where
-/// it has one, with the LF. A block of more than 1,048,576 bytes is passed over, which takes a byte
-/// of memory, for its LF; any other takes as much as it has bytes.
+/// Reads what stands behind the line of a command: its block, where it has one, with the LF. A block
+/// of more than 1,048,576 bytes is passed over, which takes a byte of memory, for its LF; any other
+/// takes as much as it has bytes.
 pub fn read_command<'a, S: Source>(
     alloc: Global,
     source: &mut S,
     ahead: &mut Ahead,
     head: Head<'a>,
-    at: u64,
 ) -> Result<Command<'a>, Stop>
     requires early { ahead.old.offset < 2 ^ 61 }
-    ensures ok { (before : Option (List ℕ))
+    ensures ok { (at : ℕ) (before : Option (List ℕ))
         → TakesHead at ahead.old.offset before (coming ahead.old (S.left source.old)) head.entry
         → IfOk result (TakesCommand at ahead.new.offset before
         (coming ahead.new (S.left source.new))) }
-    ensures err { (before : Option (List ℕ))
+    ensures err { (at : ℕ) (before : Option (List ℕ))
         → TakesHead at ahead.old.offset before (coming ahead.old (S.left source.old)) head.entry
         → (script : Script) → IsComplete any_order script
         → IfErr result (StopsBehind script at before) }
@@ -261,11 +253,11 @@ pub fn read_command<'a, S: Source>(
 {
     match head {
         Head::Open(count) => {
-            let block = read_block(alloc, source, ahead, MAX_BLOCK, count, at)?;
+            let block = read_block(alloc, source, ahead, MAX_BLOCK, count)?;
             Ok(Command::Open(block))
         }
         Head::Edit(splice) => {
-            let block = read_block(alloc, source, ahead, MAX_BLOCK, splice.count, at)?;
+            let block = read_block(alloc, source, ahead, MAX_BLOCK, splice.count)?;
             Ok(Command::Edit {
                 at: splice.at,
                 deleted: splice.deleted,

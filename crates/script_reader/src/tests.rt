@@ -1,4 +1,4 @@
-//! Parts are read where there is memory, and a break has the offset of its part.
+//! Parts are read where there is memory, and a break has its exact place.
 
 use crate::{Block, Command, Query, Stop, read_command, read_grammar, read_head, read_header};
 use cyk_io::{Ahead, CleanSource, Line};
@@ -16,12 +16,11 @@ fn read_all(alloc: Global, source: &mut CleanSource) -> Result<(), Stop> {
     read_header(source, &mut ahead, &mut line)?;
     read_grammar(alloc, source, &mut ahead, &mut line)?;
     for _ in 0..20 {
-        let at = ahead.offset();
-        if at >= 1 << 50 {
+        if ahead.offset() >= 1 << 50 {
             break;
         }
         let head = read_head(source, &mut ahead, &mut line)?;
-        if let Command::End = read_command(alloc, source, &mut ahead, head, at)? {
+        if let Command::End = read_command(alloc, source, &mut ahead, head)? {
             return Ok(());
         }
     }
@@ -29,7 +28,7 @@ fn read_all(alloc: Global, source: &mut CleanSource) -> Result<(), Stop> {
 }
 
 #[test]
-fn a_break_has_the_offset_of_its_part(rt: HostRuntime) -> Result<(), Fail> {
+fn a_break_has_its_exact_place(rt: HostRuntime) -> Result<(), Fail> {
     let cases = [
         (b"open 2\nab\nhas\nhas E 0 2\nend\n".as_slice(), Ok(())),
         (
@@ -39,13 +38,15 @@ fn a_break_has_the_offset_of_its_part(rt: HostRuntime) -> Result<(), Fail> {
         (b"end\n".as_slice(), Ok(())),
         (b"open 2\nab\n".as_slice(), Err(Stop::Breaks(33))),
         (b"open 02\nab\n".as_slice(), Err(Stop::Breaks(23))),
-        (b"open 2\nabc\n".as_slice(), Err(Stop::Breaks(23))),
+        (b"open 2\nabc\n".as_slice(), Err(Stop::Breaks(32))),
+        (b"open 2\nab".as_slice(), Err(Stop::Breaks(32))),
+        (b"edit 0 0 2\na".as_slice(), Err(Stop::Breaks(35))),
         (b"edit 0 2\nab\n".as_slice(), Err(Stop::Breaks(23))),
         (b"edit 0 0 2 \nab\n".as_slice(), Err(Stop::Breaks(23))),
         (b"edit 1000000000 0 0\n\n".as_slice(), Err(Stop::Breaks(23))),
         (b"edit 999999999 999999999 0\n\nend\n".as_slice(), Ok(())),
         (b"open 2\nab\nhas E 0\n".as_slice(), Err(Stop::Breaks(33))),
-        (b"open 2\nab\nhas E\nend".as_slice(), Err(Stop::Breaks(39))),
+        (b"open 2\nab\nhas E\nend".as_slice(), Err(Stop::Breaks(42))),
     ];
     for (commands, wanted) in cases {
         let mut script = Vec::from_slice(rt.alloc(), GRAMMAR)?;

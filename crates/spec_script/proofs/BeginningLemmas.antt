@@ -3,6 +3,7 @@ use Rattle.std.proofs.Common.{arith, drop, get_or, ◌<◌, ◌^◌, ◌≡◌, 
 use Rattle.spec_script.specs.Script.{Command, opens, Part, header, grammar, of_command, Script, nothing, header_alone, with_grammar, as_parts, parts_of, Form, any_order, text_of, IsWithinLimits, IsInOrder, MayFollow, BeginsWithParts, BeginsWithScript, Ending, ended, broken, EndsAs, IsScript}
 use Rattle.spec_script.specs.Laws.{OneScript}
 use Rattle.spec_script.proofs.ScriptLemmas.{same_part, end_is_no_part}
+use Rattle.spec_script.proofs.BreaksLemmas.{breaks_no_part, breaks_no_end, breaks_once}
 
 -- the parts are the first of the others: behind them, in the rest, the input goes on with the others
 abbrev pub IsFollowed : List Part → ℕ → List ℕ → List Part → ℕ → List ℕ → Type 0
@@ -148,22 +149,15 @@ module _ (form : Form) (fronts : HasFronts form) where
     no_part_behind ended h part behind later more k in_place =
         end_is_no_part part h.more k.0 k.2 (sym h.spelled ∙ k.3)
     no_part_behind (broken place) h part behind later more k in_place =
-        h.1 (record {
-          part = part;
-          more = k.0;
-          early = k.1;
-          in_place = in_place;
-          within_limits = k.2;
-          spelled = k.3;
-        })
+        breaks_no_part form script at rest part k.0 k.1 in_place k.2 k.3 place h
 
     -- it does so in no other way
     pub same_ending : (ending final : Ending) → EndsAs form script at rest ending → EndsAs form script at rest final →
         ending ≡ final
     same_ending ended ended h k = refl
-    same_ending ended (broken place) h k = absurd (k.2 h)
-    same_ending (broken place) ended h k = absurd (h.2 k)
-    same_ending (broken place) (broken other) h k = ap broken (h.0 ∙ sym k.0)
+    same_ending ended (broken place) h k = absurd (breaks_no_end form script at rest place h k)
+    same_ending (broken place) ended h k = absurd (breaks_no_end form script at rest place k h)
+    same_ending (broken place) (broken other) h k = ap broken (breaks_once form script at rest place other h k)
 
   -- where an input is a script
   module _ (input : List ℕ) (script : Script) (ending : Ending) (s : IsScript form input script ending) where

@@ -11,7 +11,7 @@ use Rattle.spec_script.specs.declared.question.Constituent.TheVariants.{EntryWho
 use Rattle.spec_script.specs.declared.question.TokenSpan.{TokenSpan}
 use Rattle.spec_script.specs.declared.question.TokenSpan.TheVariants.{Whole, Span}
 use Rattle.spec_script.specs.Script.{Constituent, constituent_text, IsNameable, ends_text, edit_text, span_text, HasShortEnds}
-use Rattle.spec_script.specs.Script.{Query, has, tree, tokens_in, query_line, IsAskable, opens, edits, ask, Part, header, grammar, of_command, line_of, block_of, text_of, IsWord, IsWithinLimits}
+use Rattle.spec_script.specs.Script.{Query, has, tree, tokens_in, query_line, IsAskable, opens, edits, ask, Part, header, grammar, of_command, line_of, block_of, text_of, IsWord, IsWithinLimits, HasNoLf, HasBlock}
 
 -- the list does not have the byte
 abbrev pub Lacks : List ℕ → ℕ → Type 0
@@ -375,7 +375,7 @@ same_part a b rest more v w e =
     same_by_line a b rest more v w lines.0 lines.1
 
 -- the line `end` is the line of no part
-end_is_no_line : (part : Part) → codes "end" ≡ line_of part → ⊥
+pub end_is_no_line : (part : Part) → codes "end" ≡ line_of part → ⊥
 end_is_no_line header e = omega (arith, ap first_byte e)
 end_is_no_line (grammar block) e = omega (arith, ap first_byte e)
 end_is_no_line (of_command (opens text)) e = omega (arith, ap first_byte e)
@@ -390,3 +390,67 @@ pub end_is_no_part : (part : Part) (rest more : List ℕ) → IsWithinLimits par
 end_is_no_part part rest more within e =
     let lines = part_line part (codes "end") rest more within (tested 10 (codes "end") refl) e in
     end_is_no_line part lines.0
+
+-- a line does not end within bytes that have no LF
+pub no_line_within : (start rest told more : List ℕ) → HasNoLf start → length told < length start →
+    start ++ rest ≡ told ++ (10 ∷ more) → ⊥
+no_line_within [] rest told more h lt e = omega arith
+no_line_within (x ∷ start) rest [] more h lt e = h 0 0 (omega arith) (ap (λ bytes. get_or bytes 0 0) e)
+no_line_within (x ∷ start) rest (y ∷ told) more h lt e =
+    no_line_within start rest told more (λ k d less. h (suc k) d (omega arith)) (omega arith) (ap (drop 1) e)
+
+-- edits with one line insert as many bytes
+pub same_edit_count : (at deleted count place gone come : ℕ) →
+    (at < 10 ^ 9) × (deleted < 10 ^ 9) × (count < 10 ^ 9) → (place < 10 ^ 9) × (gone < 10 ^ 9) × (come < 10 ^ 9) →
+    codes "edit " ++ edit_text at deleted count ≡ codes "edit " ++ edit_text place gone come → count ≡ come
+same_edit_count at deleted count place gone come v w e =
+    let numbers = cut_same 32 (decimal at) (ends_text deleted count) (decimal place) (ends_text gone come)
+    (digits_lack at 32 v.0 (omega arith)) (digits_lack place 32 w.0 (omega arith))
+    (same_rest (codes "edit ") (edit_text at deleted count) (edit_text place gone come) e) in
+    let counts = cut_same 32 (decimal deleted) (decimal count) (decimal gone) (decimal come)
+    (digits_lack deleted 32 v.1 (omega arith)) (digits_lack gone 32 w.1 (omega arith)) numbers.1 in
+    same_number count come v.2 w.2 counts.1
+
+-- of parts with one line both have a block of as many bytes, or neither has one
+pub same_block_count : (a b : Part) (count : ℕ) → IsWithinLimits a → IsWithinLimits b →
+    line_of a ≡ line_of b → HasBlock a count → HasBlock b count
+same_block_count header b count v w e h = absurd h
+same_block_count (of_command (ask query)) b count v w e h = absurd h
+same_block_count (grammar block) (grammar other) count v w e h =
+    let digits = same_rest (codes "grammar ") (decimal (length block)) (decimal (length other)) e in
+    h ∙ same_number (length block) (length other) (omega (arith, v)) (omega (arith, w)) digits
+same_block_count (of_command (opens text)) (of_command (opens other)) count v w e h =
+    let digits = same_rest (codes "open ") (decimal (length text)) (decimal (length other)) e in
+    h ∙ same_number (length text) (length other) (omega (arith, v)) (omega (arith, w)) digits
+same_block_count (of_command (edits at deleted inserted)) (of_command (edits place gone others)) count v w e h =
+    h ∙ same_edit_count at deleted (length inserted) place gone (length others) v w e
+same_block_count a (of_command (ask (has other))) count v w e h = absurd (omega (arith, ap first_byte e))
+same_block_count a (of_command (ask (tree other))) count v w e h = absurd (omega (arith, ap first_byte e))
+same_block_count a (of_command (ask (tokens_in other))) count v w e h = absurd (omega (arith, ap first_byte e))
+same_block_count a b count v w e h = absurd (omega (arith, ap first_byte e))
+
+-- a part has one count of bytes in its block
+pub one_block_count : (part : Part) (count other : ℕ) → HasBlock part count → HasBlock part other → count ≡ other
+one_block_count header count other h k = absurd h
+one_block_count (grammar block) count other h k = h ∙ sym k
+one_block_count (of_command (opens text)) count other h k = h ∙ sym k
+one_block_count (of_command (edits at deleted inserted)) count other h k = h ∙ sym k
+one_block_count (of_command (ask query)) count other h k = absurd h
+
+-- behind its line and LF a part that has a block has the block and an LF
+pub block_and_lf : (part : Part) (count : ℕ) → HasBlock part count →
+    (block : List ℕ) × (block_of part ≡ block ++ 10 ∷ []) × (length block ≡ count)
+block_and_lf header count h = absurd h
+block_and_lf (grammar block) count h = (block, refl, sym h)
+block_and_lf (of_command (opens text)) count h = (text, refl, sym h)
+block_and_lf (of_command (edits at deleted inserted)) count h = (inserted, refl, sym h)
+block_and_lf (of_command (ask query)) count h = absurd h
+
+-- more bytes than so many are so many, another and those behind it
+pub cut_at : (count : ℕ) (bytes : List ℕ) → count < length bytes →
+    (block : List ℕ) × (byte : ℕ) × (more : List ℕ) × (bytes ≡ block ++ (byte ∷ more)) × (length block ≡ count)
+cut_at count [] lt = absurd (omega (arith, lt))
+cut_at zero (byte ∷ bytes) lt = ([], byte, bytes, refl, refl)
+cut_at (suc count) (byte ∷ bytes) lt =
+    let c = cut_at count bytes (omega (arith, lt)) in
+    (byte ∷ c.0, c.1, c.2, ap (λ (rest : List ℕ). byte ∷ rest) c.3, omega (arith, c.4))

@@ -197,12 +197,61 @@ pub data Ending : Type 0 where
   ended : Ending
   broken : (at : ℕ) → Ending
 
--- behind these parts the script ends so: its line `end` follows, or it is broken where neither
--- `end` nor a part in its place follows
+-- none of the bytes is an LF
+abbrev pub HasNoLf : List ℕ → Type 0
+HasNoLf bytes = All (λ byte. byte ≡ 10 → ⊥) bytes
+
+-- the part has a block of so many bytes
+abbrev pub HasBlock : Part → ℕ → Type 0
+HasBlock header count = ⊥
+HasBlock (grammar block) count = count ≡ length block
+HasBlock (of_command (opens text)) count = count ≡ length text
+HasBlock (of_command (edits at deleted inserted)) count = count ≡ length inserted
+HasBlock (of_command (ask query)) count = ⊥
+
+-- at the offset `at` the rest begins with the line of a part in its place that has a block of so
+-- many bytes; behind the line's LF the rest goes on with its block or in another way
+pub record HasBlockLine (form : Form) (script : Script) (at : ℕ) (rest : List ℕ) : Type 0 where
+  pub part : Part
+  pub count : ℕ
+  pub behind : List ℕ
+  pub early : at < 2 ^ 48
+  pub in_place : MayFollow form script part
+  pub within_limits : IsWithinLimits part
+  pub has_block : HasBlock part count
+  pub spelled : rest ≡ line_of part ++ (10 ∷ behind)
+
+-- behind the script the line is none of the forms, or out of its place: it is that of no part in
+-- its place, and not the line `end` in its place
+pub record IsNoForm (form : Form) (script : Script) (told : List ℕ) : Type 0 where
+  pub no_part : (part : Part) → MayFollow form script part → IsWithinLimits part
+      → told ≡ line_of part → ⊥
+  pub no_end : IsComplete form script → told ≡ codes "end" → ⊥
+
+-- behind the script, where the rest begins at the offset `at`, the script is broken at this place:
+-- at the first byte of a line that begins at 2 ^ 48 or later, of one of more than 256 bytes, or of
+-- one that is none of the forms or out of its place; at another byte in the place of a block's LF;
+-- or at the input's length, where the input ends in a line or in a block or before its LF
+pub data BreaksAt (form : Form) (script : Script) (at : ℕ) (rest : List ℕ) (place : ℕ)
+    : Type 0 where
+  late_line : 2 ^ 48 ≤ at → place ≡ at → BreaksAt form script at rest place
+  long_line : (start more : List ℕ) → rest ≡ start ++ more → HasNoLf start → 256 < length start
+      → place ≡ at → BreaksAt form script at rest place
+  no_form : (told behind : List ℕ) → rest ≡ told ++ (10 ∷ behind) → HasNoLf told
+      → IsNoForm form script told → place ≡ at → BreaksAt form script at rest place
+  no_lf : (begun : HasBlockLine form script at rest) (block : List ℕ) (byte : ℕ) (more : List ℕ)
+      → begun.behind ≡ block ++ (byte ∷ more) → length block ≡ begun.count → (byte ≡ 10 → ⊥)
+      → place ≡ at + length (line_of begun.part ++ (10 ∷ block))
+      → BreaksAt form script at rest place
+  ends_in_line : at < 2 ^ 48 → HasNoLf rest → length rest ≤ 256 → place ≡ at + length rest
+      → BreaksAt form script at rest place
+  ends_in_block : (begun : HasBlockLine form script at rest) → length begun.behind ≤ begun.count
+      → place ≡ at + length rest → BreaksAt form script at rest place
+
+-- behind these parts the script ends so: its line `end` follows, or it is broken at this place
 abbrev pub EndsAs : Form → Script → ℕ → List ℕ → Ending → Type 0
 EndsAs form script at rest ended = HasEndLine form script at rest
-EndsAs form script at rest (broken place) =
-    (place ≡ at) × (GoesOn form script at rest → ⊥) × (HasEndLine form script at rest → ⊥)
+EndsAs form script at rest (broken place) = BreaksAt form script at rest place
 
 -- the input is this script of the form, which ends so; what stands behind its `end` or its break
 -- has no effect

@@ -33,6 +33,7 @@ use Rattle.spec_session.specs.Answers.{yes_line, no_line, IsHasAnswer, refused_h
 use Rattle.spec_session.specs.Sessions.{serve_mode, last_line, last_status, IsSession, refused, whole}
 use Rattle.spec_session.specs.Existence.{SomeSession}
 use Rattle.spec_session.proofs.DenialLemmas.{IsUndeniable, decided}
+use Rattle.spec_session.proofs.BreakingLemmas.{HasBreak, some_break}
 use Rattle.spec_session.proofs.TreeLemmas.{derived_has_tree}
 use Rattle.spec_session.proofs.RunLemmas.{AreTold, replies_told}
 use Rattle.spec_session.proofs.VerdictLemmas.{HasVerdict, some_verdict}
@@ -88,17 +89,17 @@ module _ (input : List ℕ) where
             ends = end;
           },
         )
-        | inr other ↦ denied (
+        | inr other ↦ some_break script at rest stops other (λ (found : HasBreak script at rest stops other). denied (
           script,
-          broken at,
+          broken found.0,
           record {
             at = at;
             rest = rest;
             in_order = in_order;
             begins = begins;
-            ends = (refl, stops, other);
+            ends = found.1;
           },
-        )
+        ))
       ])
 
   -- from each beginning the input goes on to the end of a script: each part takes a byte or more

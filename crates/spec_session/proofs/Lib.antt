@@ -4,6 +4,7 @@ pub mod RepliesLemmas
 pub mod RunLemmas
 pub mod SessionsLemmas
 pub mod DenialLemmas
+pub mod BreakingLemmas
 pub mod VerdictLemmas
 pub mod ExistenceLemmas
 pub mod CheckingLemmas

@@ -1,8 +1,10 @@
 -- Small sessions, worked by hand: where a script breaks, and grammars that are refused.
-use Rattle.std.proofs.Common.{◌≡◌, ℕ, ◌+◌, ◌<◌, inl, List, [], ◌∷◌, ◌++◌, length, codes, decimal, refl, sym, ◌∙◌, ap, subst, arith, length-append}
+use Rattle.std.proofs.Common.{◌≡◌, ℕ, ◌+◌, ◌^◌, ◌<◌, ◌≤◌, inl, List, [], ◌∷◌, ◌++◌, length, replicate, get_or, true, codes, decimal, refl, sym, ◌∙◌, ap, subst, arith, append-nil}
 use Rattle.std.specs.Char.{encode_utf8}
-use Rattle.std.specs.Str.{chars, is_utf8}
-use Rattle.std.proofs.lemmas.Fmt.{decimal_digit}
+use Rattle.std.specs.Str.{chars, is_utf8, all_ascii_digits}
+use Rattle.std.specs.Str.Parse.{digits_value}
+use Rattle.std.proofs.lemmas.List.Elements.{All-replicate}
+use Rattle.std.proofs.lemmas.Fmt.{decimal_digit, decimal-digits_value}
 use Rattle.std.proofs.lemmas.Str.{IsUtf8-from_is_utf8}
 use Rattle.spec_grammar.specs.declared.rule.Label.TheVariants.{Wild}
 use Rattle.spec_lbnf.specs.declared.definition.Def.{Def}
@@ -19,97 +21,104 @@ use Rattle.spec_lbnf.specs.Differences.{IsGood}
 use Rattle.lbnf_readers.proofs.ScanLemmas.{scanned}
 use Rattle.lbnf_readers.proofs.FaultLemmas.{defs_are, fault_is}
 use Rattle.spec_script.specs.Script.{any_order, Part, header, grammar, of_command, nothing, header_alone}
-use Rattle.spec_script.specs.Script.{line_of, block_of, text_of, IsWithinLimits, MayFollow, broken}
-use Rattle.spec_script.specs.Script.{IsScript}
+use Rattle.spec_script.specs.Script.{line_of, text_of, IsWithinLimits, MayFollow, broken, IsScript, HasNoLf, HasBlockLine}
+use Rattle.spec_script.specs.Script.{BreaksAt, long_line, no_form, no_lf, ends_in_line, ends_in_block}
 use Rattle.spec_session.specs.Lines.{as_line, with_number}
 use Rattle.spec_session.specs.GrammarReplies.{IsRefused, faulty, unfit, fault_reason, unfit_reason}
 use Rattle.spec_session.specs.GrammarReplies.{refusal_line}
 use Rattle.spec_session.specs.Sessions.{serve_mode, last_line, IsSession, refused, whole}
-use Rattle.spec_script.proofs.ScriptLemmas.{tested, part_line, same_rest, same_number}
+use Rattle.spec_script.proofs.ScriptLemmas.{model, is_without, tested, each_differs}
 
--- the line that refuses a script at a place of one digit
-abbrev refused_at : ℕ → List ℕ
-refused_at digit = codes "script refused " ++ as_line ((48 + digit) ∷ [])
+-- where a place has these digits
+module _ (place : ℕ) (digits : List ℕ) (is : decimal place ≡ digits) where
+  -- it is told by them in the last line of a script that is broken there
+  abbrev pub refused_at : List ℕ
+  refused_at = codes "script refused " ++ as_line digits
 
--- it is the last line of a script that is broken there
-broken_line : (place : ℕ) → place < 10 → refused_at place ≡ last_line (broken place)
-broken_line place small =
-    ap (λ digits. codes "script refused " ++ as_line digits) (sym (decimal_digit place small))
+  pub broken_line : refused_at ≡ last_line (broken place)
+  broken_line = ap (λ told. codes "script refused " ++ as_line told) (sym is)
 
--- a part has a byte or more
-pub part_is_some : (part : Part) (more : List ℕ) → [] ≡ text_of part ++ more → ⊥
-part_is_some part more e =
-    omega (
-      arith,
-      ap length e,
-      length-append (text_of part) more,
-      length-append (line_of part) (10 ∷ block_of part),
-    )
-
--- an input that does not begin with the header
-module _ (input : List ℕ) (other : (more : List ℕ) → input ≡ codes "script 1\n" ++ more → ⊥) where
-  -- begins with no part in its place
-  no_first : (part : Part) (more : List ℕ) → MayFollow any_order nothing part → input ≡ text_of part ++ more → ⊥
-  no_first header more in_place e = other more e
-  no_first (grammar block) more in_place e = in_place
-  no_first (of_command command) more in_place e = in_place
-
-  -- so it is a script that breaks at its first byte
-  pub refused_at_0 : IsSession serve_mode input (refused_at 0) 3
-  refused_at_0 = whole nothing (broken 0) [] script refl (broken_line 0 (omega arith)) refl
+  -- an input that is broken there at its first line
+  pub broken_at_start : (input : List ℕ) → BreaksAt any_order nothing 0 input place → IsSession serve_mode input refused_at 3
+  broken_at_start input breaks = whole nothing (broken place) [] script refl broken_line refl
     where
-      script : IsScript any_order input nothing (broken 0)
-      script = record {
-        at = 0;
-        rest = input;
-        in_order = tt;
-        begins = (refl, refl);
-        ends = (
-          refl,
-          (λ go. no_first go.part go.more go.in_place go.spelled),
-          (λ end. end.complete),
-        );
-      }
+      script : IsScript any_order input nothing (broken place)
+      script = record { at = 0; rest = input; in_order = tt; begins = (refl, refl); ends = breaks }
 
--- an input that begins with the header, behind which no grammar stands
-module _ (rest : List ℕ) (other : (block more : List ℕ) → IsWithinLimits (grammar block) → rest ≡ text_of (grammar block) ++ more → ⊥) where
-  -- goes on with no part in its place
-  no_second : (part : Part) (more : List ℕ) → MayFollow any_order header_alone part → IsWithinLimits part → rest ≡ text_of part ++ more → ⊥
-  no_second header more in_place within e = in_place
-  no_second (grammar block) more in_place within e = other block more within e
-  no_second (of_command command) more in_place within e = in_place
-
-  -- so it is a script that breaks behind the header
-  pub refused_at_9 : IsSession serve_mode (codes "script 1\n" ++ rest) (refused_at 9) 3
-  refused_at_9 = whole header_alone (broken 9) [] script refl (broken_line 9 (omega arith)) refl
+  -- and one that is broken there behind its header
+  pub broken_behind_header : (rest : List ℕ) → BreaksAt any_order header_alone 9 rest place
+      → IsSession serve_mode (codes "script 1\n" ++ rest) refused_at 3
+  broken_behind_header rest breaks = whole header_alone (broken place) [] script refl broken_line refl
     where
-      script : IsScript any_order (codes "script 1\n" ++ rest) header_alone (broken 9)
+      script : IsScript any_order (codes "script 1\n" ++ rest) header_alone (broken place)
       script = record {
         at = 9;
         rest = rest;
         in_order = tt;
         begins = (rest, omega arith, tt, refl, (refl, refl));
-        ends = (
-          refl,
-          (λ go. no_second go.part go.more go.in_place go.within_limits go.spelled),
-          (λ end. end.complete),
-        );
+        ends = breaks;
       }
 
--- a block that is shorter than its line says is none
-pub short_block : (block more : List ℕ) → IsWithinLimits (grammar block) → codes "grammar 2\n;\n" ≡ text_of (grammar block) ++ more → ⊥
-short_block block more within e =
-    let lines = part_line (grammar block) (codes "grammar 2") (codes ";\n") more within (tested 10 (codes "grammar 2") refl) e in
-    let digits : codes "2" ≡ decimal (length block) = same_rest (codes "grammar ") (codes "2") (decimal (length block)) lines.0 in
-    let two : decimal 2 ≡ decimal (length block) = decimal_digit 2 (omega arith) ∙ digits in
-    let size : 2 ≡ length block = same_number 2 (length block) (omega arith) within two in
-    omega (
-      arith,
-      size,
-      ap length lines.1,
-      length-append (block ++ 10 ∷ []) more,
-      length-append block (10 ∷ []),
-    )
+-- the digits of a number of two digits or more
+pub digits_of : (digits : List ℕ) → all_ascii_digits digits ≡ true → 0 < length digits → (get_or digits 0 0 ≡ 48 → ⊥)
+    → digits_value 10 digits < 2 ^ 64 → decimal (digits_value 10 digits) ≡ digits
+digits_of digits are some first small = decimal-digits_value model digits are some (λ lead. absurd (first lead)) small
+
+-- bytes that a test finds no LF in have none
+pub clean : (bytes : List ℕ) → is_without 10 bytes ≡ true → HasNoLf bytes
+clean bytes e = each_differs 10 bytes (tested 10 bytes e)
+
+-- nor has the same byte again and again
+pub clean_repeat : (count : ℕ) → HasNoLf (replicate count 97)
+clean_repeat count = All-replicate (λ byte. byte ≡ 10 → ⊥) count 97 (λ e. omega (arith, e))
+
+-- an input without an LF breaks at its end, or at its first byte where it has more than 256 bytes
+pub cut_line : (input : List ℕ) (size : ℕ) → length input ≡ size → HasNoLf input → size ≤ 256
+    → BreaksAt any_order nothing 0 input size
+cut_line input size is no_lf_in short =
+    ends_in_line (omega arith) no_lf_in (omega (arith, is, short)) (omega (arith, is))
+
+pub too_long : (input : List ℕ) (size : ℕ) → length input ≡ size → HasNoLf input → 256 < size
+    → BreaksAt any_order nothing 0 input 0
+too_long input size is no_lf_in more =
+    long_line input [] (sym (append-nil input)) no_lf_in (omega (arith, is, more)) refl
+
+-- another line than the header breaks at its first byte
+pub other_line : (told behind : List ℕ) → HasNoLf told → (told ≡ codes "script 1" → ⊥)
+    → BreaksAt any_order nothing 0 (told ++ (10 ∷ behind)) 0
+other_line told behind no_lf_in other =
+    no_form told behind refl no_lf_in (record { no_part = none; no_end = λ complete e. complete }) refl
+  where
+    none : (part : Part) → MayFollow any_order nothing part → IsWithinLimits part → told ≡ line_of part → ⊥
+    none header in_place within e = other e
+    none (grammar block) in_place within e = in_place
+    none (of_command command) in_place within e = in_place
+
+-- behind the header the line of a grammar whose block has one byte or two
+abbrev block_line : (count : ℕ) (block behind : List ℕ) → count < 10 → count ≡ length block
+    → HasBlockLine any_order header_alone 9 (codes "grammar " ++ ((48 + count) ∷ (10 ∷ behind)))
+block_line count block behind small is = record {
+  part = grammar block;
+  count = count;
+  behind = behind;
+  early = omega arith;
+  in_place = tt;
+  within_limits = omega (arith, is, small);
+  has_block = is;
+  spelled = ap (λ digits. (codes "grammar " ++ digits) ++ (10 ∷ behind))
+      (sym (decimal_digit count small) ∙ ap decimal is);
+}
+
+-- an input that ends in the place of a block's LF breaks at its end
+pub cut_block : BreaksAt any_order header_alone 9 (codes "grammar 2\n;\n") 21
+cut_block = ends_in_block (block_line 2 (codes ";\n") (codes ";\n") (omega arith) refl) (omega arith) refl
+
+-- another byte in that place breaks there
+pub long_block : BreaksAt any_order header_alone 9 (codes "grammar 1\n;;\n") 20
+long_block =
+    no_lf (block_line 1 (codes ";") (codes ";;\n") (omega arith) refl) (codes ";") 59 (codes "\n") refl refl
+    (λ e. omega (arith, e))
+    (ap (λ digits. 9 + length ((codes "grammar " ++ digits) ++ codes "\n;")) (sym (decimal_digit 1 (omega arith))))
 
 -- the bytes of a grammar's block, where its length has one digit
 block_text : (block : List ℕ) → length block < 10 →

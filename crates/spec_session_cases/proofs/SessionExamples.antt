@@ -4,11 +4,11 @@ use Rattle.std.proofs.lemmas.Fmt.{decimal_digit, decimal-digits_value}
 use Rattle.std.specs.Str.{IsAscii}
 use Rattle.std.proofs.lemmas.Str.Ascii.{IsAscii-from_all}
 use Rattle.std.proofs.lemmas.List.Elements.{All-from_recursion}
-use Rattle.spec_script.specs.Script.{any_order, Constituent, Query, has, tree, tokens_in, Command, opens, ask, Part, header, grammar}
+use Rattle.spec_script.specs.Script.{any_order, Constituent, Query, has, tree, tokens_in, Command, opens, edits, ask, Part, header, grammar}
 use Rattle.spec_script.specs.Script.{of_command, Script, with_grammar, as_parts, text_of}
 use Rattle.spec_script.specs.Script.{line_of, IsWord, IsNameable, IsWithinLimits}
 use Rattle.spec_script.specs.Script.{MayFollow, BeginsWithParts, BeginsWithScript, EndsAs, Ending}
-use Rattle.spec_script.specs.Script.{ended, broken, IsScript}
+use Rattle.spec_script.specs.Script.{ended, broken, IsScript, IsNoForm, no_form}
 use Rattle.spec_script.specs.declared.question.Constituent.TheVariants.{EntryWhole}
 use Rattle.spec_script.specs.declared.question.TokenSpan.TheVariants.{Whole, Span}
 use Rattle.spec_session.specs.Lines.{as_line}
@@ -22,6 +22,7 @@ use Rattle.spec_session.specs.Checking.{lines_from, bare_form, check_mode}
 use Rattle.spec_session_cases.specs.Examples.{front, front_replies}
 use Rattle.spec_script.proofs.ScriptLemmas.{model}
 use Rattle.spec_session.proofs.RunLemmas.{AreTold, replies_told}
+use Rattle.spec_session_cases.proofs.ExamplesLemmas.{broken_line, digits_of, clean}
 use Rattle.spec_session_cases.proofs.GrammarExample.{rule_block, rule_grammar, accepted, one_token, are_tokens, one_text, category_s, category_t, span_to, entry_reply, category_reply, empty_reply, unknown_reply, outside_reply, all_tokens_reply, no_tokens_reply, tokens_outside_reply, backward_t, entry_tree_reply, no_tree_reply, unknown_tree_reply, outside_tree_reply}
 
 -- the answer to a question comes before those to others
@@ -302,6 +303,27 @@ second_text =
       told (has category_s) (codes "yes\n") [] [] category_reply refl,
     )
     (record { more = []; early = omega arith; complete = tt; spelled = refl }) refl
+
+-- the line of a second grammar is out of its place
+no_grammar_again : IsNoForm any_order (script_with []) (codes "grammar 0")
+no_grammar_again = record { no_part = none; no_end = λ complete e. omega (arith, ap (λ bytes. get_or bytes 0 0) e) }
+  where
+    none : (part : Part) → MayFollow any_order (script_with []) part → IsWithinLimits part
+        → codes "grammar 0" ≡ line_of part → ⊥
+    none header in_place within e = in_place
+    none (grammar block) in_place within e = in_place
+    none (of_command (opens text)) in_place within e = omega (arith, ap (λ bytes. get_or bytes 0 0) e)
+    none (of_command (edits at deleted inserted)) in_place within e = omega (arith, ap (λ bytes. get_or bytes 0 0) e)
+    none (of_command (ask (has constituent))) in_place within e = omega (arith, ap (λ bytes. get_or bytes 0 0) e)
+    none (of_command (ask (tree constituent))) in_place within e = omega (arith, ap (λ bytes. get_or bytes 0 0) e)
+    none (of_command (ask (tokens_in span))) in_place within e = omega (arith, ap (λ bytes. get_or bytes 0 0) e)
+
+-- so it breaks the script at its first byte
+pub second_grammar : IsSession serve_mode (front ++ codes "grammar 0\n\n") (front_replies ++ codes "script refused 38\n") 3
+second_grammar =
+    small_session [] (codes "grammar 0\n\n") [] (codes "script refused 38\n") 38 (codes "grammar 0\n\n") (broken 38) (refl, refl) refl
+    (no_form (codes "grammar 0") (codes "\n") refl (clean (codes "grammar 0") refl) no_grammar_again refl)
+    (broken_line 38 (codes "38") (digits_of (codes "38") refl (omega arith) (λ e. omega (arith, e)) (omega arith)))
 
 -- the line of the rule
 rule_lines_are : codes "0 A S ::= \"a\"\n" ≡ lines_from rule_grammar 0 rule_grammar.rules

@@ -1,5 +1,5 @@
 -- The sessions of small inputs, by hand.
-use Rattle.std.specs.Prelude.{ℕ, List, ◌++◌, codes}
+use Rattle.std.specs.Prelude.{ℕ, List, ◌++◌, replicate, codes}
 use Rattle.spec_session.specs.Sessions.{serve_mode, IsSession}
 use Rattle.spec_session.specs.Checking.{check_mode}
 
@@ -13,19 +13,26 @@ front_replies = codes "grammar rules 1 categories 1 kinds 1\nversion 0 tokens 1\
 
 -- what the sessions of small inputs write, and their status
 pub record SmallSessions : Type 0 where
-  -- the empty input breaks at its first byte
+  -- the empty input breaks at its end
   pub empty_input : IsSession serve_mode (codes "") (codes "script refused 0\n") 3
-  -- a header without its LF is none
-  pub cut_header : IsSession serve_mode (codes "script 1") (codes "script refused 0\n") 3
-  -- nor is the header of another version
+  -- a header without its LF is none, and the input breaks at its end
+  pub cut_header : IsSession serve_mode (codes "script 1") (codes "script refused 8\n") 3
+  -- so does a line of 256 bytes without its LF
+  pub cut_line : IsSession serve_mode (replicate 256 97) (codes "script refused 256\n") 3
+  -- one of 257 bytes breaks at its first byte
+  pub long_line : IsSession serve_mode (replicate 257 97) (codes "script refused 0\n") 3
+  -- so does the header of another version
   pub other_header : IsSession serve_mode (codes "script 2\n") (codes "script refused 0\n") 3
-  -- nor is any other command
+  -- and any other command in its place
   pub no_header : IsSession serve_mode (codes "end\n") (codes "script refused 0\n") 3
   -- behind the header alone the input breaks at its end
   pub header_alone : IsSession serve_mode (codes "script 1\n") (codes "script refused 9\n") 3
-  -- a grammar's block that is shorter than its line says breaks the script at that line
+  -- so it does in the place of a block's LF
   pub cut_block : IsSession serve_mode (codes "script 1\ngrammar 2\n;\n")
-      (codes "script refused 9\n") 3
+      (codes "script refused 21\n") 3
+  -- and another byte in that place breaks there
+  pub long_block : IsSession serve_mode (codes "script 1\ngrammar 1\n;;\n")
+      (codes "script refused 20\n") 3
   -- a grammar with a fault of syntax ends the session, whatever stands behind it
   pub faulty_grammar : IsSession serve_mode (codes "script 1\ngrammar 1\n)\nopen")
       (codes "grammar refused syntax 0\n") 2
@@ -50,6 +57,9 @@ pub record SmallSessions : Type 0 where
   -- a second text is refused, and nothing changes
   pub second_text : IsSession serve_mode (front ++ codes "open 1\na\nhas S\nend\n")
       (front_replies ++ codes "refused open\nyes\nend\n") 0
+  -- a second grammar breaks the script at its line
+  pub second_grammar : IsSession serve_mode (front ++ codes "grammar 0\n\n")
+      (front_replies ++ codes "script refused 38\n") 3
   -- in the mode `check` the rule has a line behind the reply to its grammar
   pub checked_grammar : IsSession check_mode (codes "script 1\ngrammar 9\nA.S::=\"a\"\nend\n")
       (codes "grammar rules 1 categories 1 kinds 1\n0 A S ::= \"a\"\nend\n") 0

@@ -79,14 +79,14 @@ returns-in_err-command-clause-err g c input before r =
     c.from_residual-in_err-command.ensures.1
     (running_stops input before comes c.args.ahead.now.offset (g.K.Sink.written c.flush_unless-2.new.sink)
     c.flush_unless-2.new.self c.args.session.now later c.in_err-command.field-0.0
-    ((rw c.offset-at.ensures.offset at c.in_err-command.ensures.err) comes c.in_ok-head.ensures.ok
+    (c.in_err-command.ensures.err c.args.ahead.now.offset comes c.in_ok-head.ensures.ok
     (with_grammar later.block (commands_of later.steps)) tt))
 
 pub returns-in_err-command-clause-write : goal.returns-in_err-command-clause-write
 returns-in_err-command-clause-write g c =
     let comes : Option (List ℕ) = coming c.args.ahead.now (g.S.Source.left c.args.source.now) in
     let never = reads_only some_script.0 c.args.ahead.now.offset comes c.in_err-command.field-0.0
-    ((rw c.offset-at.ensures.offset at c.in_err-command.ensures.err) comes c.in_ok-head.ensures.ok
+    (c.in_err-command.ensures.err c.args.ahead.now.offset comes c.in_ok-head.ensures.ok
     some_script.0 some_script.1) in
     let first = c.in_ok-flush_unless.ensures.cause.later in
     let second = c.in_ok-flush_unless-2.ensures.cause.later in
@@ -111,14 +111,14 @@ returns-then-is_end-clause-ok g c input before r =
     running_ends input before comes from (g.K.Sink.written c.flush_unless-2.new.sink) c.flush_unless-2.new.self
     c.args.session.now later to next
     (subst (λ (x : Command). TakesCommand from to comes next x)
-    (c.is_end.ensures.0 c.if-is_end.true) ((rw c.offset-at.ensures.offset at c.in_ok-command.ensures.ok) comes c.in_ok-head.ensures.ok))
+    (c.is_end.ensures.0 c.if-is_end.true) (c.in_ok-command.ensures.ok c.args.ahead.now.offset comes c.in_ok-head.ensures.ok))
 
 pub returns-then-is_end-clause-range : goal.returns-then-is_end-clause-range
 returns-then-is_end-clause-range g c =
     let comes : Option (List ℕ) = coming c.args.ahead.now (g.S.Source.left c.args.source.now) in
     let next : Option (List ℕ) = coming c.read_command.new.ahead (g.S.Source.left c.read_command.new.source) in
     let range = command_range c.args.ahead.now.offset c.read_command.new.ahead.offset comes next
-    c.in_ok-command.command ((rw c.offset-at.ensures.offset at c.in_ok-command.ensures.ok) comes c.in_ok-head.ensures.ok) in
+    c.in_ok-command.command (c.in_ok-command.ensures.ok c.args.ahead.now.offset comes c.in_ok-head.ensures.ok) in
     range
 
 pub returns-then-is_end-clause-few : goal.returns-then-is_end-clause-few
@@ -126,7 +126,7 @@ returns-then-is_end-clause-few g c =
     let comes : Option (List ℕ) = coming c.args.ahead.now (g.S.Source.left c.args.source.now) in
     let next : Option (List ℕ) = coming c.read_command.new.ahead (g.S.Source.left c.read_command.new.source) in
     let range = command_range c.args.ahead.now.offset c.read_command.new.ahead.offset comes next
-    c.in_ok-command.command ((rw c.offset-at.ensures.offset at c.in_ok-command.ensures.ok) comes c.in_ok-head.ensures.ok) in
+    c.in_ok-command.command (c.in_ok-command.ensures.ok c.args.ahead.now.offset comes c.in_ok-head.ensures.ok) in
     omega (arith, range.0, c.requires.few)
 
 pub reply-reply-requires-clause-can_reply : goal.reply-reply-requires-clause-can_reply
@@ -134,7 +134,7 @@ reply-reply-requires-clause-can_reply g c κs within =
     let comes : Option (List ℕ) = coming c.args.ahead.now (g.S.Source.left c.args.source.now) in
     let next : Option (List ℕ) = coming c.read_command.new.ahead (g.S.Source.left c.read_command.new.source) in
     let read = command_read c.args.ahead.now.offset c.read_command.new.ahead.offset comes next c.in_ok-command.command
-    ((rw c.offset-at.ensures.offset at c.in_ok-command.ensures.ok) comes c.in_ok-head.ensures.ok)
+    (c.in_ok-command.ensures.ok c.args.ahead.now.offset comes c.in_ok-head.ensures.ok)
     (not_end c.is_end.result c.is_end.ensures.1 c.if-is_end.false) in
     (read.0, read.1)
 
@@ -149,7 +149,7 @@ returns-in_err-say-clause-err g c input before r =
     c.flush_unless-2.new.self c.in_ok-flush_unless-2.ensures.ok in
     let next : Option (List ℕ) = coming c.read_command.new.ahead (g.S.Source.left c.read_command.new.source) in
     let read = command_read c.args.ahead.now.offset c.read_command.new.ahead.offset comes next c.in_ok-command.command
-    ((rw c.offset-at.ensures.offset at c.in_ok-command.ensures.ok) comes c.in_ok-head.ensures.ok)
+    (c.in_ok-command.ensures.ok c.args.ahead.now.offset comes c.in_ok-head.ensures.ok)
     (not_end c.is_end.result c.is_end.ensures.1 c.if-is_end.false) in
     err_given (EndsEarly input before (g.K.Sink.written c.say.new.sink) c.say.new.replies)
     (Stopped (Fault c.in_err-say.field-0.0)) c.from_residual-in_err-say.result
@@ -172,7 +172,7 @@ returns-clause-ok g c input before r =
     c.flush_unless-2.new.self c.in_ok-flush_unless-2.ensures.ok in
     let next : Option (List ℕ) = coming c.read_command.new.ahead (g.S.Source.left c.read_command.new.source) in
     let read = command_read c.args.ahead.now.offset c.read_command.new.ahead.offset comes next c.in_ok-command.command
-    ((rw c.offset-at.ensures.offset at c.in_ok-command.ensures.ok) comes c.in_ok-head.ensures.ok)
+    (c.in_ok-command.ensures.ok c.args.ahead.now.offset comes c.in_ok-head.ensures.ok)
     (not_end c.is_end.result c.is_end.ensures.1 c.if-is_end.false) in
     running_said input before comes c.args.ahead.now.offset (g.K.Sink.written c.flush_unless-2.new.sink)
     c.flush_unless-2.new.self c.args.session.now later c.read_command.new.ahead.offset next
@@ -186,7 +186,7 @@ returns-clause-range g c =
     let comes : Option (List ℕ) = coming c.args.ahead.now (g.S.Source.left c.args.source.now) in
     let next : Option (List ℕ) = coming c.read_command.new.ahead (g.S.Source.left c.read_command.new.source) in
     let range = command_range c.args.ahead.now.offset c.read_command.new.ahead.offset comes next
-    c.in_ok-command.command ((rw c.offset-at.ensures.offset at c.in_ok-command.ensures.ok) comes c.in_ok-head.ensures.ok) in
+    c.in_ok-command.command (c.in_ok-command.ensures.ok c.args.ahead.now.offset comes c.in_ok-head.ensures.ok) in
     range
 
 pub returns-clause-few : goal.returns-clause-few
@@ -194,7 +194,7 @@ returns-clause-few g c =
     let comes : Option (List ℕ) = coming c.args.ahead.now (g.S.Source.left c.args.source.now) in
     let next : Option (List ℕ) = coming c.read_command.new.ahead (g.S.Source.left c.read_command.new.source) in
     let range = command_range c.args.ahead.now.offset c.read_command.new.ahead.offset comes next
-    c.in_ok-command.command ((rw c.offset-at.ensures.offset at c.in_ok-command.ensures.ok) comes c.in_ok-head.ensures.ok) in
+    c.in_ok-command.command (c.in_ok-command.ensures.ok c.args.ahead.now.offset comes c.in_ok-head.ensures.ok) in
     omega (arith, range.0, c.requires.few, c.reply-reply.ensures.texts)
 
 pub returns-clause-is_in : goal.returns-clause-is_in
@@ -202,7 +202,7 @@ returns-clause-is_in g c =
     let comes : Option (List ℕ) = coming c.args.ahead.now (g.S.Source.left c.args.source.now) in
     let next : Option (List ℕ) = coming c.read_command.new.ahead (g.S.Source.left c.read_command.new.source) in
     let read = command_read c.args.ahead.now.offset c.read_command.new.ahead.offset comes next c.in_ok-command.command
-    ((rw c.offset-at.ensures.offset at c.in_ok-command.ensures.ok) comes c.in_ok-head.ensures.ok)
+    (c.in_ok-command.ensures.ok c.args.ahead.now.offset comes c.in_ok-head.ensures.ok)
     (not_end c.is_end.result c.is_end.ensures.1 c.if-is_end.false) in
     says_in c.reply-reply.new.self c.requires.is_in.0 read.0 (bytes_of c.reply-reply.new.self)
     c.reply-reply.result (c.reply-reply.ensures.ok c.requires.is_in.0 read.0 c.requires.is_in.1 read.1)

@@ -1,18 +1,13 @@
 -- The line of a command is read, and what it tells.
-use Rattle.std.proofs.Common.{refl}
 use Rattle.std.proofs.lemmas.Result.{err_from_is_err_and}
 use Rattle.cyk_io.specs.Streams.{coming}
-use Rattle.script_reader.proofs.LinesAndBlocksLemmas.{stops_weaker}
-use Rattle.script_reader.proofs.ReadingLemmas.{no_line_follows, head_taken, head_stops}
+use Rattle.script_reader.proofs.ReadingLemmas.{head_taken, head_stops}
 use Rattle.script_reader.proofs.reading.read_head.Goals as goal
 
 pub returns-in_err-next_line-clause-err : goal.returns-in_err-next_line-clause-err
 returns-in_err-next_line-clause-err g c script tells =
     let p = err_from_is_err_and c.from_residual.result c.from_residual.ensures.1 in
-    rw (p.1, p.2)
-    (stops_weaker c.args.ahead.now.offset _ refl _ _
-    (no_line_follows script c.args.ahead.now.offset (coming c.args.ahead.now (g.S.Source.left c.args.source.now)))
-    c.in_err-next_line.field-0.0 c.in_err-next_line.ensures.err)
+    rw (p.1, p.2) (c.in_err-next_line.ensures.err script)
 
 pub returns-clause-ok : goal.returns-clause-ok
 returns-clause-ok g c =
