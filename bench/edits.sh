@@ -1,8 +1,8 @@
 #!/usr/bin/env bash
 # Measures what edits cost in `lbnfchart serve`. Instructions are counted by valgrind, since one edit
 # is too short to be timed. In a text of 200 tokens of JSON one digit is replaced by another, with a
-# question behind each edit: an edit with its question may take as many instructions as it takes to
-# open the text and ask once. The resident memory of a session behind its edit 10,000 may be 1.1 times
+# question behind each edit: an edit with its question may take 1.05 times the instructions of opening
+# the text and asking once. The resident memory of a session behind its edit 10,000 may be 1.1 times
 # that behind its edit 1,000. At last, texts of 8,192 and of 16,384 stray tokens are opened, of which
 # no span is derived: a token of the second may take 1.3 times the instructions of one of the first.
 # The status is 1 where one is not so, and 2 where the program gives a wrong answer.
@@ -24,7 +24,7 @@ PROGRAM, JSON = sys.argv[1], pathlib.Path(sys.argv[2]).read_bytes()
 COUNTED = ["valgrind", "--tool=callgrind", "--callgrind-out-file=/dev/null", PROGRAM, "serve"]
 FEW, MANY = 1_000, 10_000
 STRAYS = 8_192
-MOST_MEMORY, MOST_GROWTH = 1.1, 1.3
+MOST_EDIT, MOST_MEMORY, MOST_GROWTH = 1.05, 1.1, 1.3
 
 # A hundred numbers, and the brackets and commas between them.
 TEXT = b"[" + b", ".join(b"%d" % (number % 10) for number in range(100)) + b"]"
@@ -117,7 +117,7 @@ def main():
     )
     print(f"opening {STRAYS} stray tokens: {half} instructions; {2 * STRAYS}: {whole}")
     good = [
-        verdict("an edit takes at most what opening the text takes", one <= once, one / once),
+        verdict(f"an edit within {MOST_EDIT} times of opening", one <= MOST_EDIT * once, one / once),
         verdict(f"memory within {MOST_MEMORY} times", high <= MOST_MEMORY * low, high / low),
         verdict(f"a stray token within {MOST_GROWTH} times", whole <= 2 * MOST_GROWTH * half, whole / 2 / half),
     ]
