@@ -4,7 +4,8 @@
 # one or two milliseconds, which are too few to be timed. Each family of files has one of each size.
 # Where the closures of the binary form grow with the square of the file, a member of these is the
 # measure, where the searches for a category that reaches itself do, a category that one looks at,
-# and else a byte. The last line says whether in each family such a unit of the largest file takes at
+# where the automaton looks for each word at those that begin alike, a byte or 22 such looks, and else
+# a byte. The last line says whether in each family such a unit of the largest file takes at
 # most 1.3 times the instructions of one of the smallest.
 # The status is 1 where it is not so, and 2 where the program gives a wrong answer.
 #
@@ -106,6 +107,12 @@ def kinds(size):
     return padded(rules, size), f'rules {count} categories 1 kinds {count}'
 
 
+def kind_looks(size):
+    """The bytes, and the looks for each word at all others, of which 22 cost as much as one byte."""
+    count = min(size // 64, 1000)
+    return size + count * count // 22
+
+
 def tokens(size):
     """Definitions of tokens, and every tenth one of a comment, each with a scalar of its own."""
     count = size // 80
@@ -175,7 +182,7 @@ FAMILIES = (
     ('the same, from its end', rising, 'member', chain_members),
     ('26 categories, each many of the next', copies, 'byte', None),
     ('all nullable, in one rule', empty, 'member', empty_members),
-    ('1,000 kinds', kinds, 'byte', None),
+    ('1,000 kinds', kinds, 'byte or 22 looks', kind_looks),
     ('definitions of tokens and comments', tokens, 'byte', None),
     ('1,000 categories', categories, 'byte', None),
     ('a tower of levels', tower, 'member', tower_members),

@@ -74,10 +74,10 @@ def ended(program, library, number):
     pipes = {"stdout": subprocess.PIPE, "stderr": subprocess.DEVNULL, "pass_fds": [tell]}
     run = subprocess.run(command, input=sample(), env=env, check=False, **pipes)
     os.close(tell)
-    made = os.read(told, 1)
+    made = os.read(told, 64).startswith(b"failed")
     os.close(told)
     calls = [(line.split()[0], line.split()[-1]) for line in run.stdout.decode().splitlines()]
-    return calls, run.returncode, bool(made)
+    return calls, run.returncode, made
 
 
 def main():

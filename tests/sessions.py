@@ -789,6 +789,20 @@ for name, grammar, counted, text, tokens, questions, answers in [
     case('tree: ' + name, with_grammar(grammar, open_text(text) + questions + END),
          counts(*counted) + version(tokens) + answers + b'end\n', 0)
 
+# A tree of the empty text has 8,388,607 nodes for A0, and half as many and no root for A1.
+DOUBLED = b''.join(b'N%d. A%d ::= A%d A%d ;' % (n, n, n + 1, n + 1) for n in range(22)) + b'N22. A22 ::= ;'
+PRINTED = b'(N22)'
+for n in range(21, 0, -1):
+    PRINTED = b'(N%d %b %b)' % (n, PRINTED, PRINTED)
+for name, rules, question, answer in [
+    ('4,194,304 nodes', b'Top. B ::= A1 ;', b'tree B', b'(Top %b)' % PRINTED),
+    ('one node too many', b'Top. B ::= A1 ; Over. C ::= B ;', b'tree C', b'refused tree'),
+    ('twice as many nodes', b'', b'tree A0', b'refused tree'),
+]:
+    more = rules.count(b';')
+    case('tree: ' + name, with_grammar(DOUBLED + rules, open_text(b'') + question + b'\n' + END),
+         counts(23 + more, 23 + more, 0) + version(0) + answer + b'\nend\n', 0)
+
 # ---- Texts that are opened and edited.
 
 for name, steps in edit_sessions.ROWS:

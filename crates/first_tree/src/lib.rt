@@ -9,8 +9,6 @@ mod open_node;
 mod printing;
 mod rest;
 mod search;
-#[cfg(test)]
-mod tests;
 mod wanted;
 mod writing;
 

@@ -19,6 +19,3 @@ mod texts;
 pub use expanding::expand;
 pub use numbered_grammar::{Grammar, KindDef, Rule, Symbol};
 pub use spec_lbnf::GrammarFault;
-
-#[cfg(test)]
-mod tests;

@@ -22,6 +22,3 @@ pub use spec_grammar::Label;
 pub use spec_lbnf::{CatName, Def, RawItem, RawRule, TextFault};
 pub use spec_text::{MAX_FILE, Name};
 pub use texts::{word_item, words};
-
-#[cfg(test)]
-mod tests;

@@ -2,15 +2,11 @@
 #![tactic(auto)]
 
 mod edit;
-#[cfg(test)]
-mod edit_tests;
 mod fault;
 mod fronts;
 mod laws;
 mod lexing;
 mod limits;
-#[cfg(test)]
-mod tests;
 mod text;
 mod threads;
 mod token_edit;

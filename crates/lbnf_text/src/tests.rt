@@ -1,8 +1,0 @@
-//! Grammar files that are read and that are refused, with answers by hand.
-mod differences;
-mod expressions;
-mod faults;
-mod files;
-mod forms;
-mod limits;
-mod tokens;
