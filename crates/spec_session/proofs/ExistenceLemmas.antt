@@ -173,12 +173,12 @@ module _ (g : Grammar) (tokens : List Token) (constituent : Constituent) where
       ])
 
 -- a grammar whose names are distinct, and of which no category reaches itself
-record HasTrees (g : Grammar) : Type 0 where
-  names : HasDistinctNames g
-  acyclic : IsAcyclic g.rules
+pub record HasTrees (g : Grammar) : Type 0 where
+  pub names : HasDistinctNames g
+  pub acyclic : IsAcyclic g.rules
 
 -- a grammar that is accepted is one
-accepted_has_trees : (block : List ℕ) (g : Grammar) → IsAccepted block g → HasTrees g
+pub accepted_has_trees : (block : List ℕ) (g : Grammar) → IsAccepted block g → HasTrees g
 accepted_has_trees block g h = record {
   names = subst HasDistinctNames (sym h.3) (one_symbol_each h.0 h.2.fit.own_names);
   acyclic = subst (λ (made : Grammar). IsAcyclic made.rules) (sym h.3) h.2.fit.acyclic;
@@ -314,7 +314,7 @@ module _ (g : Grammar) (state : State) where
   some_reply fit (ask query) = some_query_answer fit query
 
 -- and so have commands in turn
-some_replies : (g : Grammar) → HasTrees g → (state : State) (commands : List Command) →
+pub some_replies : (g : Grammar) → HasTrees g → (state : State) (commands : List Command) →
     IsUndeniable ((out : List ℕ) × AreTold g state commands out)
 some_replies g fit state [] denied = denied ([], refl)
 some_replies g fit state (command ∷ commands) denied =

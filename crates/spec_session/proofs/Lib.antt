@@ -8,3 +8,4 @@ pub mod BreakingLemmas
 pub mod VerdictLemmas
 pub mod ExistenceLemmas
 pub mod CheckingLemmas
+pub mod BeginningsLemmas

@@ -15,7 +15,7 @@ AreTold g from (command ∷ commands) out =
     × (out ≡ line ++ rest) × AreTold g after commands rest
 
 -- the first of some commands
-first_command : (command other : Command) (commands others : List Command) →
+pub first_command : (command other : Command) (commands others : List Command) →
     command ∷ commands ≡ other ∷ others → command ≡ other
 first_command command other commands others e = ap (λ (all : List Command). get_or all 0 (opens [])) e
 

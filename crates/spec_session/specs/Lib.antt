@@ -1,4 +1,5 @@
 pub mod Sessions
+pub mod Beginnings
 pub mod Runs
 pub mod Steps
 pub mod TextRefusals

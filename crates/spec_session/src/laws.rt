@@ -3,6 +3,8 @@
 ghost use Rattle.spec_session.specs.Sessions.{serve_mode};
 ghost use Rattle.spec_session.specs.Laws.{OneRun, OneSession, RepliesComeFirst};
 ghost use Rattle.spec_session.specs.Laws.{RepliesThenLastLine, RefusalIsAll};
+ghost use Rattle.spec_session.specs.Beginnings.{OneListOfReplies, FirstRepliesComeFirst};
+ghost use Rattle.spec_session.specs.Beginnings.{SomeReplies};
 
 /// Commands have at most one run from a state: one reply to each, and one state behind it.
 pub fn one_run()
@@ -24,6 +26,23 @@ pub fn replies_come_first()
 /// Its status is that of the script's end: 0, or 3 where the script is broken.
 pub fn replies_then_last_line()
     ensures { RepliesThenLastLine serve_mode }
+{}
+
+/// Commands have at most one list of replies from a state.
+pub fn one_list_of_replies()
+    ensures { OneListOfReplies }
+{}
+
+/// The replies to the commands that others begin with are the first of the replies to all. So what
+/// was written early does not depend on what comes behind.
+pub fn first_replies_come_first()
+    ensures { FirstRepliesComeFirst }
+{}
+
+/// Under an accepted grammar no commands are without replies. As of sessions, the law gives no
+/// witness, but makes statements about all lists of replies non-vacuous.
+pub fn some_replies()
+    ensures { SomeReplies }
 {}
 
 /// Where the grammar is refused, its refusal is all that the session writes, and its status is 2.

@@ -8,4 +8,7 @@ mod laws;
 
 pub use checking::one_check_session;
 pub use existence::some_session;
-pub use laws::{one_run, one_session, refusal_is_all, replies_come_first, replies_then_last_line};
+pub use laws::{
+    first_replies_come_first, one_list_of_replies, one_run, one_session, refusal_is_all,
+    replies_come_first, replies_then_last_line, some_replies,
+};

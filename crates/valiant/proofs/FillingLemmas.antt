@@ -1,5 +1,5 @@
 -- Rows that are filled: each step keeps what they have, and all cuts of a span are those at a row's entries.
-use Rattle.std.proofs.Common.{below_more, ◌≡◌, ℕ, ◌+◌, ◌-◌, ◌<◌, ◌≤◌, ◌≢◌, List, [], ◌∷◌, ◌++◌, Option, Some, length, slice_get, get_or, refl, sym, subst, inl, inr, arith, Contains}
+use Rattle.std.proofs.Common.{below_more, ◌≡◌, ℕ, zero, suc, ◌+◌, ◌-◌, ◌<◌, ◌≤◌, ◌≢◌, List, [], ◌∷◌, ◌++◌, Option, Some, length, slice_get, get_or, refl, sym, subst, inl, inr, arith, Contains}
 use Rattle.std.proofs.lemmas.Bool.{cases_lt}
 use Rattle.std.proofs.lemmas.Option.{slice_get_within, get_or_from_slice_get, slice_get-get_or}
 use Rattle.spec_grammar.specs.Grammars.{Grammar, HasOwnSymbols}
@@ -192,3 +192,45 @@ module _ {C : Type 0} (symbols : C → List ℕ) (g : Grammar) where
         let Is : ℕ → List (Entry C) → Type 0 =
         λ k (x : List (Entry C)). IsRowUpTo symbols g kinds (length kinds - k - 1) (length kinds + 1) x in
         each_pushed Is rows row before it
+
+  -- a token that nothing derives, with the rows behind it
+  module _ (own : HasOwnSymbols g) (kinds : List (Option ℕ)) (rows : List (List (Entry C)))
+      (last : AreLastRows symbols g kinds rows) (short : length rows < length kinds) (cell : C)
+      (none : symbols cell ≡ []) (token : IsEntryOf g kinds (next_token kinds rows) (next_token kinds rows + 1) []) where
+    -- the next span is derived by nothing either, as no cut of it has a part
+    none_up_to :
+        (end : ℕ)
+        → next_token kinds rows < end → end ≤ length kinds
+        → IsRowUpTo symbols g kinds (next_token kinds rows) end []
+        → IsEntryOf g kinds (next_token kinds rows) end []
+    none_up_to end behind within filled = elim (cases_lt (next_token kinds rows + 1) end) [
+      | inl later ↦
+          entries_all own kinds rows last short [] end filled later within 0 [] (omega arith)
+          (entries_none (length kinds) rows [] end)
+      | inr one ↦
+          let At : ℕ → Type 0 = λ n. IsEntryOf g kinds (next_token kinds rows) n [] in
+          subst At (omega (arith, behind, one)) token
+    ]
+
+    -- so a row without entries has all spans up to any limit
+    empty_up_to :
+        (more : ℕ)
+        → next_token kinds rows + more ≤ length kinds
+        → IsRowUpTo symbols g kinds (next_token kinds rows) (next_token kinds rows + more + 1) []
+    empty_up_to zero within =
+        let UpTo : ℕ → Type 0 = λ limit. IsRowUpTo symbols g kinds (next_token kinds rows) limit [] in
+        subst UpTo (omega arith) (row_none kinds (next_token kinds rows))
+    empty_up_to (suc more) within =
+        let i = next_token kinds rows in
+        let UpTo : ℕ → Type 0 = λ limit. IsRowUpTo symbols g kinds i limit [] in
+        let before = empty_up_to more (omega (arith, within)) in
+        let is = none_up_to (i + more + 1) (omega arith) (omega (arith, within)) before in
+        subst UpTo (omega arith)
+        (row_more kinds i (i + more + 1) [] [] cell before (omega arith) (rw none is) (inl (none, refl)))
+
+    -- and is the row of the token
+    pub row_empty : IsRowUpTo symbols g kinds (next_token kinds rows) (length kinds + 1) []
+    row_empty =
+        let UpTo : ℕ → Type 0 = λ limit. IsRowUpTo symbols g kinds (next_token kinds rows) limit [] in
+        subst UpTo (omega (arith, short))
+        (empty_up_to (length kinds - next_token kinds rows) (omega (arith, short)))

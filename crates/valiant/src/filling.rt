@@ -110,7 +110,7 @@ fn row_behind<C>(rows: &[Row<C>], count: usize, token: usize) -> &[Entry<C>]
 /// rows, and the cells, which are empty before and after. When an end is reached, its cell has what
 /// all cuts give, and goes into its entry, with which the cells of the ends behind it get the cuts
 /// there.
-fn next_row<C: Cell>(
+fn filled_row<C: Cell>(
     alloc: Global,
     bin: &Binary<C>,
     kinds: &[Option<u16>],
@@ -141,6 +141,30 @@ fn next_row<C: Cell>(
         })?;
     }
     Ok((row, cells))
+}
+
+/// The entries of the spans that begin with the next token, and the empty cells. Where nothing
+/// derives the token, nothing derives a longer span from it: no end is looked at.
+fn next_row<C: Cell>(
+    alloc: Global,
+    bin: &Binary<C>,
+    kinds: &[Option<u16>],
+    rows: &[Row<C>],
+    empty: Vec<C>,
+) -> Result<(Row<C>, Vec<C>), AllocError>
+    requires own_symbols { HasOwnSymbols bin.now }
+    requires rows { AreLastRows C.symbols bin.now kinds.now rows.now }
+    requires short { length rows.now < length kinds.now }
+    requires few { length kinds.now ≤ 16384 }
+    requires empty { AreEmptyCells C.symbols (length kinds.now) empty.items }
+    ensures { IfOk result (λ next.
+        IsNextRow C.symbols bin.now kinds.now rows.now next.0 next.1.items) }
+{
+    let token = kinds.len() - rows.len() - 1;
+    if bin.token_cell(kinds[token]).is_empty() {
+        return Ok((Items::new(alloc), empty));
+    }
+    filled_row(alloc, bin, kinds, rows, empty)
 }
 
 /// Each rule of the grammar has symbols of the grammar: a binary form keeps it so.

@@ -1,7 +1,7 @@
 -- The row so far has the spans that end before the next, and the cells what its entries give.
 use Rattle.std.proofs.Common.{◌+◌}
 use Rattle.valiant.specs.Filling.{IsRowUpTo, AreCellsBehind, next_token}
-use Rattle.valiant.proofs.filling.next_row.Given as goal
+use Rattle.valiant.proofs.filling.filled_row.Given as goal
 
 abbrev pub invariant-loop-last : goal.invariant-loop-last
 invariant-loop-last g l =
