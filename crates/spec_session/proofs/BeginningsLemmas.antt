@@ -3,7 +3,6 @@ use Rattle.std.proofs.Common.{◌≡◌, ℕ, List, [], ◌∷◌, ◌++◌, len
 use Rattle.std.specs.List.{concat}
 use Rattle.spec_grammar.specs.Grammars.{Grammar}
 use Rattle.spec_script.specs.Script.{Command}
-use Rattle.spec_session.specs.GrammarReplies.{IsAccepted}
 use Rattle.spec_session.specs.Steps.{State, Step}
 use Rattle.spec_session.specs.Runs.{IsRun, IsRunOf, commands_of, replies_of, AreReplies}
 use Rattle.spec_session.specs.Beginnings.{lines_of, AreRepliesTo, OneListOfReplies, FirstRepliesComeFirst, SomeReplies}

@@ -1,5 +1,5 @@
 -- The row of a token that nothing derives has no entries.
-use Rattle.std.proofs.Common.{ℕ, [], ◌≡◌, ◌+◌, ◌<◌, length, refl, arith}
+use Rattle.std.proofs.Common.{[], ◌≡◌, ◌+◌, ◌<◌, length, refl, arith}
 use Rattle.valiant.specs.Filling.{next_token}
 use Rattle.valiant.proofs.CutLemmas.{one_token_entry}
 use Rattle.valiant.proofs.FillingLemmas.{row_empty}
