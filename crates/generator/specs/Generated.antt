@@ -54,15 +54,15 @@ statement_line letter left sign right =
 
 -- the statement of this number, from 0: each has four draws of its own, for its letter, its left
 -- digit, its sign and its right digit
-abbrev pub statement : ℕ → ℕ → List ℕ
-statement seed number =
+abbrev pub statement_of : ℕ → ℕ → List ℕ
+statement_of seed number =
     statement_line (letter_of (drawn seed (4 * number))) (digit_of (drawn seed (4 * number + 1)))
     (sign_of (drawn seed (4 * number + 2))) (digit_of (drawn seed (4 * number + 3)))
 
 -- the text of so many statements
 abbrev pub text_of : ℕ → ℕ → List ℕ
 text_of seed zero = []
-text_of seed (suc count) = text_of seed count ++ statement seed count
+text_of seed (suc count) = text_of seed count ++ statement_of seed count
 
 -- the offset of the sign of a statement, in the text
 abbrev pub sign_offset : ℕ → ℕ
@@ -77,7 +77,7 @@ edited_statement seed statements pair = drawn seed (4 * statements + pair) % sta
 abbrev pub edit_byte : ℕ → ℕ
 edit_byte number = get_or (codes ";+") (number % 2) 0
 
--- the edit of this number, from 0: the byte goes in the place of the sign of a statement
+-- the edit of this number, from 0: in the statement of its pair, a byte takes the place of the sign
 abbrev pub edit_of : ℕ → ℕ → ℕ → Edit
 edit_of seed statements number =
     let statement = edited_statement seed statements (number / 2) in

@@ -2,7 +2,7 @@
 ghost use Rattle.std.specs.Prelude.{◌≡◌, ◌+◌};
 ghost use Rattle.generator.specs.Draws.{answer_of, drawn, state_behind};
 
-/// 2^64 over the golden ratio, made odd.
+/// An odd number, 2^64 over the golden ratio.
 const GROWTH: u64 = 0x9e37_79b9_7f4a_7c15;
 
 // Each draw adds the same to the state, so no state before this one is made.

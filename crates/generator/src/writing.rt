@@ -1,6 +1,6 @@
 //! The text of the run: statements, each of ten bytes and eight tokens.
 ghost use Rattle.std.specs.Prelude.{◌≡◌, IfOk};
-ghost use Rattle.generator.specs.Generated.{letter_of, digit_of, sign_of, statement, text_of};
+ghost use Rattle.generator.specs.Generated.{letter_of, digit_of, sign_of, statement_of, text_of};
 ghost use Rattle.generator.specs.Generated.{statement_count};
 
 use crate::drawing::drawn;
@@ -10,7 +10,7 @@ const STATEMENT_LEN: usize = 10;
 
 const SIGNS: [u8; 3] = *b"+-*";
 
-/// How many statements have so many tokens, or as many of them as make whole statements.
+/// How many statements so many tokens make; those that are left over make none.
 pub fn statement_count(tokens: u32) -> u32
     ensures { result ≡ statement_count tokens }
 {
@@ -35,8 +35,8 @@ fn sign_of(number: u64) -> u8
     SIGNS[(number % 3) as usize]
 }
 
-fn statement(seed: u64, number: u32) -> [u8; STATEMENT_LEN]
-    ensures { result ≡ statement seed number }
+fn statement_of(seed: u64, number: u32) -> [u8; STATEMENT_LEN]
+    ensures { result ≡ statement_of seed number }
 {
     let draw = 4 * u64::from(number);
     let letter = letter_of(drawn(seed, draw));
@@ -54,7 +54,7 @@ pub fn text_of(alloc: Global, seed: u64, statements: u32) -> Result<Vec<u8>, All
 {
     let mut text = Vec::with_capacity(alloc, STATEMENT_LEN * statements as usize)?;
     for number in 0..statements {
-        text.extend_from_slice(&statement(seed, number))?;
+        text.extend_from_slice(&statement_of(seed, number))?;
     }
     Ok(text)
 }
