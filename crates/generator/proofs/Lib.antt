@@ -1,0 +1,2 @@
+pub mod DrawsLemmas
+pub mod GeneratedLemmas
