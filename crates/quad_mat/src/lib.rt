@@ -12,6 +12,3 @@ mod products;
 mod room;
 
 pub use mat::{Cut, Mat, gather, product, union};
-
-#[cfg(test)]
-mod tests;
