@@ -6,6 +6,7 @@ mod entries;
 mod images;
 mod loading;
 mod mat;
+mod meeting;
 mod merging;
 mod pairs;
 mod products;
