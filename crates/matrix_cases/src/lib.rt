@@ -1,5 +1,4 @@
-//! Square matrices made of single entries, and a product of such, worked out by hand. Nothing
-//! stands on this.
+//! Square matrices made of single entries, and matrices worked out by hand. Nothing stands on this.
 #![tactic(auto)]
 
 mod squares;

@@ -7,4 +7,5 @@ pub mod LoadingLemmas
 pub mod MatLemmas
 pub mod PairLemmas
 pub mod ImageLemmas
+pub mod MeetingLemmas
 pub mod ProductLemmas

@@ -70,6 +70,29 @@ module _ (g : Grammar) (left right : List (List ℕ)) (source : List (List Entry
         )),
   )
 
+  -- an entry that makes nothing is passed over
+  pub sum_passed :
+      (cells : List (List ℕ)) (rows : List (List Entry)) (count sum : ℕ)
+      → ((column s : ℕ)
+      → RowMakes g (cell_of left (get_or row count blank).cell) right
+      (row_of source (get_or numbers (column_at row count) 0)) column s → ⊥)
+      → IsRowProduct g left right source numbers row count cells rows sum
+      → IsRowProduct g left right source numbers row (count + 1) cells rows sum
+  sum_passed cells rows count sum none is = (
+    is.0,
+    (λ column s.
+        let Makes : ℕ → Type 0 =
+        λ k. RowMakes g (cell_of left (get_or row k blank).cell) right (row_of source (get_or numbers (column_at row k) 0)) column s in
+        let more = some_more Makes count in
+        let has = is.1 column s in (
+          (λ h. more.1 (inl (has.0 h))),
+          (λ h. elim (more.0 h) [
+            | inl u ↦ has.1 u
+            | inr u ↦ absurd (none column s u)
+          ]),
+        )),
+  )
+
   -- all entries
   pub sum_all :
       (cells : List (List ℕ)) (rows : List (List Entry)) (count n : ℕ)

@@ -4,4 +4,5 @@ pub mod Rooms
 pub mod Loading
 pub mod Pairs
 pub mod Products
+pub mod Meeting
 pub mod Views

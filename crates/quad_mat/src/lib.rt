@@ -6,12 +6,10 @@ mod entries;
 mod images;
 mod loading;
 mod mat;
+mod meeting;
 mod merging;
 mod pairs;
 mod products;
 mod room;
 
 pub use mat::{Cut, Mat, gather, product, union};
-
-#[cfg(test)]
-mod tests;

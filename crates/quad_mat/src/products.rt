@@ -4,21 +4,25 @@ ghost use Rattle.quad_mat.specs.Rows.{IsRow, row_of};
 ghost use Rattle.quad_mat.specs.Loading.{AreNumbersOf, IsBody};
 ghost use Rattle.quad_mat.specs.Products.{AreRowProducts, IsMakingOf, IsRowProductOf, MakesMore};
 ghost use Rattle.quad_mat.specs.Products.{ProductHas};
+ghost use Rattle.quad_mat.specs.Meeting.{AreMeeting};
 
 use crate::entries::{Entry, row_at};
 use crate::images::{Factors, Making, number_of_image};
 use crate::loading::{known_at, numbers_for, unknown};
+use crate::meeting::meeting_cells;
 use crate::room::number_of_union;
 use cell_sets::Cell;
 use sqlite_items::Items;
 use std::alloc::{AllocError, Global};
 
 /// The number in the room of the product of a row of the left matrix and the right matrix: the
-/// union over its entries of the images of the rows that their columns name.
+/// union over its entries of the images of the rows that their columns name. An entry whose cell
+/// makes nothing with any cell of the right matrix is passed over.
 #[inline(never)]
 fn row_product<C: Cell>(
     alloc: Global,
     factors: &Factors<C>,
+    meeting: &[bool],
     making: &mut Making<C>,
     row: &[Entry],
 ) -> Result<u32, AllocError>
@@ -27,6 +31,8 @@ fn row_product<C: Cell>(
     requires right { IsBody making.old.room.columns
         (map C.symbols factors.now.right.now.cells.items)
         factors.now.right.now.rows factors.now.right.now.numbers }
+    requires meeting { AreMeeting C.symbols
+        factors.now.bin.now factors.now.left.now factors.now.right.now meeting.now }
     requires making { IsMakingOf C.symbols
         factors.now.bin.now factors.now.left.now factors.now.right.now making.old }
     ensures more { IfOk result (λ _. MakesMore C.symbols
@@ -38,6 +44,9 @@ fn row_product<C: Cell>(
     let named = factors.right.numbers.as_slice();
     let mut sum: u32 = 0;
     for entry in row {
+        if !meeting[entry.cell as usize] {
+            continue;
+        }
         let n = named[entry.column as usize];
         let image = number_of_image(alloc, factors, making, entry.cell, n)?;
         sum = number_of_union(alloc, &mut making.room, sum, image)?;
@@ -50,6 +59,7 @@ fn row_product<C: Cell>(
 fn number_of_row_product<C: Cell>(
     alloc: Global,
     factors: &Factors<C>,
+    meeting: &[bool],
     making: &mut Making<C>,
     known: &mut Items<Option<u32>>,
     n: u32,
@@ -60,6 +70,8 @@ fn number_of_row_product<C: Cell>(
     requires right { IsBody making.old.room.columns
         (map C.symbols factors.now.right.now.cells.items)
         factors.now.right.now.rows factors.now.right.now.numbers }
+    requires meeting { AreMeeting C.symbols
+        factors.now.bin.now factors.now.left.now factors.now.right.now meeting.now }
     requires making { IsMakingOf C.symbols
         factors.now.bin.now factors.now.left.now factors.now.right.now making.old }
     requires known { AreRowProducts C.symbols
@@ -77,7 +89,7 @@ fn number_of_row_product<C: Cell>(
         return Ok(number);
     }
     let row = row_at(factors.left.rows.as_slice(), n);
-    let number = row_product(alloc, factors, making, row)?;
+    let number = row_product(alloc, factors, meeting, making, row)?;
     known.set(n as usize, Some(number));
     Ok(number)
 }
@@ -105,11 +117,13 @@ pub(crate) fn product_rows<C: Cell>(
         factors.now.bin.now factors.now.left.now factors.now.right.now)
         (map C.symbols making.new.room.cells.items) making.new.room.rows numbers) }
 {
+    let flags = meeting_cells(alloc, factors)?;
+    let meeting = flags.as_slice();
     let mut known = unknown(alloc, factors.left.rows.len())?;
     let named = factors.left.numbers.as_slice();
     let mut numbers = numbers_for(alloc, named.len())?;
     for i in 0..named.len() {
-        let number = number_of_row_product(alloc, factors, making, &mut known, named[i])?;
+        let number = number_of_row_product(alloc, factors, meeting, making, &mut known, named[i])?;
         numbers.push(number)?;
     }
     Ok(numbers)

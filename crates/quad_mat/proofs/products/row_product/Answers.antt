@@ -1,7 +1,9 @@
--- The empty row at first, one image more, and all entries.
-use Rattle.std.proofs.Common.{map, length, get_or, ◌<◌, ℕ, ap, arith}
-use Rattle.quad_mat.specs.Rows.{blank, column_at}
-use Rattle.quad_mat.proofs.ProductLemmas.{more_self, more_then, more_room, sum_start, sum_step, sum_all}
+-- The empty row at first, an entry passed over, one image more, and all entries.
+use Rattle.std.proofs.Common.{map, length, get_or, ◌<◌, ℕ, ap, sym, ◌∙◌, arith}
+use Rattle.std.proofs.lemmas.Bool.{false≢true}
+use Rattle.quad_mat.specs.Rows.{cell_of, row_of, blank, column_at}
+use Rattle.quad_mat.proofs.ProductLemmas.{more_self, more_then, more_room, sum_start, sum_step, sum_passed, sum_all}
+use Rattle.quad_mat.proofs.MeetingLemmas.{makes_nothing}
 use Rattle.quad_mat.proofs.products.row_product.Goals as goal
 
 pub loop-entry-init : goal.loop-entry-init
@@ -26,6 +28,32 @@ number_of_image-requires-clause-row g c κs within =
     let below : k < length right.numbers = c.requires.row.columns_below c.loop-entry.entry-index blank inside in
     rw (c.as_slice-named.ensures, c.loop-entry.invariant.more.columns)
     (c.requires.right.each (get_or right.numbers k 0) (c.requires.right.within k below))
+
+pub loop-entry-preserved-then-not-meeting-entry : goal.loop-entry-preserved-then-not-meeting-entry
+loop-entry-preserved-then-not-meeting-entry g c =
+    let symbols = g.C.Cell.symbols in
+    let factors = c.args.factors.now in
+    let right = factors.right.now in
+    let cells = map symbols factors.left.now.cells.items in
+    let others = map symbols right.cells.items in
+    let row = c.args.row.now in
+    let at = c.loop-entry.entry-index in
+    let room = c.loop-entry.making.room in
+    let k : ℕ = column_at row at in
+    let inside : at < length row = omega (arith, c.loop-entry-test.true) in
+    let below : k < length right.numbers = c.requires.row.columns_below at blank inside in
+    let is_row = c.requires.right.each (get_or right.numbers k 0) (c.requires.right.within k below) in
+    let cell : ℕ = (get_or row at blank).cell in
+    let flag = c.requires.meeting.each cell (c.requires.row.cells_below at blank inside) in
+    record {
+      more = c.loop-entry.invariant.more;
+      sum =
+          sum_passed factors.bin.now cells others right.rows right.numbers row (map symbols room.cells.items) room.rows at
+          c.loop-entry.sum
+          (makes_nothing factors.bin.now others (cell_of cells cell) (row_of right.rows (get_or right.numbers k 0))
+          is_row.cells_below (λ meets. false≢true (sym c.if-not-meeting-entry.true ∙ flag.1 meets)))
+          c.loop-entry.invariant.sum;
+    }
 
 pub loop-entry-preserved : goal.loop-entry-preserved
 loop-entry-preserved g c =

@@ -1,38 +1,14 @@
 //! Small matrices: parts at each border, unions, and products by hand.
 ghost use Rattle.std.specs.Prelude.{◌≡◌, IfOk};
 
-use crate::{Cut, Mat, gather, product, union};
-use binary_form::{Binary, binary};
+use super::samples::{product_of, symbols_at};
 use cell_sets::{Cell, ListCell};
-use numbered_grammar::{Grammar, Items, KindDef, Label, LexiconParts, Name, Rule, Symbol};
+use quad_mat::{Cut, Mat, gather, union};
 use std::alloc::{AllocError, Global};
 use std::test::*;
 
 /// The symbols in one row and column.
 type Place = (u32, u32, &'static [u16]);
-
-const S: Symbol = Symbol::Category(0);
-
-const A: Symbol = Symbol::Kind(0);
-
-fn rule(alloc: Global, items: &[Symbol]) -> Result<Rule, AllocError> {
-    Ok(Rule {
-        label: Label::Wild,
-        category: 0,
-        items: Items::from_slice(alloc, items)?,
-    })
-}
-
-/// `S ::= S S S`, `S ::= a`: S is 0, a is 1, and the suffixes are 2, 3 and 4, and 5. `None` where
-/// memory ran out.
-fn triples(alloc: Global) -> Option<Binary<ListCell>> {
-    let rules = vec![in alloc; rule(alloc, &[S, S, S]).ok()?, rule(alloc, &[A]).ok()?].ok()?;
-    let names = vec![in alloc; Name::of(Vec::new(alloc))].ok()?;
-    let kinds = vec![in alloc; KindDef::Word(Name::of(Vec::new(alloc)))].ok()?;
-    let lexicon = LexiconParts::of_kinds(alloc, kinds);
-    let grammar = Grammar::of_rules(alloc, rules, names, lexicon).ok()??;
-    binary(alloc, &grammar).ok()
-}
 
 fn cell_of(alloc: Global, symbols: &[u16]) -> Result<ListCell, AllocError> {
     let mut cell = ListCell::empty();
@@ -86,20 +62,6 @@ fn mat_of(
     Ok(mat)
 }
 
-/// The symbols at a place, none outside.
-fn symbols_at(mat: &Mat<ListCell>, i: u32, j: u32) -> &[u16] {
-    if i >= mat.rows() {
-        return &[];
-    }
-    if j >= mat.cols() {
-        return &[];
-    }
-    match mat.get(i, j) {
-        Some(cell) => cell.as_slice(),
-        None => &[],
-    }
-}
-
 /// The symbols that the list has for a place: none where it has no such place.
 fn wanted(places: &[Place], i: u32, j: u32) -> &'static [u16] {
     for (row, column, symbols) in places {
@@ -128,16 +90,6 @@ fn differs_at(mat: &Mat<ListCell>, places: &[Place]) -> Option<(u32, u32)> {
         }
     }
     None
-}
-
-/// The product of two matrices of these places, and its size; `None` where there is no memory, or
-/// the middle does not fit.
-fn product_of(alloc: Global, a: &Mat<ListCell>, b: &Mat<ListCell>) -> Option<Mat<ListCell>> {
-    let form = triples(alloc)?;
-    if a.cols() != b.rows() {
-        return None;
-    }
-    product(alloc, &form, a, b).ok()
 }
 
 /// Rows, the middle, and columns; the places of the two factors, and those of their product.
