@@ -1,8 +1,9 @@
 -- The text that a command makes, what a session answers to the command, and the state that it may be
 -- in then.
-use Rattle.std.proofs.Common.{◌≡◌, ℕ, zero, suc, ◌+◌, ◌<◌, ◌≤◌, List, [], ◌∷◌, ◌++◌, length, Option, Some, None}
-use Rattle.std.proofs.Common.{Result, Ok, Err, IfOk, refl, sym, ◌∙◌, ap, subst, arith, length-append}
+use Rattle.std.proofs.Common.{◌≡◌, ℕ, zero, suc, ◌+◌, ◌<◌, ◌≤◌, List, [], ◌∷◌, ◌++◌, length, Option, Some, None, is_some}
+use Rattle.std.proofs.Common.{true, false, Result, Ok, Err, IfOk, String, string_bytes, refl, sym, ◌∙◌, ap, subst, arith, length-append}
 use Rattle.std.proofs.lemmas.Str.{utf8_valid_len-IsUtf8}
+use Rattle.std.specs.declared.alloc.Global.{Global}
 use Rattle.std.specs.declared.alloc.AllocError.{AllocError}
 use Rattle.spec_grammar.specs.Grammars.{Grammar, HasDistinctNames}
 use Rattle.spec_lexing.specs.Lexicon.{Lexicon}
@@ -29,9 +30,9 @@ use Rattle.chart_service.specs.declared.version.Version.{Version}
 use Rattle.chart_service.specs.declared.reply.Reply.{Reply}
 use Rattle.chart_service.specs.Sessions.{SessionValue, count_up_to, version_count, IsLastOf, IsIn, HasReply}
 use Rattle.chart_service.specs.Sessions.{refused_line, IsNextOf, AnswersCommand, IsBlockOf, IsOpened}
-use Rattle.chart_service.specs.Texts.{version_seen, KeepsVersion, session_fault, TellsRefusal, MakesText}
+use Rattle.chart_service.specs.Texts.{version_seen, session_of, KeepsVersion, session_fault, TellsRefusal, MakesText}
 use Rattle.chart_service.specs.Texts.{MakesOpened, MakesEdited, IsVersionWith, HasTaken}
-use Rattle.chart_service.specs.Replying.{reply_bytes}
+use Rattle.chart_service.specs.Replying.{IsAnswerLine, reply_bytes}
 use Rattle.chart_service.specs.Answering.{Answers}
 
 -- what is known of a value that may be there goes on
@@ -163,7 +164,7 @@ some_state : (current : Option (ℕ × TextValue)) → (state : State) × IsLast
 some_state None = (no_texts, refl)
 some_state (Some version) =
     let older = some_texts version.0 in
-    (record { texts = older.0 ++ (version.1).bytes ∷ [] }, older.0, refl, sym older.1)
+    (record { texts = older.0 ++ (version.1).bytes ∷ [] }, (older.0, refl, sym older.1))
 
 -- a state that stays, or has one text more
 same_count : (before after : State) → after ≡ before → length after.texts ≤ length before.texts + 1
@@ -264,12 +265,11 @@ answers_closed old new at deleted inserted none same =
     stays old new (edits at deleted inserted) same (refused_line Closed)
     (λ state i. none_to_edit (closed_in old none state i) refl refl)
 
--- what was answered is known
-module _ (old new : SessionValue) (command : Command) where
-  answered_so : (answer other : Result Opened SessionFault) → answer ≡ other
-      → AnswersCommand old command other new → AnswersCommand old command answer new
-  answered_so answer other is h =
-      subst (λ (r : Result Opened SessionFault). AnswersCommand old command r new) (sym is) h
+-- what holds of an answer holds of one that is equal
+answered_so : (old new : SessionValue) (command : Command) (answer other : Result Opened SessionFault)
+    → answer ≡ other → AnswersCommand old command other new → AnswersCommand old command answer new
+answered_so old new command answer other is h =
+    subst (λ (r : Result Opened SessionFault). AnswersCommand old command r new) (sym is) h
 
 -- a text is opened, or refused
 pub answers_open : (old new : SessionValue) (bytes : List ℕ) → old.current ≡ None
@@ -281,10 +281,10 @@ answers_open old new bytes none (Ok t) h (Ok opening) next =
       puts old new t bytes h.1 opening next (opens bytes) (version_reply opening.number opening.tokens)
           (λ state i. opened t.tokens (closed_in old none state i) h.0 h.2
           (ap (λ n. version_reply n opening.tokens) first ∙ ap (λ n. version_reply 0 n) next.tokens) refl),
-      t,
-      next,
+      (t, next),
     )
-answers_open old new bytes none (Ok t) h (Err fault) e = answered_so old new (opens bytes) (Err fault) (Err Memory) (ap Err e) tt
+answers_open old new bytes none (Ok t) h (Err fault) e =
+    subst (λ (f : SessionFault). AnswersCommand old (opens bytes) (Err f) new) (sym e) tt
 answers_open old new bytes none (Err fault) h answer taken =
     answered_so old new (opens bytes) answer (Err (session_fault fault)) taken.0
     (refuses old new (opens bytes) taken.1 (IsTextRefused (old.language).lexicon bytes)
@@ -302,11 +302,10 @@ answers_edit old new number t is at deleted inserted (Ok later) h (Ok opening) n
       (λ state i. is_edited t.bytes later.tokens (current_in old number t is state i) h.0.0 h.0.1 h.2
       (ap (λ n. version_reply n opening.tokens) (next.number ∙ count_is state old.current i)
       ∙ ap (λ n. version_reply (length state.texts) n) next.tokens) refl),
-  later,
-  next,
+  (later, next),
 )
 answers_edit old new number t is at deleted inserted (Ok later) h (Err fault) e =
-    answered_so old new (edits at deleted inserted) (Err fault) (Err Memory) (ap Err e) tt
+    subst (λ (f : SessionFault). AnswersCommand old (edits at deleted inserted) (Err f) new) (sym e) tt
 answers_edit old new number t is at deleted inserted (Err fault) h answer taken =
     answered_so old new (edits at deleted inserted) answer (Err (session_fault fault)) taken.0
     (refuses old new (edits at deleted inserted) taken.1 (IsEditRefused t.bytes at deleted inserted (old.language).lexicon)
@@ -330,3 +329,122 @@ open_question session query number t is chart o reply h =
     (λ r a. stays session session (ask query) refl (reply_bytes session.language t r)
     (λ state i. (answered t.bytes t.tokens (current_in session number t is state i) o.are_tokens a.0, refl)))
     reply h
+
+-- what is kept is seen
+none_seen : {C : Type 0} → (current : Option (Version C)) → is_some current ≡ false → version_seen current ≡ None
+none_seen None closed = refl
+none_seen (Some version) closed = let never : true ≡ false = closed in cc
+
+some_seen : {C : Type 0} → (current : Option (Version C)) → is_some current ≡ true
+    → (version : Version C) × (current ≡ Some version)
+some_seen None some = let never : false ≡ true = some in cc
+some_seen (Some version) some = (version, refl)
+
+-- of a session that keeps this version, or none
+module _ {C : Type 0} (g : Grammar) (current : Option (Version C)) (old : SessionValue)
+    (seen : session_of g current ≡ old) where
+  same_language : g ≡ old.language
+  same_language = ap (λ (s : SessionValue). s.language) seen
+
+  -- no version is kept, so no text is open
+  pub closed_seen : is_some current ≡ false → old.current ≡ None
+  closed_seen closed = sym (ap (λ (s : SessionValue). s.current) seen) ∙ none_seen current closed
+
+  -- this version is kept, so its text is open
+  pub version_now : (version : Version C) → current ≡ Some version
+      → old.current ≡ Some (version.number, version.text)
+  version_now version is =
+      sym (ap (λ (s : SessionValue). s.current) seen) ∙ ap (λ (c : Option (Version C)). version_seen c) is
+
+  -- a text is refused since one is open
+  pub open_refuses : (new : SessionValue) (bytes : List ℕ) → is_some current ≡ true → new ≡ old
+      → AnswersCommand old (opens bytes) (Err (Refused Open)) new
+  open_refuses new bytes some same =
+      let there = some_seen current some in
+      answers_open_already old new bytes there.0.number there.0.text (version_now there.0 there.1) same
+
+  -- or opened
+  pub open_answers : (new : SessionValue) (bytes : List ℕ) → is_some current ≡ false
+      → (made : Result TextValue EditFault) → MakesOpened g.lexicon bytes made
+      → (answer : Result Opened SessionFault) → HasTaken old made answer new
+      → AnswersCommand old (opens bytes) answer new
+  open_answers new bytes closed made h answer taken =
+      let P : Grammar → Type 0 = λ (x : Grammar). MakesOpened x.lexicon bytes made in
+      answers_open old new bytes (closed_seen closed) made (subst P same_language h) answer taken
+
+  -- an edit is refused since none is open
+  pub edit_refuses : (new : SessionValue) (at deleted : ℕ) (inserted : List ℕ) → current ≡ None → new ≡ old
+      → AnswersCommand old (edits at deleted inserted) (Err (Refused Closed)) new
+  edit_refuses new at deleted inserted none same =
+      let now : old.current ≡ None =
+      sym (ap (λ (s : SessionValue). s.current) seen) ∙ ap (λ (c : Option (Version C)). version_seen c) none in
+      answers_closed old new at deleted inserted now same
+
+  -- or made
+  pub edit_answers : (new : SessionValue) (version : Version C) → current ≡ Some version
+      → (at deleted : ℕ) (inserted : List ℕ) (made : Result TextValue EditFault)
+      → MakesEdited g.lexicon version.text.bytes at deleted inserted made
+      → (answer : Result Opened SessionFault) → HasTaken old made answer new
+      → AnswersCommand old (edits at deleted inserted) answer new
+  edit_answers new version is at deleted inserted made h answer taken =
+      let P : Grammar → Type 0 = λ (x : Grammar). MakesEdited x.lexicon version.text.bytes at deleted inserted made in
+      answers_edit old new version.number version.text (version_now version is) at deleted inserted made
+      (subst P same_language h) answer taken
+
+  -- a question is answered
+  pub question_answers : (query : Query) (version : Version C) → current ≡ Some version → KeepsVersion g current
+      → (reply : Result Reply AllocError) → IfOk reply (Answers g version.text query)
+      → IfOk reply (λ r. HasReply old (ask query) old (reply_bytes g version.text r))
+  question_answers query version is keeps reply h =
+      let o : IsOpened g version.chart version.text.bytes version.text.tokens = subst (KeepsVersion g) is keeps in
+      let P : SessionValue → Type 0 = λ (s : SessionValue).
+      IfOk reply (λ r. HasReply s (ask query) s (reply_bytes g version.text r)) in
+      subst P seen (open_question (session_of g current) query version.number version.text
+      (ap (λ (c : Option (Version C)). version_seen c) is) version.chart o reply h)
+
+  -- or refused since no text is open
+  pub closed_replies : (query : Query) → current ≡ None → (line : Result (String Global) AllocError)
+      → IfOk line (λ text. string_bytes text ≡ refused_line Closed)
+      → IfOk line (λ text. HasReply old (ask query) old (string_bytes text))
+  closed_replies query none line h =
+      let now : old.current ≡ None =
+      sym (ap (λ (s : SessionValue). s.current) seen) ∙ ap (λ (c : Option (Version C)). version_seen c) none in
+      if_ok (λ (text : String Global). string_bytes text ≡ refused_line Closed)
+      (λ (text : String Global). HasReply old (ask query) old (string_bytes text))
+      (λ text e. closed_question old query now (string_bytes text) e) line h
+
+  -- a text that is made has its tokens by the same lexicon
+  pub tokens_here : (t : TextValue) → HasTokens (old.language).lexicon t.bytes t.tokens
+      → HasTokens g.lexicon t.bytes t.tokens
+  tokens_here t h = subst (λ (x : Grammar). HasTokens x.lexicon t.bytes t.tokens) (sym same_language) h
+
+  -- and is the next version, once that is kept
+  pub next_is : (number size : ℕ) (t : TextValue) (version : Version C) → IsVersionWith g number t version
+      → number ≡ version_count old → size ≡ length t.tokens
+      → IsNextOf old t (record { number = number; tokens = size }) (session_of g (Some version))
+  next_is number size t version is counts sizes = record {
+    language = same_language;
+    current = version_is g number t version is;
+    number = counts;
+    tokens = sizes;
+  }
+
+-- the line that tells an answer replies to the command
+line_replies : (old new : SessionValue) (command : Command) (answer : Result Opened SessionFault)
+    → AnswersCommand old command answer new → (line : List ℕ) → IsAnswerLine answer line
+    → HasReply old command new line
+line_replies old new command (Ok opening) h line is = subst (HasReply old command new) (sym is) h.0
+line_replies old new command (Err Memory) h line never = absurd never
+line_replies old new command (Err (Refused refusal)) h line is = subst (HasReply old command new) (sym is) h
+
+-- the same of a command that is this one
+pub answer_replies : (old new : SessionValue) (command meaning : Command) → meaning ≡ command
+    → (answer : Result Opened SessionFault) → AnswersCommand old command answer new → (line : List ℕ)
+    → IsAnswerLine answer line → HasReply old meaning new line
+answer_replies old new command meaning same answer h line is =
+    subst (λ (m : Command). HasReply old m new line) (sym same) (line_replies old new command answer h line is)
+
+-- an edit by equal numbers is the same command
+pub edits_same : (inserted : List ℕ) (at place deleted gone : ℕ) → place ≡ at → gone ≡ deleted
+    → edits at deleted inserted ≡ edits place gone inserted
+edits_same inserted at place deleted gone e f = cc

@@ -163,7 +163,8 @@ impl<C: Cell> Session<C> {
         ensures err { IsErr result → self.new ≡ self.old }
     {
         let made = match &self.current {
-            Some(Version { text, .. }) => {
+            Some(version) => {
+                let text = &version.text;
                 edited_text(alloc, &self.language, text, at, deleted, count, bytes)
             }
             None => return Err(SessionFault::Refused(Refusal::Closed)),
@@ -189,8 +190,9 @@ impl<C: Cell> Session<C> {
         ensures read { IsErrOf result IoFault.Read → ⊥ }
     {
         match &self.current {
-            Some(Version { text, chart, .. }) => {
-                let reply = answer_to(alloc, &self.language, text, chart, query);
+            Some(version) => {
+                let text = &version.text;
+                let reply = answer_to(alloc, &self.language, text, &version.chart, query);
                 replies.say_reply(alloc, sink, reply, self.language.grammar(), text)
             }
             None => replies.say(sink, format!(in alloc; "refused closed\n")),

@@ -1,5 +1,6 @@
 -- An edit by a block's bytes is made or refused as the text store does it; one by a block that is too
 -- long is refused for the numbers alone.
+use Rattle.std.proofs.Common.{arith}
 use Rattle.std.proofs.lemmas.Result.{err_from_is_err_and}
 use Rattle.chart_service.proofs.SessionLemmas.{kept_refused, kept_edits, long_edits}
 use Rattle.chart_service.proofs.version.edited_text.Goals as goal
