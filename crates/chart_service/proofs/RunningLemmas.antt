@@ -1,6 +1,6 @@
 -- How a session begins, goes on and ends: what was told so far is the replies to the script so far.
-use Rattle.std.proofs.Common.{◌≡◌, ℕ, ◌+◌, List, [], ◌∷◌, ◌++◌, length, codes, Bool, true, false}
-use Rattle.std.proofs.Common.{Option, Some, Result, IfOk, String, string_bytes, IsTrue, refl, sym, ◌∙◌, ap, subst}
+use Rattle.std.proofs.Common.{inl, inr, ◌≡◌, ◌⊎◌, ℕ, ◌+◌, List, [], ◌∷◌, ◌++◌, length, codes, Bool, true, false}
+use Rattle.std.proofs.Common.{Option, Some, None, Result, IfOk, String, string_bytes, IsTrue, refl, sym, ◌∙◌, ap, subst}
 use Rattle.std.proofs.Common.{append_assoc, append-nil, arith}
 use Rattle.std.specs.declared.alloc.Global.{Global}
 use Rattle.std.specs.declared.alloc.AllocError.{AllocError}
@@ -14,7 +14,7 @@ use Rattle.spec_script.specs.Script.{BeginsWithParts, BeginsWithScript, HasEndLi
 use Rattle.spec_script.specs.Script.{ended, broken, IsScript}
 use Rattle.spec_script.proofs.BeginningLemmas.{begins_more, parts_more}
 use Rattle.spec_session.specs.GrammarReplies.{IsAccepted, IsRefused, grammar_reply}
-use Rattle.spec_session.specs.Steps.{State, no_texts, Step}
+use Rattle.spec_session.specs.Steps.{State, no_texts, Step, IsStep}
 use Rattle.spec_session.specs.Runs.{IsRun, commands_of, replies_of, state_after}
 use Rattle.spec_session.specs.Sessions.{serve_mode, AreAllReplies, refused, whole}
 use Rattle.spec_session.proofs.SessionsLemmas.{replies_come_first}
@@ -26,15 +26,15 @@ use Rattle.script_reader.specs.Forms.{query_of}
 use Rattle.script_reader.specs.Reading.{TakesPart, TakesEnd, TakesCommand, StopsBehind}
 use Rattle.chart_service.specs.declared.accepting.LanguageFault.{LanguageFault}
 use Rattle.chart_service.specs.declared.ending.EarlyEnd.TheVariants.{Refused, Stopped}
-use Rattle.chart_service.specs.declared.session.Session.{Session}
 use Rattle.chart_service.specs.Serving.{IsPrefixOfSession}
-use Rattle.chart_service.specs.Replies.{line_in, bytes_in, Passes, SaysBy}
+use Rattle.chart_service.specs.Replies.{line_in, Passes}
 use Rattle.chart_service.specs.Languages.{IsFaultOf, IsRefusal}
-use Rattle.chart_service.specs.Sessions.{IsIn, IsCommand, RepliesTo}
+use Rattle.chart_service.specs.Sessions.{SessionValue, IsLastOf, IsIn, RepliesTo, HasReply, SaysReply, CutsReply}
+use Rattle.chart_service.specs.Replying.{IsCommand}
 use Rattle.chart_service.specs.Progress.{IsToldBehind, Running, IsCutShort, HasEnded, EndsEarly}
 use Rattle.chart_service.specs.Progress.{HasAccepted}
 use Rattle.chart_service.proofs.ToldLemmas.{told_on, written_is_prefix, cut_is_prefix}
-use Rattle.chart_service.proofs.ToldLemmas.{line_is_prefix, bytes_are_prefix}
+use Rattle.chart_service.proofs.ToldLemmas.{line_is_prefix}
 use Rattle.chart_service.proofs.LanguageLemmas.{refusal_is}
 use Rattle.chart_service.proofs.RunLemmas.{run_more, commands_more, lines_more, after_more}
 
@@ -157,8 +157,8 @@ module _ (input before : List ℕ) (coming next : Option (List ℕ)) (from at : 
         refused_early input before (Some before) refl block b.0 to b.2 fault (λ line. refusal_is block fault line is)
 
 -- the session runs
-module _ {C : Type 0} (input before : List ℕ) (coming : Option (List ℕ)) (at : ℕ) (now : Option (List ℕ))
-    (gathered : List ℕ) (session : Session C) (r : Running input before coming at now gathered session) where
+module _ (input before : List ℕ) (coming : Option (List ℕ)) (at : ℕ) (now : Option (List ℕ))
+    (gathered : List ℕ) (session : SessionValue) (r : Running input before coming at now gathered session) where
   abbrev g : Grammar
   g = session.language
 
@@ -251,8 +251,8 @@ module _ {C : Type 0} (input before : List ℕ) (coming : Option (List ℕ)) (at
     behind = part.taken r.rest r.comes
 
     -- and replied to, by a session under the same grammar
-    module _ (later : Session C) (same : later.language ≡ g) (line : List ℕ)
-        (replied : RepliesTo (state_after no_texts r.steps) meaning line later) where
+    module _ (later : SessionValue) (same : later.language ≡ g) (line : List ℕ)
+        (replied : RepliesTo g (state_after no_texts r.steps) meaning line later) where
       abbrev step : Step
       step = record { command = meaning; line = line; before = state_after no_texts r.steps; after = replied.after }
 
@@ -263,7 +263,7 @@ module _ {C : Type 0} (input before : List ℕ) (coming : Option (List ℕ)) (at
       run =
           let P : Grammar → Type 0 = λ (x : Grammar). IsRun x no_texts r.steps in
           run_more later.language no_texts r.steps step (subst P (sym same) r.is_run)
-          replied.replies refl
+          (subst (λ (x : Grammar). IsStep x step) (sym same) replied.replies) refl
 
       accepted : IsAccepted r.block later.language
       accepted = subst (IsAccepted r.block) (sym same) r.accepted
@@ -322,40 +322,35 @@ module _ {C : Type 0} (input before : List ℕ) (coming : Option (List ℕ)) (at
       }
 
     -- the reply was said
-    pub running_said : {X : Type 0} → (bytes_of : X → List ℕ) (later : Session C) → later.language ≡ g
-        → (reply : Result X AllocError)
-        → IfOk reply (λ x. RepliesTo (state_after no_texts r.steps) meaning (bytes_of x) later)
-        → (new : Option (List ℕ)) (left : List ℕ) → SaysBy bytes_of reply now new gathered left
+    pub running_said : (later : SessionValue) (new : Option (List ℕ)) (left : List ℕ)
+        → SaysReply (HasReply session meaning later) now new gathered left
         → Running input before next to new left later
-    running_said {X} bytes_of later same reply replies new left says =
-        let P : Result X AllocError → Type 0 = λ r.
-        IfOk r (λ x. RepliesTo replied_state meaning (bytes_of x) later) in
-        running_replied later same (bytes_of says.0) (subst P says.1 replies) new left says.2
-      where
-        replied_state : State
-        replied_state = state_after no_texts r.steps
+    running_said later new left (line, h, passes) =
+        running_replied later h.language line (h.replies (state_after no_texts r.steps) r.is_in) new left passes
 
     -- the reply is cut short, or there was no memory for it
-    pub cut_reply : {X : Type 0} → (bytes_of : X → List ℕ) (later : Session C) → later.language ≡ g
-        → (reply : Result X AllocError)
-        → IfOk reply (λ x. RepliesTo (state_after no_texts r.steps) meaning (bytes_of x) later)
-        → (new : Option (List ℕ)) → GrowsByPrefix now new (gathered ++ bytes_in bytes_of reply)
-        → IsCutShort input before new
-    cut_reply bytes_of later same reply replies new cut =
-        cut_is_prefix input before now new gathered (bytes_in bytes_of reply) told r.is_told cut
-        (bytes_are_prefix input before bytes_of told
-        (λ bytes. RepliesTo (state_after no_texts r.steps) meaning bytes later)
-        told_is_prefix (reply_is_prefix later same) reply replies)
+    reply_or_none : (later : SessionValue) (line : List ℕ) → HasReply session meaning later line ⊎ (line ≡ [])
+        → IsPrefixOfSession input (told ++ line)
+    reply_or_none later line (inl h) =
+        reply_is_prefix later h.language line (h.replies (state_after no_texts r.steps) r.is_in)
+    reply_or_none later line (inr none) =
+        let Q : List ℕ → Type 0 = IsPrefixOfSession input in
+        subst Q (sym (append-nil told) ∙ ap (λ bytes. told ++ bytes) (sym none)) told_is_prefix
+
+    pub cut_reply : (later : SessionValue) (new : Option (List ℕ))
+        → CutsReply (HasReply session meaning later) now new gathered → IsCutShort input before new
+    cut_reply later new (line, why, cut) =
+        cut_is_prefix input before now new gathered line told r.is_told cut (reply_or_none later line why)
 
 -- a session under a grammar that was accepted, to which it replied, runs
-module _ {C : Type 0} (input before : List ℕ) (coming : Option (List ℕ)) (at : ℕ) (session : Session C)
+module _ (input before : List ℕ) (coming : Option (List ℕ)) (at : ℕ) (session : SessionValue)
     (a : HasAccepted input coming at session.language) (old new : Option (List ℕ)) (is : old ≡ Some before) where
   abbrev reply : List ℕ
   reply = grammar_reply session.language
 
-  pub first_running : IsIn session no_texts → (gathered left : List ℕ)
+  pub first_running : session.current ≡ None → (gathered left : List ℕ)
       → gathered ≡ [] → Passes old new gathered reply left → Running input before coming at new left session
-  first_running is_in gathered left none passes = record {
+  first_running fresh gathered left none passes = record {
     block = a.block;
     steps = [];
     rest = a.rest;
@@ -363,7 +358,7 @@ module _ {C : Type 0} (input before : List ℕ) (coming : Option (List ℕ)) (at
     begins = a.begins;
     accepted = a.accepted;
     is_run = tt;
-    is_in = is_in;
+    is_in = subst (IsLastOf no_texts) (sym fresh) refl;
     is_told = subst (IsToldBehind before new left) (sym (append-nil reply))
         (told_on before old new gathered reply left []
         (subst (λ these. IsToldBehind before old these []) (sym none) (nothing_told before old is)) passes);

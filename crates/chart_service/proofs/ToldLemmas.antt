@@ -14,7 +14,7 @@ use Rattle.spec_session.proofs.SessionsLemmas.{one_session}
 use Rattle.chart_service.specs.declared.status.Status.{Status}
 use Rattle.chart_service.specs.Statuses.{number_of, status_at, EndsAtFault}
 use Rattle.chart_service.specs.Serving.{IsPrefixOfSession}
-use Rattle.chart_service.specs.Replies.{line_in, bytes_in, Passes, Finishes}
+use Rattle.chart_service.specs.Replies.{line_in, Passes, Finishes}
 use Rattle.chart_service.specs.Progress.{IsToldBehind, IsCutShort, LacksLast, Ends}
 
 -- what was told goes on with the bytes that passed
@@ -97,16 +97,6 @@ module _ (input before : List ℕ) where
       → IsPrefixOfSession input (told ++ line_in line)
   line_is_prefix told IsOne h goes (Ok text) is = goes (string_bytes text) is
   line_is_prefix told IsOne h goes (Err error) is = subst (IsPrefixOfSession input) (sym (append-nil told)) h
-
-  -- and so do the bytes of whatever is said
-  pub bytes_are_prefix : {X : Type 0} → (bytes_of : X → List ℕ) (told : List ℕ) (IsOne : List ℕ → Type 0)
-      → IsPrefixOfSession input told
-      → ((bytes : List ℕ) → IsOne bytes → IsPrefixOfSession input (told ++ bytes))
-      → (reply : Result X AllocError) → IfOk reply (λ x. IsOne (bytes_of x))
-      → IsPrefixOfSession input (told ++ bytes_in bytes_of reply)
-  bytes_are_prefix bytes_of told IsOne h goes (Ok x) is = goes (bytes_of x) is
-  bytes_are_prefix bytes_of told IsOne h goes (Err error) is =
-      subst (IsPrefixOfSession input) (sym (append-nil told)) h
 
   -- the last line ends the session
   pub finished : (old new : Option (List ℕ)) (gathered : List ℕ) (IsLast : List ℕ → Type 0) (n : ℕ)

@@ -1,4 +1,5 @@
 pub mod Serving
+pub mod Sessions
 pub mod Statuses
 pub mod Replies
 pub mod Languages
@@ -6,5 +7,4 @@ pub mod KnownTexts
 pub mod Replying
 pub mod Answering
 pub mod Texts
-pub mod Sessions
 pub mod Progress

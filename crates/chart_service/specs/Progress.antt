@@ -1,20 +1,21 @@
 -- Serves the proofs alone: how far a session has come, and how it ended.
-use Rattle.std.specs.Prelude.{◌≡◌, ℕ, ◌⊎◌, List, [], ◌++◌, Option, Some, Bool, true, false}
+use Rattle.std.specs.Prelude.{◌≡◌, ℕ, ◌<◌, ◌^◌, ◌⊎◌, List, [], ◌++◌, Option, Some, None, Bool}
+use Rattle.std.specs.Prelude.{true, false, Result, IsErrOf}
 use Rattle.spec_grammar.specs.Grammars.{Grammar}
 use Rattle.spec_script.specs.Script.{with_grammar, BeginsWithScript, ended, broken}
 use Rattle.spec_session.specs.GrammarReplies.{IsAccepted, grammar_reply}
 use Rattle.spec_session.specs.Steps.{no_texts, Step}
 use Rattle.spec_session.specs.Runs.{IsRun, commands_of, replies_of, state_after}
 use Rattle.spec_session.specs.Sessions.{serve_mode, IsSession, last_line}
+use Rattle.cyk_io.specs.declared.fault.IoFault.TheVariants.{Read, Write}
 use Rattle.script_reader.specs.declared.stop.Stop.TheVariants.{Breaks, Fault}
 use Rattle.chart_service.specs.declared.ending.EarlyEnd.{EarlyEnd}
 use Rattle.chart_service.specs.declared.ending.EarlyEnd.TheVariants.{Refused, Stopped}
-use Rattle.chart_service.specs.declared.session.Session.{Session}
 use Rattle.chart_service.specs.declared.status.Status.{Status}
 use Rattle.chart_service.specs.Statuses.{number_of, EndsAtFault}
 use Rattle.chart_service.specs.Serving.{IsPrefixOfSession}
-use Rattle.chart_service.specs.Languages.{CanOpen, IsRefusal}
-use Rattle.chart_service.specs.Sessions.{IsIn}
+use Rattle.chart_service.specs.Languages.{IsRefusal}
+use Rattle.chart_service.specs.Sessions.{SessionValue, IsIn}
 
 -- what was told is what was written behind `before`, and then what is gathered
 abbrev pub IsToldBehind : List ℕ → Option (List ℕ) → List ℕ → List ℕ → Type 0
@@ -23,8 +24,8 @@ IsToldBehind before now gathered told =
 
 -- the script so far is a grammar that was accepted and the commands of a run, what comes stands
 -- behind it, the session is in the state that they left, and the replies to them were told
-pub record Running {C : Type 0} (input before : List ℕ) (coming : Option (List ℕ)) (at : ℕ)
-    (now : Option (List ℕ)) (gathered : List ℕ) (session : Session C) : Type 0 where
+pub record Running (input before : List ℕ) (coming : Option (List ℕ)) (at : ℕ)
+    (now : Option (List ℕ)) (gathered : List ℕ) (session : SessionValue) : Type 0 where
   pub block : List ℕ
   pub steps : List Step
   pub rest : List ℕ
@@ -70,8 +71,8 @@ Ends input before now status =
     ⊎ (EndsAtFault status × IsPrefixOfSession input out))
 
 -- the session goes on, or the line `end` was read
-abbrev pub GoesOnOrHasEnded : {C : Type 0} → List ℕ → List ℕ → Option (List ℕ) → ℕ
-    → Option (List ℕ) → List ℕ → Session C → Bool → Type 0
+abbrev pub GoesOnOrHasEnded : List ℕ → List ℕ → Option (List ℕ) → ℕ → Option (List ℕ) → List ℕ
+    → SessionValue → Bool → Type 0
 GoesOnOrHasEnded input before coming at now gathered session true =
     Running input before coming at now gathered session
 GoesOnOrHasEnded input before coming at now gathered session false =
@@ -86,7 +87,18 @@ pub record HasAccepted (input : List ℕ) (coming : Option (List ℕ)) (at : ℕ
   pub comes : coming ≡ Some rest
   pub begins : BeginsWithScript input (with_grammar block []) at rest
 
--- no text was opened in the session yet, and texts can be
-pub record IsFresh {C : Type 0} (room : ℕ) (session : Session C) : Type 0 where
-  pub can : CanOpen room session.language
-  pub is_in : IsIn session no_texts
+-- no text was opened in the session yet
+abbrev pub IsFresh : SessionValue → Type 0
+IsFresh session = session.current ≡ None
+
+-- the session ends early since a read failed
+abbrev pub IsReadFault : {X : Type 0} → Result X EarlyEnd → Type 0
+IsReadFault result = IsErrOf result (Stopped (Fault Read))
+
+-- the session ends early since a write failed
+abbrev pub IsWriteFault : {X : Type 0} → Result X EarlyEnd → Type 0
+IsWriteFault result = IsErrOf result (Stopped (Fault Write))
+
+-- the offset has grown, and is no larger than any script's
+abbrev pub GoesForward : ℕ → ℕ → Type 0
+GoesForward old new = (old < new) × (new < 2 ^ 50)

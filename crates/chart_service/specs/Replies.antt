@@ -9,27 +9,29 @@ pub use Rattle.cyk_io.specs.Gathering.{Passes}
 use Rattle.chart_service.specs.declared.status.Status.{Status}
 use Rattle.chart_service.specs.Statuses.{EndsAtFault}
 
--- the bytes of the line; there are none where there was no memory for it
-abbrev pub line_in : Result (String Global) AllocError → List ℕ
-line_in (Ok text) = string_bytes text
-line_in (Err error) = []
-
 -- the bytes of what is to be said; there are none where there was no memory for it
 abbrev pub bytes_in : {X : Type 0} → (X → List ℕ) → Result X AllocError → List ℕ
 bytes_in bytes_of (Ok x) = bytes_of x
 bytes_in bytes_of (Err error) = []
-
--- there is a line, and it was said
-abbrev pub Says : Result (String Global) AllocError → Option (List ℕ) → Option (List ℕ) → List ℕ
-    → List ℕ → Type 0
-Says line old new gathered left =
-    (text : String Global) × (line ≡ Ok text) × Passes old new gathered (string_bytes text) left
 
 -- there is something to say, and its bytes were said
 abbrev pub SaysBy : {X : Type 0} → (X → List ℕ) → Result X AllocError → Option (List ℕ)
     → Option (List ℕ) → List ℕ → List ℕ → Type 0
 SaysBy {X} bytes_of reply old new gathered left =
     (x : X) × (reply ≡ Ok x) × Passes old new gathered (bytes_of x) left
+
+-- the bytes of a line
+abbrev pub line_bytes : String Global → List ℕ
+line_bytes text = string_bytes text
+
+-- the bytes of the line; there are none where there was no memory for it
+abbrev pub line_in : Result (String Global) AllocError → List ℕ
+line_in line = bytes_in line_bytes line
+
+-- there is a line, and it was said
+abbrev pub Says : Result (String Global) AllocError → Option (List ℕ) → Option (List ℕ) → List ℕ
+    → List ℕ → Type 0
+Says line old new gathered left = SaysBy line_bytes line old new gathered left
 
 -- there is a line, and it is written with all that was gathered
 abbrev pub WritesOut : Result (String Global) AllocError → Option (List ℕ) → Option (List ℕ)

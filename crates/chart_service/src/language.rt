@@ -1,6 +1,7 @@
 //! A grammar that was accepted, with its automaton and its binary form.
 ghost use Rattle.std.specs.Prelude.{◌≡◌};
 ghost use Rattle.text_store.specs.TextStore.{Lexes};
+ghost use Rattle.chart_service.specs.Languages.{CanOpen};
 
 use binary_form::Binary;
 use cell_sets::Cell;
@@ -9,7 +10,8 @@ use lbnf_regex::Automaton;
 use std::marker::Model;
 
 /// A grammar that was accepted, with the automaton of its kinds and comments and its binary form
-/// over one type of cell, seen as the grammar. The three parts are always of this one grammar.
+/// over one type of cell, seen as the grammar. The three parts are always of this one grammar, under
+/// which texts can be opened.
 #[derive(Drop)]
 pub struct Language<C: Cell> {
     grammar: Grammar,
@@ -23,6 +25,7 @@ impl<C: Cell> Model for Language<C> {
     ghost use Rattle.std.specs.Coded.{codes};
     ghost use Rattle.spec_lexing.specs.contracts.expression.Expr as expr;
     ghost use Rattle.text_store.specs.TextStore.{Lexes};
+    ghost use Rattle.chart_service.specs.Languages.{CanOpen};
 
     ghost Value = { Grammar };
 
@@ -30,7 +33,8 @@ impl<C: Cell> Model for Language<C> {
 
     ghost view = { λ l. l.grammar };
 
-    ghost invariant = { λ l. (l.binary ≡ l.grammar) × Lexes (l.grammar).lexicon l.automaton };
+    ghost invariant = { λ l. (l.binary ≡ l.grammar) × Lexes (l.grammar).lexicon l.automaton
+        × CanOpen C.ROOM l.grammar };
 }
 
 impl<C: Cell> Language<C> {
@@ -38,6 +42,7 @@ impl<C: Cell> Language<C> {
     pub(crate) fn of(grammar: Grammar, automaton: Automaton, binary: Binary<C>) -> Language<C>
         requires lexes { Lexes grammar.lexicon automaton }
         requires binary { binary ≡ grammar }
+        requires can { CanOpen C.ROOM grammar }
         ensures { result ≡ grammar }
     {
         Language {
@@ -45,6 +50,13 @@ impl<C: Cell> Language<C> {
             automaton,
             binary,
         }
+    }
+
+    /// Texts can be opened under the grammar.
+    pub(crate) fn know_can_open(&self)
+        ensures { CanOpen C.ROOM self.now }
+    {
+        let _grammar = &self.grammar;
     }
 
     /// The grammar: its rules, categories, kinds, comments and entry. It takes no memory.

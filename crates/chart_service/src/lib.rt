@@ -8,17 +8,23 @@ mod ending;
 mod known_texts;
 mod language;
 mod options;
+mod outcomes;
 mod refusals;
 mod replies;
 mod reply;
+mod replying;
 mod serving;
 mod session;
 mod status;
 #[cfg(test)]
 mod tests;
 mod token_lines;
+mod version;
 
 pub use accepting::{LanguageFault, read_language};
 pub use language::Language;
 pub use options::Options;
+pub use outcomes::{AskFault, Opened, Refusal, SessionFault};
 pub use serving::serve;
+pub use session::Session;
+pub use version::Version;

@@ -1,11 +1,14 @@
 //! The replies of a session, which are gathered and go to the sink together.
-ghost use Rattle.std.specs.Prelude.{◌≡◌, ℕ, ◌++◌, [], IsErrOf, IfErr, OnOk, OnErr};
+ghost use Rattle.std.specs.Prelude.{◌≡◌, ℕ, ◌++◌, [], IfOk, IsErrOf, IfErr, OnOk, OnErr};
 ghost use Rattle.cyk_io.specs.Causes.{HasCause};
 ghost use Rattle.cyk_io.specs.Streams.{Grows, GrowsByPrefix};
 ghost use Rattle.spec_session.specs.Lines.{as_line};
 ghost use Rattle.first_tree.specs.Printing.{IsTreeIn, text_of};
-ghost use Rattle.chart_service.specs.Replies.{line_in, Passes, Says, WritesOut, Finishes};
+ghost use Rattle.chart_service.specs.Replies.{line_in, bytes_in, Passes, Says, SaysBy};
+ghost use Rattle.chart_service.specs.Replies.{WritesOut, Finishes};
+ghost use Rattle.chart_service.specs.Replying.{reply_bytes, IsPrintable};
 
+use crate::reply::Reply;
 use crate::status::Status;
 use cyk_io::{Gathered, IoFault, Sink};
 use first_tree::{Tree, print_gathered};
@@ -117,6 +120,32 @@ impl Replies {
     {
         print_gathered(alloc, tree, grammar, text, &mut self.gathered, sink)?;
         self.gathered.add(sink, b"\n".as_slice())
+    }
+
+    /// Says the reply to a question on the text. Where there was no memory for it, what is gathered
+    /// is written, and the answer is that.
+    pub(crate) fn say_reply<K: Sink>(
+        &mut self,
+        alloc: Global,
+        sink: &mut K,
+        reply: Result<Reply, AllocError>,
+        grammar: &Grammar,
+        text: &Text,
+    ) -> Result<(), IoFault>
+        requires fits { IfOk reply (IsPrintable grammar.now text.now) }
+        ensures ok { OnOk result (SaysBy (reply_bytes grammar.now text.now) reply
+            (K.written sink.old) (K.written sink.new) self.old self.new) }
+        ensures err { OnErr result (GrowsByPrefix (K.written sink.old) (K.written sink.new)
+            (self.old ++ bytes_in (reply_bytes grammar.now text.now) reply)) }
+        ensures cause { HasCause (K.faults sink.old) (K.faults sink.new)
+            (IsErrOf result IoFault.Write) }
+        ensures read { IsErrOf result IoFault.Read → ⊥ }
+    {
+        match reply {
+            Ok(Reply::Line(line)) => self.say(sink, Ok(line)),
+            Ok(Reply::Tree(tree)) => self.say_tree(alloc, sink, &tree, grammar, text),
+            Err(error) => self.say(sink, Err(error)),
+        }
     }
 
     /// Says the line and writes all.

@@ -1,30 +1,28 @@
 //! Serving a script: each reply is written before the source is read again.
-ghost use Rattle.std.specs.Prelude.{◌≡◌, ◌+◌, ◌^◌, ◌<◌, ◌≤◌, ◌↔◌, ℕ, List, [], Some, IsTrue};
-ghost use Rattle.std.specs.Prelude.{IfOk, IfErr, IsErrOf, OnOk, string_bytes};
+ghost use Rattle.std.specs.Prelude.{◌≡◌, ◌^◌, ◌<◌, ◌≤◌, ◌↔◌, ℕ, List, [], Some, IsTrue};
+ghost use Rattle.std.specs.Prelude.{IfOk, IfErr, OnOk, string_bytes};
 ghost use Rattle.spec_text.specs.declared.limits.TheConstants.{MAX_SYMBOLS};
 ghost use Rattle.spec_script.specs.Script.{ended, broken};
 ghost use Rattle.spec_session.specs.Sessions.{last_line};
-ghost use Rattle.spec_session.specs.Steps.{State};
 ghost use Rattle.cyk_io.specs.Causes.{HasCause};
 ghost use Rattle.cyk_io.specs.Streams.{coming};
 ghost use Rattle.chart_service.specs.Serving.{AreAllowed, WritesSession, IsStatus};
-ghost use Rattle.chart_service.specs.Languages.{CanOpen};
-ghost use Rattle.chart_service.specs.Sessions.{IsIn};
+ghost use Rattle.chart_service.specs.Sessions.{version_count};
 ghost use Rattle.chart_service.specs.Progress.{Running, HasEnded, EndsEarly, Ends, HasAccepted};
-ghost use Rattle.chart_service.specs.Progress.{IsFresh, GoesOnOrHasEnded};
-ghost use Rattle.chart_service.specs.declared.ending.EarlyEnd.TheVariants.{Stopped};
+ghost use Rattle.chart_service.specs.Progress.{IsFresh, GoesOnOrHasEnded, GoesForward};
+ghost use Rattle.chart_service.specs.Progress.{IsReadFault, IsWriteFault};
 ghost use Rattle.script_reader.specs.declared.command.Command.TheVariants.{End};
-ghost use Rattle.script_reader.specs.declared.stop.Stop.TheVariants.{Fault};
 
 use crate::accepting::language_in;
 use crate::ending::EarlyEnd;
 use crate::options::Options;
 use crate::refusals::refusal_line;
 use crate::replies::Replies;
+use crate::replying::reply_to;
 use crate::session::Session;
 use crate::status::Status;
 use cell_sets::{Cell, ListCell};
-use cyk_io::{Ahead, IoFault, Line, Sink, Source};
+use cyk_io::{Ahead, Line, Sink, Source};
 use script_reader::{Command, Stop, read_command, read_grammar, read_head, read_header};
 use spec_text::MAX_LINE;
 use std::alloc::{AllocError, Global};
@@ -34,27 +32,28 @@ use step_count::Steps;
 /// Reads the header and the grammar, and accepts it.
 fn accept<S: Source, C: Cell>(
     alloc: Global,
+    options: &Options,
     source: &mut S,
     ahead: &mut Ahead,
     line: &mut Line<MAX_LINE>,
 ) -> Result<Session<C>, EarlyEnd>
     requires room { MAX_SYMBOLS ≤ C.ROOM }
+    requires fits { AreAllowed options.now }
     requires start { ahead.old.offset ≡ 0 }
     ensures ok { (input : List ℕ) → coming ahead.old (S.left source.old) ≡ Some input
         → IfOk result (λ session. HasAccepted input (coming ahead.new (S.left source.new))
         ahead.new.offset session.language) }
-    ensures fresh { IfOk result (IsFresh C.ROOM) }
+    ensures fresh { IfOk result IsFresh }
     ensures err { (input before : List ℕ) → coming ahead.old (S.left source.old) ≡ Some input
         → IfErr result (EndsEarly input before (Some before) []) }
-    ensures read { HasCause (S.faults source.old) (S.faults source.new)
-        (IsErrOf result (Stopped (Fault IoFault.Read))) }
-    ensures write { IsErrOf result (Stopped (Fault IoFault.Write)) → ⊥ }
+    ensures read { HasCause (S.faults source.old) (S.faults source.new) (IsReadFault result) }
+    ensures write { IsWriteFault result → ⊥ }
     ensures range { OnOk result (ahead.new.offset < 2 ^ 50) }
 {
     read_header(source, ahead, line)?;
     let block = read_grammar(alloc, source, ahead, line)?;
     match language_in(alloc, &block) {
-        Ok(language) => Ok(Session::of(language)),
+        Ok(language) => Ok(Session::new(language, *options)),
         Err(fault) => Err(EarlyEnd::Refused(fault)),
     }
 }
@@ -62,6 +61,7 @@ fn accept<S: Source, C: Cell>(
 /// Begins the session: accepts its grammar and replies to it.
 fn begin<S: Source, K: Sink, C: Cell>(
     alloc: Global,
+    options: &Options,
     source: &mut S,
     sink: &mut K,
     ahead: &mut Ahead,
@@ -69,6 +69,7 @@ fn begin<S: Source, K: Sink, C: Cell>(
     replies: &mut Replies,
 ) -> Result<Session<C>, EarlyEnd>
     requires room { MAX_SYMBOLS ≤ C.ROOM }
+    requires fits { AreAllowed options.now }
     requires start { ahead.old.offset ≡ 0 }
     requires none { replies.old ≡ [] }
     ensures ok { (input before : List ℕ) → coming ahead.old (S.left source.old) ≡ Some input
@@ -78,14 +79,12 @@ fn begin<S: Source, K: Sink, C: Cell>(
     ensures err { (input before : List ℕ) → coming ahead.old (S.left source.old) ≡ Some input
         → K.written sink.old ≡ Some before
         → IfErr result (EndsEarly input before (K.written sink.new) replies.new) }
-    ensures fresh { IfOk result (IsFresh C.ROOM) }
-    ensures read { HasCause (S.faults source.old) (S.faults source.new)
-        (IsErrOf result (Stopped (Fault IoFault.Read))) }
-    ensures write { HasCause (K.faults sink.old) (K.faults sink.new)
-        (IsErrOf result (Stopped (Fault IoFault.Write))) }
+    ensures fresh { IfOk result IsFresh }
+    ensures read { HasCause (S.faults source.old) (S.faults source.new) (IsReadFault result) }
+    ensures write { HasCause (K.faults sink.old) (K.faults sink.new) (IsWriteFault result) }
     ensures range { OnOk result (ahead.new.offset < 2 ^ 50) }
 {
-    let session: Session<C> = accept(alloc, source, ahead, line)?;
+    let session: Session<C> = accept(alloc, options, source, ahead, line)?;
     replies.say(sink, session.grammar_line(alloc))?;
     Ok(session)
 }
@@ -109,10 +108,8 @@ fn turn<S: Source, K: Sink, C: Cell>(
     replies: &mut Replies,
     session: &mut Session<C>,
 ) -> Result<bool, EarlyEnd>
-    requires can { CanOpen C.ROOM session.old.language }
-    requires few { session.old.texts ≤ ahead.old.offset }
+    requires few { version_count session.old ≤ ahead.old.offset }
     requires early { ahead.old.offset < 2 ^ 50 }
-    requires is_in { (state : State) × IsIn session.old state }
     ensures ok { (input before : List ℕ)
         → Running input before (coming ahead.old (S.left source.old)) ahead.old.offset
         (K.written sink.old) replies.old session.old
@@ -122,15 +119,10 @@ fn turn<S: Source, K: Sink, C: Cell>(
         → Running input before (coming ahead.old (S.left source.old)) ahead.old.offset
         (K.written sink.old) replies.old session.old
         → IfErr result (EndsEarly input before (K.written sink.new) replies.new) }
-    ensures read { HasCause (S.faults source.old) (S.faults source.new)
-        (IsErrOf result (Stopped (Fault IoFault.Read))) }
-    ensures write { HasCause (K.faults sink.old) (K.faults sink.new)
-        (IsErrOf result (Stopped (Fault IoFault.Write))) }
-    ensures range { OnOk result
-        ((ahead.old.offset < ahead.new.offset) × (ahead.new.offset < 2 ^ 50)) }
-    ensures few { OnOk result (session.new.texts ≤ ahead.new.offset) }
-    ensures can { CanOpen C.ROOM session.new.language }
-    ensures is_in { OnOk result ((state : State) × IsIn session.new state) }
+    ensures read { HasCause (S.faults source.old) (S.faults source.new) (IsReadFault result) }
+    ensures write { HasCause (K.faults sink.old) (K.faults sink.new) (IsWriteFault result) }
+    ensures range { OnOk result (GoesForward ahead.old.offset ahead.new.offset) }
+    ensures few { OnOk result (version_count session.new ≤ ahead.new.offset) }
 {
     replies.flush_unless(sink, ahead.has_line())?;
     let head = read_head(source, ahead, line)?;
@@ -139,8 +131,7 @@ fn turn<S: Source, K: Sink, C: Cell>(
     if is_end(&command) {
         return Ok(false);
     }
-    let reply = session.reply(alloc, command);
-    session.say(alloc, replies, sink, reply)?;
+    reply_to(alloc, session, replies, sink, command)?;
     Ok(true)
 }
 
@@ -154,10 +145,8 @@ fn reply_all<S: Source, K: Sink, C: Cell>(
     replies: &mut Replies,
     session: &mut Session<C>,
 ) -> Result<(), EarlyEnd>
-    requires can { CanOpen C.ROOM session.old.language }
-    requires few { session.old.texts ≤ ahead.old.offset }
+    requires few { version_count session.old ≤ ahead.old.offset }
     requires early { ahead.old.offset < 2 ^ 50 }
-    requires is_in { (state : State) × IsIn session.old state }
     ensures ok { (input before : List ℕ)
         → Running input before (coming ahead.old (S.left source.old)) ahead.old.offset
         (K.written sink.old) replies.old session.old
@@ -166,10 +155,8 @@ fn reply_all<S: Source, K: Sink, C: Cell>(
         → Running input before (coming ahead.old (S.left source.old)) ahead.old.offset
         (K.written sink.old) replies.old session.old
         → IfErr result (EndsEarly input before (K.written sink.new) replies.new) }
-    ensures read { HasCause (S.faults source.old) (S.faults source.new)
-        (IsErrOf result (Stopped (Fault IoFault.Read))) }
-    ensures write { HasCause (K.faults sink.old) (K.faults sink.new)
-        (IsErrOf result (Stopped (Fault IoFault.Write))) }
+    ensures read { HasCause (S.faults source.old) (S.faults source.new) (IsReadFault result) }
+    ensures write { HasCause (K.faults sink.old) (K.faults sink.new) (IsWriteFault result) }
 {
     loop {
         let goes_on = turn(alloc, source, sink, ahead, line, replies, session)?;
@@ -182,11 +169,13 @@ fn reply_all<S: Source, K: Sink, C: Cell>(
 /// Runs the session up to its last line, which is still to be said.
 fn run<S: Source, K: Sink, C: Cell>(
     alloc: Global,
+    options: &Options,
     source: &mut S,
     sink: &mut K,
     replies: &mut Replies,
 ) -> Result<(), EarlyEnd>
     requires room { MAX_SYMBOLS ≤ C.ROOM }
+    requires fits { AreAllowed options.now }
     requires none { replies.old ≡ [] }
     ensures ok { (input before : List ℕ) → S.left source.old ≡ Some input
         → K.written sink.old ≡ Some before
@@ -194,14 +183,14 @@ fn run<S: Source, K: Sink, C: Cell>(
     ensures err { (input before : List ℕ) → S.left source.old ≡ Some input
         → K.written sink.old ≡ Some before
         → IfErr result (EndsEarly input before (K.written sink.new) replies.new) }
-    ensures read { HasCause (S.faults source.old) (S.faults source.new)
-        (IsErrOf result (Stopped (Fault IoFault.Read))) }
-    ensures write { HasCause (K.faults sink.old) (K.faults sink.new)
-        (IsErrOf result (Stopped (Fault IoFault.Write))) }
+    ensures read { HasCause (S.faults source.old) (S.faults source.new) (IsReadFault result) }
+    ensures write { HasCause (K.faults sink.old) (K.faults sink.new) (IsWriteFault result) }
 {
     let mut ahead = Ahead::new();
     let mut line = Line::new();
-    let mut session: Session<C> = begin(alloc, source, sink, &mut ahead, &mut line, replies)?;
+    let mut session: Session<C> = begin(
+        alloc, options, source, sink, &mut ahead, &mut line, replies,
+    )?;
     reply_all(
         alloc,
         source,
@@ -228,8 +217,14 @@ fn broken_line(alloc: Global, at: u64) -> Result<String, AllocError>
 }
 
 /// Runs the session, writes its last line, and answers how it ended.
-fn conclude<S: Source, K: Sink, C: Cell>(alloc: Global, source: &mut S, sink: &mut K) -> Status
+fn conclude<S: Source, K: Sink, C: Cell>(
+    alloc: Global,
+    options: &Options,
+    source: &mut S,
+    sink: &mut K,
+) -> Status
     requires room { MAX_SYMBOLS ≤ C.ROOM }
+    requires fits { AreAllowed options.now }
     ensures ok { (input before : List ℕ) → S.left source.old ≡ Some input
         → K.written sink.old ≡ Some before
         → Ends input before (K.written sink.new) result }
@@ -238,7 +233,7 @@ fn conclude<S: Source, K: Sink, C: Cell>(alloc: Global, source: &mut S, sink: &m
     ensures write { HasCause (K.faults sink.old) (K.faults sink.new) (result ≡ Status.WriteFault) }
 {
     let mut replies = Replies::new();
-    match run::<S, K, C>(alloc, source, sink, &mut replies) {
+    match run::<S, K, C>(alloc, options, source, sink, &mut replies) {
         Ok(()) => replies.finish(sink, end_line(alloc), Status::Ended),
         Err(EarlyEnd::Refused(fault)) => {
             replies.finish(sink, refusal_line(alloc, &fault), Status::BadGrammar)
@@ -273,5 +268,5 @@ pub fn serve<S: Source, K: Sink, L: Ledger>(
     ensures write { HasCause (K.faults sink.old) (K.faults sink.new) (result ≡ 5) }
     ensures cost { joins.new ≡ joins.old }
 {
-    conclude::<S, K, ListCell>(alloc, source, sink).number()
+    conclude::<S, K, ListCell>(alloc, options, source, sink).number()
 }

@@ -1,159 +1,65 @@
-//! A session behind its grammar: the texts that were opened, and the replies to commands.
-ghost use Rattle.std.specs.Prelude.{◌≡◌, ℕ, ◌+◌, ◌<◌, ◌≤◌, ◌^◌, List, length, IfOk, IsErr, Some};
-ghost use Rattle.std.specs.Prelude.{string_bytes, IsErrOf, OnOk, OnErr, ◌++◌};
+//! A session behind its grammar: a text is opened, edited, and asked about.
+ghost use Rattle.std.specs.Prelude.{◌≡◌, ℕ, ◌≤◌, ◌^◌, List, IfOk, IsErr, IsErrOf, OnOk, OnErr};
+ghost use Rattle.std.specs.Prelude.{string_bytes, []};
 ghost use Rattle.cyk_io.specs.Causes.{HasCause};
-ghost use Rattle.cyk_io.specs.Streams.{GrowsByPrefix};
-ghost use Rattle.spec_text.specs.declared.limits.TheConstants.{MAX_TOKENS};
-ghost use Rattle.spec_script.specs.declared.limits.TheConstants.{MAX_BLOCK};
-ghost use Rattle.spec_script.specs.Script.{Command as ScriptCommand, opens, edits, ask};
+ghost use Rattle.spec_script.specs.Script.{opens, edits, ask};
 ghost use Rattle.spec_session.specs.GrammarReplies.{grammar_reply};
-ghost use Rattle.spec_session.specs.Steps.{State, no_texts, IsReply, version_reply};
+ghost use Rattle.spec_session.specs.TextRefusals.{HasTokens};
 ghost use Rattle.script_reader.specs.Forms.{query_of};
-ghost use Rattle.script_reader.specs.Reading.{IsBlock};
-ghost use Rattle.text_store.specs.TextEdits.{IsSizeFault};
-ghost use Rattle.chart_service.specs.Languages.{CanOpen};
-ghost use Rattle.chart_service.specs.Sessions.{CanReply, IsCommand, IsIn, RepliesTo};
-ghost use Rattle.chart_service.specs.Texts.{IsFaultLine, MakesOpened, MakesEdited, IsVersionWith};
-ghost use Rattle.chart_service.specs.Texts.{HasPut, HasTaken};
-ghost use Rattle.chart_service.specs.Sessions.{is_open};
-ghost use Rattle.chart_service.specs.Replying.{bytes_of, CanSay};
-ghost use Rattle.chart_service.specs.Replies.{bytes_in, Passes, SaysBy};
+ghost use Rattle.chart_service.specs.Serving.{AreAllowed};
+ghost use Rattle.chart_service.specs.Sessions.{new_session, version_count, HasReply, IsNextOf};
+ghost use Rattle.chart_service.specs.Sessions.{IsBlockOf, MayBeGiven, AnswersCommand};
+ghost use Rattle.chart_service.specs.Sessions.{SaysReply, WritesReply, CutsReply, TellsCurrent};
+ghost use Rattle.chart_service.specs.Texts.{HasTaken};
 
 use crate::answering::answer_to;
 use crate::language::Language;
+use crate::options::Options;
+use crate::outcomes::{AskFault, Opened, Refusal, SessionFault};
 use crate::replies::Replies;
-use crate::reply::Reply;
+use crate::version::{Version, edited_text, opened_text, version_of};
 use cell_sets::Cell;
 use cyk_io::{IoFault, Sink};
-use first_tree::Tree;
-use script_reader::{Block, Command, Query};
+use script_reader::Query;
 use std::alloc::{AllocError, Global};
+use std::marker::Model;
 use text_store::{EditFault, Text};
-use valiant::Chart;
 
-/// A text that was opened, and the chart of its tokens.
+/// A session under a grammar that was accepted, seen as the grammar, and the number and the text of
+/// the current version, if a text is open. It keeps the current version alone.
 #[derive(Drop)]
-pub(crate) struct Version<C: Cell> {
-    pub(crate) text: Text,
-    pub(crate) chart: Chart<C>,
+pub struct Session<C: Cell> {
+    language: Language<C>,
+    current: Option<Version<C>>,
 }
 
-/// The line that refuses a text. There is none for want of memory.
-fn fault_line(alloc: Global, fault: &EditFault) -> Result<String, AllocError>
-    ensures { IfOk result (λ text. IsFaultLine fault.now (string_bytes text)) }
-{
-    match fault {
-        EditFault::Memory => Err(AllocError),
-        EditFault::Range { len } => format!(in alloc; "refused range {len}\n"),
-        EditFault::FullText { .. } => format!(in alloc; "refused full\n"),
-        EditFault::NotUtf8 { at } => format!(in alloc; "refused utf8 {at}\n"),
-        EditFault::FullTokens => format!(in alloc; "refused full\n"),
-    }
-}
+impl<C: Cell> Model for Session<C> {
+    ghost use Rattle.std.specs.Coded.{codes};
+    ghost use Rattle.spec_lexing.specs.contracts.expression.Expr as expr;
+    ghost use Rattle.chart_service.specs.Languages.{CanOpen};
+    ghost use Rattle.chart_service.specs.Sessions.{SessionValue};
+    ghost use Rattle.chart_service.specs.Texts.{session_of, KeepsVersion};
 
-/// The text of the block under the language's grammar.
-fn opened_text<C: Cell>(
-    alloc: Global,
-    language: &Language<C>,
-    block: &Block,
-) -> Result<Text, EditFault>
-    ensures { (bytes : List ℕ) → IsBlock MAX_BLOCK block.now bytes
-        → MakesOpened (language.now).lexicon bytes result }
-{
-    match block {
-        Block::Kept(bytes) => Text::open(alloc, language.automaton(), bytes.as_slice()),
-        Block::TooLong(count) => {
-            let count = u64::from(*count);
-            Err(EditFault::FullText { count })
-        }
-    }
-}
+    ghost Value = { SessionValue };
 
-/// What keeps so many bytes of the text from being replaced by a block of so many, which is longer
-/// than any text.
-fn long_fault(text: &Text, at: u64, deleted: u64, count: u32) -> EditFault
-    requires { MAX_BLOCK < count }
-    ensures { IsSizeFault (length text.now.bytes) at deleted count (Some result) }
-{
-    match text.fits(at, deleted, u64::from(count)) {
-        Some(fault) => fault,
-        None => unreachable!(),
-    }
-}
+    ghost coded = { Prim.hlevel (codes, expr.the_row.coded) };
 
-/// The text in which so many bytes from the place on are replaced by the block.
-fn edited_text<C: Cell>(
-    alloc: Global,
-    language: &Language<C>,
-    text: &Text,
-    at: u32,
-    deleted: u32,
-    block: &Block,
-) -> Result<Text, EditFault>
-    requires known { (inserted : List ℕ) × IsBlock MAX_BLOCK block.now inserted }
-    ensures { (inserted : List ℕ) → IsBlock MAX_BLOCK block.now inserted
-        → MakesEdited (language.now).lexicon text.now.bytes at deleted inserted result }
-{
-    let place = u64::from(at);
-    let gone = u64::from(deleted);
-    match block {
-        Block::Kept(bytes) => {
-            let changed = text.edit(alloc, language.automaton(), place, gone, bytes.as_slice())?;
-            Ok(changed.0)
-        }
-        Block::TooLong(count) => Err(long_fault(text, place, gone, *count)),
-    }
-}
+    ghost view = { λ s. session_of s.language s.current };
 
-/// The version of the text under the language's grammar.
-fn version_of<C: Cell>(
-    alloc: Global,
-    language: &Language<C>,
-    text: Text,
-) -> Result<Version<C>, AllocError>
-    requires can { CanOpen C.ROOM language.now }
-    requires few { length text.tokens ≤ MAX_TOKENS }
-    ensures { IfOk result (IsVersionWith language.now text) }
-{
-    let kinds = text.kinds(alloc)?;
-    let chart = Chart::of_kinds(alloc, language.binary(), kinds.as_slice())?;
-    Ok(Version { text, chart })
-}
-
-/// The line that replies to a text that is opened.
-fn version_line(alloc: Global, number: u64, tokens: u32) -> Result<String, AllocError>
-    ensures { IfOk result (λ text. string_bytes text ≡ version_reply number tokens) }
-{
-    format!(in alloc; "version {number} tokens {tokens}\n")
-}
-
-/// A grammar that was accepted, how many texts were opened under it, and the current one.
-#[derive(Drop)]
-pub(crate) struct Session<C: Cell> {
-    pub(crate) language: Language<C>,
-    pub(crate) texts: u64,
-    pub(crate) current: Option<Version<C>>,
+    ghost invariant = { λ s. CanOpen C.ROOM s.language × KeepsVersion s.language s.current };
 }
 
 impl<C: Cell> Session<C> {
-    /// No text was opened yet.
-    pub(crate) fn of(language: Language<C>) -> Session<C>
-        ensures language { result.language ≡ language }
-        ensures is_in { IsIn result no_texts }
-        ensures texts { result.texts ≡ 0 }
+    /// A session in which no text was opened yet. No option has an effect. It takes no memory.
+    pub fn new(language: Language<C>, _options: Options) -> Session<C>
+        requires { AreAllowed _options }
+        ensures { result ≡ new_session language }
     {
+        language.know_can_open();
         Session {
             language,
-            texts: 0,
             current: None,
         }
-    }
-
-    /// Whether a text is open.
-    fn is_open(&self) -> bool
-        ensures { result ≡ is_open self.now }
-    {
-        self.current.is_some()
     }
 
     /// The line that accepts the grammar.
@@ -166,185 +72,176 @@ impl<C: Cell> Session<C> {
         format!(in alloc; "grammar rules {rules} categories {categories} kinds {kinds}\n")
     }
 
-    /// Makes the text the next version, and the line that tells it. Where memory runs out the session
-    /// keeps the version that it had.
-    fn put(&mut self, alloc: Global, text: Text) -> Result<String, AllocError>
-        requires can { CanOpen C.ROOM self.old.language }
-        requires few { self.old.texts < 2 ^ 61 }
-        requires few_tokens { length text.tokens ≤ MAX_TOKENS }
-        ensures ok { IfOk result (λ line. HasPut self.old text (string_bytes line) self.new) }
-        ensures err { IsErr result → self.new ≡ self.old }
-        ensures language { self.new.language ≡ self.old.language }
-        ensures texts { self.new.texts ≤ self.old.texts + 1 }
+    /// The current version, None where no text is open. It takes no memory.
+    pub fn current(&self) -> Option<&Version<C>>
+        ensures { TellsCurrent self.now result }
     {
-        let tokens = text.token_count();
-        let version = version_of(alloc, &self.language, text)?;
-        let line = version_line(alloc, self.texts, tokens)?;
-        self.texts += 1;
-        self.current = Some(version);
-        Ok(line)
+        match &self.current {
+            Some(version) => Some(version),
+            None => None,
+        }
     }
 
-    /// Makes the text that was made the next version, and the line that tells it or the fault. At a
-    /// fault, or where memory runs out, the session keeps the version that it had.
-    fn take(&mut self, alloc: Global, made: Result<Text, EditFault>) -> Result<String, AllocError>
-        requires can { CanOpen C.ROOM self.old.language }
-        requires few { self.old.texts < 2 ^ 61 }
-        requires few_tokens { IfOk made (λ text. length text.tokens ≤ MAX_TOKENS) }
-        ensures ok { IfOk result (λ line. HasTaken self.old made (string_bytes line) self.new) }
+    /// The number of the next version.
+    fn next_number(&self) -> u64
+        requires { version_count self.now ≤ 2 ^ 63 }
+        ensures { result ≡ version_count self.now }
+    {
+        match &self.current {
+            Some(version) => version.number + 1,
+            None => 0,
+        }
+    }
+
+    /// Makes the text the next version. Where memory runs out the session keeps the version that it
+    /// had.
+    fn put(&mut self, alloc: Global, text: Text) -> Result<Opened, AllocError>
+        requires few { version_count self.old ≤ 2 ^ 63 }
+        requires tokens { HasTokens (self.old.language).lexicon text.bytes text.tokens }
+        ensures ok { IfOk result (λ opened. IsNextOf self.old text opened self.new) }
         ensures err { IsErr result → self.new ≡ self.old }
-        ensures language { self.new.language ≡ self.old.language }
-        ensures texts { self.new.texts ≤ self.old.texts + 1 }
+    {
+        let number = self.next_number();
+        let tokens = text.token_count();
+        let version = version_of(alloc, &self.language, number, text)?;
+        self.current = Some(version);
+        Ok(Opened { number, tokens })
+    }
+
+    /// Makes the text that was made the next version, or answers the fault. At a fault, or where
+    /// memory runs out, the session keeps the version that it had.
+    fn take(&mut self, alloc: Global, made: Result<Text, EditFault>) -> Result<Opened, SessionFault>
+        requires few { version_count self.old ≤ 2 ^ 63 }
+        requires tokens { IfOk made
+            (λ text. HasTokens (self.old.language).lexicon text.bytes text.tokens) }
+        ensures ok { HasTaken self.old made result self.new }
+        ensures err { IsErr result → self.new ≡ self.old }
     {
         match made {
-            Ok(text) => self.put(alloc, text),
-            Err(fault) => fault_line(alloc, &fault),
+            Ok(text) => Ok(self.put(alloc, text)?),
+            Err(fault) => Err(SessionFault::from(fault)),
         }
     }
 
-    /// Opens the block as a text, which is then the current one, and makes the reply; or makes the
-    /// refusal, and then the session keeps the version that it had.
-    fn open_text(&mut self, alloc: Global, block: &Block) -> Result<String, AllocError>
-        requires can { CanOpen C.ROOM self.old.language }
-        requires few { self.old.texts < 2 ^ 61 }
-        requires known { (text : List ℕ) × IsBlock MAX_BLOCK block.now text }
-        ensures ok { (state : State) (text : List ℕ) → IsIn self.old state
-            → IsBlock MAX_BLOCK block.now text
-            → IfOk result (λ line. RepliesTo state (opens text) (string_bytes line) self.new) }
+    /// Opens a text of `count` bytes as version 0. `bytes` are these, or None where they are more
+    /// than 1,048,576. The chart is filled at once: that of n tokens takes memory for at most
+    /// n(n + 1) / 2 entries. At any fault the session is as it was.
+    pub fn open(
+        &mut self,
+        alloc: Global,
+        count: u64,
+        bytes: Option<&[u8]>,
+    ) -> Result<Opened, SessionFault>
+        requires given { MayBeGiven count bytes }
+        ensures ok { (text : List ℕ) → IsBlockOf count bytes.entry text
+            → AnswersCommand self.old (opens text) result self.new }
         ensures err { IsErr result → self.new ≡ self.old }
-        ensures language { self.new.language ≡ self.old.language }
-        ensures texts { self.new.texts ≤ self.old.texts + 1 }
     {
-        if self.is_open() {
-            return format!(in alloc; "refused open\n");
+        if self.current.is_some() {
+            return Err(SessionFault::Refused(Refusal::Open));
         }
-        let made = opened_text(alloc, &self.language, block);
+        let made = opened_text(alloc, &self.language, count, bytes);
         self.take(alloc, made)
     }
 
-    /// Replaces so many bytes of the current text by the block, and makes the reply; or makes the
-    /// refusal, and then the session keeps the version that it had.
-    fn edit_text(
+    /// Replaces the `deleted` bytes of the current text from `at` on by `count` others, which makes
+    /// the next version. `bytes` are the others, or None where they are more than 1,048,576. The
+    /// text is cut into tokens anew, and its chart filled anew. At any fault the session has the
+    /// version that it had.
+    pub fn edit(
         &mut self,
         alloc: Global,
-        at: u32,
-        deleted: u32,
-        block: &Block,
-    ) -> Result<String, AllocError>
-        requires can { CanOpen C.ROOM self.old.language }
-        requires few { self.old.texts < 2 ^ 61 }
-        requires known { (inserted : List ℕ) × IsBlock MAX_BLOCK block.now inserted }
-        ensures ok { (state : State) (inserted : List ℕ) → IsIn self.old state
-            → IsBlock MAX_BLOCK block.now inserted
-            → IfOk result (λ line. RepliesTo state (edits at deleted inserted)
-            (string_bytes line) self.new) }
+        at: u64,
+        deleted: u64,
+        count: u64,
+        bytes: Option<&[u8]>,
+    ) -> Result<Opened, SessionFault>
+        requires given { MayBeGiven count bytes }
+        requires few { version_count self.old ≤ 2 ^ 63 }
+        ensures ok { (inserted : List ℕ) → IsBlockOf count bytes.entry inserted
+            → AnswersCommand self.old (edits at deleted inserted) result self.new }
         ensures err { IsErr result → self.new ≡ self.old }
-        ensures language { self.new.language ≡ self.old.language }
-        ensures texts { self.new.texts ≤ self.old.texts + 1 }
     {
         let made = match &self.current {
             Some(version) => {
-                edited_text(alloc, &self.language, &version.text, at, deleted, block)
+                let text = &version.text;
+                edited_text(alloc, &self.language, text, at, deleted, count, bytes)
             }
-            None => return format!(in alloc; "refused closed\n"),
+            None => return Err(SessionFault::Refused(Refusal::Closed)),
         };
         self.take(alloc, made)
     }
 
-    /// The reply to the query, asked of the current text.
-    fn answer(&self, alloc: Global, query: &Query<'_>) -> Result<Reply, AllocError>
-        requires can { CanOpen C.ROOM self.now.language }
-        requires is_in { (state : State) × IsIn self.now state }
-        ensures says { IfOk result (CanSay self.now) }
-        ensures ok { (state : State) → IsIn self.now state
-            → IfOk result (λ reply. IsReply self.now.language state
-            (ask (query_of query.now)) (bytes_of self.now reply) state) }
-    {
-        match &self.current {
-            Some(version) => {
-                answer_to(alloc, &self.language, &version.text, &version.chart, query)
-            }
-            None => Ok(Reply::Line(format!(in alloc; "refused closed\n")?)),
-        }
-    }
-
-    /// What replies to the command. The session is then in the state that the command leaves; where
-    /// memory runs out it is in the state that it was in.
-    pub(crate) fn reply(&mut self, alloc: Global, command: Command<'_>) -> Result<Reply, AllocError>
-        requires can_open { CanOpen C.ROOM self.old.language }
-        requires can_reply { CanReply command }
-        requires few { self.old.texts < 2 ^ 61 }
-        requires is_in { (state : State) × IsIn self.old state }
-        ensures says { IfOk result (CanSay self.new) }
-        ensures ok { (state : State) (meaning : ScriptCommand) → IsIn self.old state
-            → IsCommand command.entry meaning
-            → IfOk result (λ reply. RepliesTo state meaning (bytes_of self.new reply) self.new) }
-        ensures err { IsErr result → self.new ≡ self.old }
-        ensures language { self.new.language ≡ self.old.language }
-        ensures texts { self.new.texts ≤ self.old.texts + 1 }
-    {
-        match command {
-            Command::Open(block) => {
-                let line = self.open_text(alloc, &block)?;
-                Ok(Reply::Line(line))
-            }
-            Command::Edit { at, deleted, block } => {
-                let line = self.edit_text(alloc, at, deleted, &block)?;
-                Ok(Reply::Line(line))
-            }
-            Command::Ask(query) => self.answer(alloc, &query),
-            Command::End => unreachable!(),
-        }
-    }
-
-    /// Says the printed text of a tree of the current text as a line.
-    fn say_tree<K: Sink>(
+    /// Says the line that replies to the query, which is asked of the current text. Where there was
+    /// no memory for it, what is gathered is written, and the answer is that.
+    pub(crate) fn ask_gathered<K: Sink>(
         &self,
         alloc: Global,
+        query: &Query<'_>,
         replies: &mut Replies,
         sink: &mut K,
-        tree: &Tree,
     ) -> Result<(), IoFault>
-        requires says { CanSay self.now (Reply.Tree tree.now) }
-        ensures ok { OnOk result (Passes (K.written sink.old) (K.written sink.new) replies.old
-            (bytes_of self.now (Reply.Tree tree.now)) replies.new) }
-        ensures err { OnErr result (GrowsByPrefix (K.written sink.old) (K.written sink.new)
-            (replies.old ++ bytes_of self.now (Reply.Tree tree.now))) }
+        ensures ok { OnOk result (SaysReply (HasReply self.now (ask (query_of query.now)) self.now)
+            (K.written sink.old) (K.written sink.new) replies.old replies.new) }
+        ensures err { OnErr result (CutsReply (HasReply self.now (ask (query_of query.now)) self.now)
+            (K.written sink.old) (K.written sink.new) replies.old) }
         ensures cause { HasCause (K.faults sink.old) (K.faults sink.new)
             (IsErrOf result IoFault.Write) }
         ensures read { IsErrOf result IoFault.Read → ⊥ }
     {
         match &self.current {
             Some(version) => {
-                let grammar = self.language.grammar();
-                replies.say_tree(alloc, sink, tree, grammar, &version.text)
+                let text = &version.text;
+                let reply = answer_to(alloc, &self.language, text, &version.chart, query);
+                replies.say_reply(alloc, sink, reply, self.language.grammar(), text)
             }
-            None => unreachable!(),
+            None => replies.say(sink, format!(in alloc; "refused closed\n")),
         }
     }
 
-    /// Says the reply. Where there was no memory for it, what is gathered is written, and the
-    /// answer is that.
-    pub(crate) fn say<K: Sink>(
+    /// Writes the line that replies to the query.
+    fn ask_alone<K: Sink>(
         &self,
         alloc: Global,
-        replies: &mut Replies,
+        query: &Query<'_>,
         sink: &mut K,
-        reply: Result<Reply, AllocError>,
     ) -> Result<(), IoFault>
-        requires says { IfOk reply (CanSay self.now) }
-        ensures ok { OnOk result (SaysBy (bytes_of self.now) reply (K.written sink.old)
-            (K.written sink.new) replies.old replies.new) }
-        ensures err { OnErr result (GrowsByPrefix (K.written sink.old) (K.written sink.new)
-            (replies.old ++ bytes_in (bytes_of self.now) reply)) }
+        ensures ok { OnOk result
+            (WritesReply (HasReply self.now (ask (query_of query.now)) self.now)
+            (K.written sink.old) (K.written sink.new)) }
+        ensures err { OnErr result (CutsReply (HasReply self.now (ask (query_of query.now)) self.now)
+            (K.written sink.old) (K.written sink.new) []) }
         ensures cause { HasCause (K.faults sink.old) (K.faults sink.new)
             (IsErrOf result IoFault.Write) }
         ensures read { IsErrOf result IoFault.Read → ⊥ }
     {
-        match reply {
-            Ok(Reply::Line(line)) => replies.say(sink, Ok(line)),
-            Ok(Reply::Tree(tree)) => self.say_tree(alloc, replies, sink, &tree),
-            Err(error) => replies.say(sink, Err(error)),
+        let mut replies = Replies::new();
+        self.ask_gathered(alloc, query, &mut replies, sink)?;
+        replies.flush(sink)
+    }
+
+    /// Writes the line, with its LF, that replies to the query, which is asked of the current text: an
+    /// answer or a refusal. Each question is answered from the chart, and a first tree takes memory
+    /// for its nodes. After an error a part of the line may be written.
+    pub fn ask<K: Sink>(
+        &self,
+        alloc: Global,
+        query: &Query<'_>,
+        sink: &mut K,
+    ) -> Result<(), AskFault>
+        ensures ok { OnOk result
+            (WritesReply (HasReply self.now (ask (query_of query.now)) self.now)
+            (K.written sink.old) (K.written sink.new)) }
+        ensures err { OnErr result (CutsReply (HasReply self.now (ask (query_of query.now)) self.now)
+            (K.written sink.old) (K.written sink.new) []) }
+        ensures cause { HasCause (K.faults sink.old) (K.faults sink.new)
+            (IsErrOf result AskFault.Write) }
+    {
+        match self.ask_alone(alloc, query, sink) {
+            Ok(()) => Ok(()),
+            Err(IoFault::Memory) => Err(AskFault::Memory),
+            Err(IoFault::Write) => Err(AskFault::Write),
+            Err(IoFault::Read) => unreachable!(),
         }
     }
 }

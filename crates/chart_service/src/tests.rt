@@ -1,10 +1,15 @@
-//! A session with its exact replies, when they are written, and faults in mid-session. Rows of
-//! scripts and sessions stand in `tests/sessions.py` at the top of the repository.
-ghost use Rattle.std.specs.Prelude.{◌≡◌, ◌≤◌, ◌<◌};
+//! A session with its exact replies, when they are written, and faults in mid-session; and the
+//! calls of a session one by one. Rows of scripts and sessions stand in `tests/sessions.py` at the
+//! top of the repository.
+ghost use Rattle.std.specs.Prelude.{◌≡◌, ◌≤◌, ◌<◌, ◌^◌, IsTrue};
 ghost use Rattle.chart_service.specs.Serving.{AreAllowed};
+ghost use Rattle.chart_service.specs.Sessions.{version_count};
 
-use crate::{Options, serve};
+use crate::{AskFault, Opened, Options, Refusal, Session, SessionFault, read_language, serve};
+use cell_sets::ListCell;
 use cyk_io::{ByteSink, ByteSource, CleanSink, CleanSource, Sink, SinkFault, Source};
+use script_reader::Query;
+use spec_script::{Constituent, TokenSpan};
 use std::alloc::{AllocError, Global};
 use std::marker::Brand;
 use std::sync::ledger::{Blank, Ledger};
@@ -376,5 +381,123 @@ fn more_replies_than_are_gathered_are_written_in_order(rt: HostRuntime) -> Resul
     session.extend_from_slice(b"end\n".as_slice())?;
     assert_eq!(rt; status, 0);
     assert!(rt; sink.as_bytes() == session.as_slice());
+    Ok(())
+}
+
+/// A session under the grammar of `SCRIPT` in which no text was opened yet.
+fn closed_session(alloc: Global) -> Result<Session<ListCell>, Fail> {
+    let grammar = b"Cat. S ::= S S ; One. S ::= \"a\" ;".as_slice();
+    match read_language::<ListCell>(alloc, grammar) {
+        Ok(language) => Ok(Session::new(language, options())),
+        Err(_) => Err("a grammar that is accepted".into()),
+    }
+}
+
+/// Whether a further version has a number.
+fn has_few(session: &Session<ListCell>) -> bool
+    ensures { IsTrue result → version_count session.now ≤ 2 ^ 63 }
+{
+    match session.current() {
+        Some(version) => version.number < 1 << 63,
+        None => true,
+    }
+}
+
+/// What opening a text of these bytes answers, by the number and the tokens of its version.
+fn open(
+    alloc: Global,
+    session: &mut Session<ListCell>,
+    bytes: &[u8],
+) -> Result<Opened, SessionFault> {
+    session.open(alloc, bytes.len() as u64, Some(bytes))
+}
+
+/// What the edit answers.
+fn edit(
+    alloc: Global,
+    session: &mut Session<ListCell>,
+    at: u64,
+    deleted: u64,
+    bytes: &[u8],
+) -> Result<Opened, SessionFault> {
+    if !has_few(session) {
+        return Err(SessionFault::Memory);
+    }
+    session.edit(alloc, at, deleted, bytes.len() as u64, Some(bytes))
+}
+
+/// The bytes of the current text.
+fn text_of(session: &Session<ListCell>) -> &[u8] {
+    match session.current() {
+        Some(version) => version.text.bytes(),
+        None => b"no text".as_slice(),
+    }
+}
+
+#[test]
+fn a_text_is_opened_and_edited_or_stays(rt: HostRuntime) -> Result<(), Fail> {
+    let alloc = rt.alloc();
+    let mut session = closed_session(alloc)?;
+    let closed = Err(SessionFault::Refused(Refusal::Closed));
+    let no_utf8 = Err(SessionFault::Refused(Refusal::Utf8 { at: 1 }));
+    let full = Err(SessionFault::Refused(Refusal::Full));
+    assert_eq!(rt; edit(alloc, &mut session, 0, 0, b"a"), closed);
+    assert_eq!(rt; open(alloc, &mut session, b"a\xFF"), no_utf8);
+    assert_eq!(rt; session.open(alloc, 1_048_577, None), full);
+    assert_eq!(rt; text_of(&session), b"no text".as_slice());
+    let first = Ok(Opened {
+        number: 0,
+        tokens: 2,
+    });
+    assert_eq!(rt; open(alloc, &mut session, b"a a"), first);
+    let open_already = Err(SessionFault::Refused(Refusal::Open));
+    assert_eq!(rt; open(alloc, &mut session, b"a"), open_already);
+    let second = Ok(Opened {
+        number: 1,
+        tokens: 3,
+    });
+    assert_eq!(rt; edit(alloc, &mut session, 1, 1, b" ? "), second);
+    let outside = Err(SessionFault::Refused(Refusal::Range { len: 5 }));
+    assert_eq!(rt; edit(alloc, &mut session, 4, 2, b""), outside);
+    assert_eq!(rt; edit(alloc, &mut session, 1, 0, b"\xFF"), no_utf8);
+    assert_eq!(rt; text_of(&session), b"a ? a".as_slice());
+    Ok(())
+}
+
+#[test]
+fn a_question_has_one_line(rt: HostRuntime) -> Result<(), Fail> {
+    let alloc = rt.alloc();
+    let mut session = closed_session(alloc)?;
+    let mut sink = CleanSink::new(alloc);
+    let whole = Query::Has(Constituent::EntryWhole);
+    assert_eq!(rt; session.ask(alloc, &whole, &mut sink), Ok(()));
+    assert!(rt; open(alloc, &mut session, b"a a").is_ok());
+    assert_eq!(rt; session.ask(alloc, &whole, &mut sink), Ok(()));
+    let tree = Query::Tree(Constituent::EntryWhole);
+    assert_eq!(rt; session.ask(alloc, &tree, &mut sink), Ok(()));
+    let span = TokenSpan::Span { first: 1, end: 3 };
+    assert_eq!(rt; session.ask(alloc, &Query::Tokens(span), &mut sink), Ok(()));
+    let lines = b"refused closed\nyes\n(Cat (One) (One))\nrefused span 2\n".as_slice();
+    assert_eq!(rt; sink.as_bytes(), lines);
+    Ok(())
+}
+
+#[test]
+fn an_answer_that_cannot_be_written_is_cut(rt: HostRuntime) -> Result<(), Fail> {
+    let alloc = rt.alloc();
+    let session = closed_session(alloc)?;
+    let mut sink = ByteSink::new(alloc, 7, Vec::from_slice(alloc, &[2])?);
+    let whole = Query::Has(Constituent::EntryWhole);
+    assert_eq!(rt; session.ask(alloc, &whole, &mut sink), Err(AskFault::Write));
+    assert_eq!(rt; sink.as_bytes(), b"refused".as_slice());
+    let mut full = FullSink {
+        bytes: CleanSink::new(alloc),
+        writes: 0,
+    };
+    assert_eq!(rt;
+        session.ask(alloc, &whole, &mut full),
+        Err(AskFault::Memory)
+    );
+    assert_eq!(rt; full.bytes.as_bytes(), b"".as_slice());
     Ok(())
 }

@@ -1,5 +1,6 @@
 -- The first layer that has a fault tells it; a grammar that is spelled and fit is accepted, where it
 -- has few states and few symbols.
+use Rattle.std.proofs.Common.{refl}
 use Rattle.spec_session.specs.GrammarReplies.{IsAccepted}
 use Rattle.chart_service.specs.Languages.{IsFaultOf, of_text, of_unfit, of_lex, of_binary}
 use Rattle.chart_service.proofs.LanguageLemmas.{accepted, fault_told, not_read, no_grammar, no_automaton, no_form}
@@ -48,6 +49,12 @@ returns-clause-ok g c =
     accepted c.args.bytes.now c.in_ok-defs.defs c.in_ok-grammar.grammar c.in_ok-defs.ensures read.0 read.1
     c.in_ok-automaton.automaton c.in_ok-automaton.ensures c.in_ok-binary.binary c.of.result
     c.in_ok-binary.ensures c.of.ensures
+
+pub of-requires-clause-can : goal.of-requires-clause-can
+of-requires-clause-can g c κs within =
+    let read = c.in_ok-grammar.ensures in
+    can_open c.args.bytes.now c.in_ok-defs.defs c.in_ok-grammar.grammar c.in_ok-defs.ensures read.0 read.1 g.C.Room.ROOM
+    c.in_ok-binary.binary c.in_ok-grammar.grammar c.requires.room c.in_ok-binary.ensures refl
 
 pub returns-clause-can : goal.returns-clause-can
 returns-clause-can g c =

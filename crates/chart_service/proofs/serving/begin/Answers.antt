@@ -34,9 +34,8 @@ pub returns-clause-ok : goal.returns-clause-ok
 returns-clause-ok g c input before comes is =
     let session = c.in_ok-session.session in
     let later : Option (List ℕ) = coming c.accept.new.ahead (g.S.Source.left c.accept.new.source) in
-    let fresh = c.in_ok-session.ensures.fresh in
     first_running input before later c.accept.new.ahead.offset session (c.in_ok-session.ensures.ok input comes)
-    (g.K.Sink.written c.args.sink.now) (g.K.Sink.written c.say.new.sink) is fresh.is_in
+    (g.K.Sink.written c.args.sink.now) (g.K.Sink.written c.say.new.sink) is c.in_ok-session.ensures.fresh
     c.args.replies.now c.say.new.self c.requires.none
     (line_passes c.grammar_line.result (grammar_reply session.language) (g.K.Sink.written c.args.sink.now)
     (g.K.Sink.written c.say.new.sink) c.args.replies.now c.say.new.self c.grammar_line.ensures

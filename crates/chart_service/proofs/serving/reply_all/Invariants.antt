@@ -1,9 +1,7 @@
 -- The session runs, or it has ended.
 use Rattle.std.proofs.Common.{ℕ, ◌-◌, ◌^◌, ◌<◌, ◌≤◌, List}
 use Rattle.cyk_io.specs.Streams.{coming}
-use Rattle.spec_session.specs.Steps.{State}
-use Rattle.chart_service.specs.Languages.{CanOpen}
-use Rattle.chart_service.specs.Sessions.{IsIn}
+use Rattle.chart_service.specs.Sessions.{version_count}
 use Rattle.chart_service.specs.Progress.{Running}
 use Rattle.chart_service.proofs.serving.reply_all.Given as goal
 
@@ -14,10 +12,8 @@ invariant-loop-goes_on g l = record {
       (g.K.Sink.written l.fn.sink) l.fn.replies l.fn.session
       → Running input before (coming l.ahead (g.S.Source.left l.source)) (l.ahead).offset
       (g.K.Sink.written l.sink) l.replies l.session;
-  can : CanOpen g.C.Room.ROOM (l.session).language;
-  few : (l.session).texts ≤ (l.ahead).offset;
+  few : version_count l.session ≤ (l.ahead).offset;
   early : (l.ahead).offset < 2 ^ 50;
-  is_in : (state : State) × IsIn l.session state;
   read : g.S.Source.faults l.fn.source ≤ g.S.Source.faults l.source;
   write : g.K.Sink.faults l.fn.sink ≤ g.K.Sink.faults l.sink;
 }

@@ -10,13 +10,12 @@ use Rattle.script_reader.proofs.ReadingLemmas.{command_range}
 use Rattle.script_reader.specs.declared.stop.Stop.TheVariants.{Fault}
 use Rattle.chart_service.specs.declared.ending.EarlyEnd.TheVariants.{Stopped}
 use Rattle.cyk_io.specs.declared.fault.IoFault.TheVariants.{Write}
-use Rattle.chart_service.specs.Replying.{bytes_of}
 use Rattle.chart_service.specs.Progress.{EndsEarly}
 use Rattle.chart_service.proofs.ToldLemmas.{err_given, other_error}
 use Rattle.chart_service.proofs.RunningLemmas.{cut_running, running_on, running_stops, running_ends}
 use Rattle.chart_service.proofs.RunningLemmas.{running_said, cut_reply, command_read}
 use Rattle.chart_service.proofs.RunningLemmas.{reads_only, some_script, not_end}
-use Rattle.chart_service.proofs.SessionLemmas.{says_in}
+use Rattle.chart_service.proofs.SessionLemmas.{counts_on}
 use Rattle.chart_service.proofs.serving.turn.Goals as goal
 
 pub returns-in_err-flush_unless-clause-err : goal.returns-in_err-flush_unless-clause-err
@@ -129,8 +128,8 @@ returns-then-is_end-clause-few g c =
     c.in_ok-command.command (c.in_ok-command.ensures.ok c.args.ahead.now.offset comes c.in_ok-head.ensures.ok) in
     omega (arith, range.0, c.requires.few)
 
-pub reply-reply-requires-clause-can_reply : goal.reply-reply-requires-clause-can_reply
-reply-reply-requires-clause-can_reply g c κs within =
+pub reply_to-requires-clause-can_reply : goal.reply_to-requires-clause-can_reply
+reply_to-requires-clause-can_reply g c κs within =
     let comes : Option (List ℕ) = coming c.args.ahead.now (g.S.Source.left c.args.source.now) in
     let next : Option (List ℕ) = coming c.read_command.new.ahead (g.S.Source.left c.read_command.new.source) in
     let read = command_read c.args.ahead.now.offset c.read_command.new.ahead.offset comes next c.in_ok-command.command
@@ -138,8 +137,8 @@ reply-reply-requires-clause-can_reply g c κs within =
     (not_end c.is_end.result c.is_end.ensures.1 c.if-is_end.false) in
     (read.0, read.1)
 
-pub returns-in_err-say-clause-err : goal.returns-in_err-say-clause-err
-returns-in_err-say-clause-err g c input before r =
+pub returns-in_err-reply_to-clause-err : goal.returns-in_err-reply_to-clause-err
+returns-in_err-reply_to-clause-err g c input before r =
     let comes : Option (List ℕ) = coming c.args.ahead.now (g.S.Source.left c.args.source.now) in
     let on = running_on input before comes c.args.ahead.now.offset (g.K.Sink.written c.args.sink.now)
     c.args.replies.now c.args.session.now r (g.K.Sink.written c.flush_unless.new.sink)
@@ -151,15 +150,13 @@ returns-in_err-say-clause-err g c input before r =
     let read = command_read c.args.ahead.now.offset c.read_command.new.ahead.offset comes next c.in_ok-command.command
     (c.in_ok-command.ensures.ok c.args.ahead.now.offset comes c.in_ok-head.ensures.ok)
     (not_end c.is_end.result c.is_end.ensures.1 c.if-is_end.false) in
-    err_given (EndsEarly input before (g.K.Sink.written c.say.new.sink) c.say.new.replies)
-    (Stopped (Fault c.in_err-say.field-0.0)) c.from_residual-in_err-say.result
-    c.from_residual-in_err-say.ensures.1
+    err_given (EndsEarly input before (g.K.Sink.written c.reply_to.new.sink) c.reply_to.new.replies)
+    (Stopped (Fault c.in_err-reply_to.field-0.0)) c.from_residual-in_err-reply_to.result
+    c.from_residual-in_err-reply_to.ensures.1
     (cut_reply input before comes c.args.ahead.now.offset (g.K.Sink.written c.flush_unless-2.new.sink)
     c.flush_unless-2.new.self c.args.session.now later c.read_command.new.ahead.offset next
-    read.0 read.2 (bytes_of c.reply-reply.new.self)
-    c.reply-reply.new.self c.reply-reply.ensures.language c.reply-reply.result
-    (c.reply-reply.ensures.ok (state_after no_texts later.steps) read.0 later.is_in read.1)
-    (g.K.Sink.written c.say.new.sink) c.in_err-say.ensures.err)
+    read.0 read.2 c.reply_to.new.session (g.K.Sink.written c.reply_to.new.sink)
+    (c.in_err-reply_to.ensures.err read.0 read.1))
 
 pub returns-clause-ok : goal.returns-clause-ok
 returns-clause-ok g c input before r =
@@ -176,10 +173,8 @@ returns-clause-ok g c input before r =
     (not_end c.is_end.result c.is_end.ensures.1 c.if-is_end.false) in
     running_said input before comes c.args.ahead.now.offset (g.K.Sink.written c.flush_unless-2.new.sink)
     c.flush_unless-2.new.self c.args.session.now later c.read_command.new.ahead.offset next
-    read.0 read.2 (bytes_of c.reply-reply.new.self)
-    c.reply-reply.new.self c.reply-reply.ensures.language c.reply-reply.result
-    (c.reply-reply.ensures.ok (state_after no_texts later.steps) read.0 later.is_in read.1)
-    (g.K.Sink.written c.say.new.sink) c.say.new.replies c.in_ok-say.ensures.ok
+    read.0 read.2 c.reply_to.new.session (g.K.Sink.written c.reply_to.new.sink) c.reply_to.new.replies
+    (c.in_ok-reply_to.ensures.ok read.0 read.1)
 
 pub returns-clause-range : goal.returns-clause-range
 returns-clause-range g c =
@@ -193,18 +188,15 @@ pub returns-clause-few : goal.returns-clause-few
 returns-clause-few g c =
     let comes : Option (List ℕ) = coming c.args.ahead.now (g.S.Source.left c.args.source.now) in
     let next : Option (List ℕ) = coming c.read_command.new.ahead (g.S.Source.left c.read_command.new.source) in
+    let taken = c.in_ok-command.ensures.ok c.args.ahead.now.offset comes c.in_ok-head.ensures.ok in
     let range = command_range c.args.ahead.now.offset c.read_command.new.ahead.offset comes next
-    c.in_ok-command.command (c.in_ok-command.ensures.ok c.args.ahead.now.offset comes c.in_ok-head.ensures.ok) in
-    omega (arith, range.0, c.requires.few, c.reply-reply.ensures.texts)
-
-pub returns-clause-is_in : goal.returns-clause-is_in
-returns-clause-is_in g c =
-    let comes : Option (List ℕ) = coming c.args.ahead.now (g.S.Source.left c.args.source.now) in
-    let next : Option (List ℕ) = coming c.read_command.new.ahead (g.S.Source.left c.read_command.new.source) in
+    c.in_ok-command.command taken in
     let read = command_read c.args.ahead.now.offset c.read_command.new.ahead.offset comes next c.in_ok-command.command
-    (c.in_ok-command.ensures.ok c.args.ahead.now.offset comes c.in_ok-head.ensures.ok)
-    (not_end c.is_end.result c.is_end.ensures.1 c.if-is_end.false) in
-    says_in c.reply-reply.new.self c.requires.is_in.0 read.0 (bytes_of c.reply-reply.new.self)
-    c.reply-reply.result (c.reply-reply.ensures.ok c.requires.is_in.0 read.0 c.requires.is_in.1 read.1)
-    (g.K.Sink.written c.flush_unless-2.new.sink) (g.K.Sink.written c.say.new.sink) c.flush_unless-2.new.self
-    c.say.new.replies c.in_ok-say.ensures.ok
+    taken (not_end c.is_end.result c.is_end.ensures.1 c.if-is_end.false) in
+    let says = c.in_ok-reply_to.ensures.ok read.0 read.1 in
+    omega (
+      arith,
+      range.0,
+      c.requires.few,
+      counts_on c.args.session.now read.0 c.reply_to.new.session says.0 says.1,
+    )
