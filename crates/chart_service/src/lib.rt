@@ -16,8 +16,6 @@ mod replying;
 mod serving;
 mod session;
 mod status;
-#[cfg(test)]
-mod tests;
 mod token_lines;
 mod version;
 

@@ -5,8 +5,10 @@ ghost use Rattle.std.specs.Prelude.{◌≡◌, ◌≤◌, ◌<◌, ◌^◌, IsTr
 ghost use Rattle.chart_service.specs.Serving.{AreAllowed};
 ghost use Rattle.chart_service.specs.Sessions.{version_count};
 
-use crate::{AskFault, Opened, Options, Refusal, Session, SessionFault, read_language, serve};
 use cell_sets::ListCell;
+use chart_service::{
+    AskFault, Opened, Options, Refusal, Session, SessionFault, read_language, serve,
+};
 use cyk_io::{ByteSink, ByteSource, CleanSink, CleanSource, Sink, SinkFault, Source};
 use script_reader::Query;
 use spec_script::{Constituent, TokenSpan};

@@ -1,4 +1,4 @@
-use Rattle.chart_service.proofs.tests.serve_into_room.Given as goal
+use Rattle.chart_service_cases.proofs.tests.serve_into_room.Given as goal
 
 abbrev pub ghosts-run : goal.ghosts-run
 ghosts-run a = record { name = a.blank.name; parts = a.blank.parts }
