@@ -5,9 +5,11 @@
 # too, less the first. The chart of a call with many arguments goes with the cube of its tokens, so
 # those texts are an eighth as long. It takes some minutes.
 #
-# Where what a search asks goes with the tokens, a tree of twice as many may take 2.2 times the
-# instructions; where it goes with their square, 4.4 times. The status is 1 where one is not so, and 2
-# where the program gives a wrong answer.
+# Where what a search asks goes with the tokens, the tree of the longest text, of four times as many
+# as the shortest has, may take 4.4 times its instructions; where it goes with their square, 19.4 times,
+# the square of 4.4, since a look is a search by halves.
+# The growth of each line is over the one before: it jumps where a list that is full takes twice its
+# room. The status is 1 where one is not so, and 2 where the program gives a wrong answer.
 #
 #     bench/trees.sh [PROGRAM]
 #
@@ -31,7 +33,7 @@ SIZES = (512, 1_024, 2_048)
 # Families of which a tree goes with the square of the tokens, and those whose texts are shorter.
 SQUARES = ("sums", "left lists")
 CUBES = ("separators",)
-MOST, MOST_OF_SQUARES = 2.2, 4.4
+MOST, MOST_OF_SQUARES = 4.4, 19.4
 
 
 def command(line, block):
@@ -64,19 +66,19 @@ def main():
     good = True
     print(f"{'text':<12}{'tokens':>8}{'opening':>16}{'tree':>14}{'a token':>9}{'of opening':>12}{'growth':>8}")
     for name, grammar, text in looks.FAMILIES:
-        last = None
+        trees = []
         for size in SIZES:
             tokens = text(size // 8 if name in CUBES else size)
             opening, tree = costs(grammar, tokens)
-            growth = tree / last if last else 0.0
-            good = good and growth <= (MOST_OF_SQUARES if name in SQUARES else MOST)
-            told = f"{growth:.2f}" if last else ""
+            told = f"{tree / trees[-1]:.2f}" if trees else ""
+            trees.append(tree)
             print(
                 f"{name:<12}{len(tokens):>8}{opening:>16}{tree:>14}{tree / len(tokens):>9.0f}"
                 f"{tree / opening:>12.4f}{told:>8}",
                 flush=True,
             )
-            last = tree
+        most = MOST_OF_SQUARES if name in SQUARES else MOST
+        good = good and trees[-1] <= most * trees[0]
     print("as they should grow" if good else "NOT as they should grow")
     sys.exit(0 if good else 1)
 

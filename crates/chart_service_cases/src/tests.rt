@@ -442,10 +442,8 @@ fn a_text_is_opened_and_edited_or_stays(rt: HostRuntime) -> Result<(), Fail> {
     let mut session = closed_session(alloc)?;
     let closed = Err(SessionFault::Refused(Refusal::Closed));
     let no_utf8 = Err(SessionFault::Refused(Refusal::Utf8 { at: 1 }));
-    let full = Err(SessionFault::Refused(Refusal::Full));
     assert_eq!(rt; edit(alloc, &mut session, 0, 0, b"a"), closed);
     assert_eq!(rt; open(alloc, &mut session, b"a\xFF"), no_utf8);
-    assert_eq!(rt; session.open(alloc, 1_048_577, None), full);
     assert_eq!(rt; text_of(&session), b"no text".as_slice());
     let first = Ok(Opened {
         number: 0,
